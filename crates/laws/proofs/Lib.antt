@@ -1,0 +1,5 @@
+pub mod Runs
+pub mod Stops
+pub mod Cursor
+pub mod Tables
+pub mod Ranges

@@ -1,0 +1,15 @@
+-- In reading order: words for bytes and places; the two public documents; header files; PDF blocks; tree text; linking, tables and walks.
+pub mod Bytes
+pub mod Rfc3629
+pub mod Interchange
+pub mod Sections
+pub mod HeaderText
+pub mod Groups
+pub mod Record
+pub mod Faults
+pub mod Blocks
+pub mod Said
+pub mod TreeText
+pub mod Linking
+pub mod Tables
+pub mod Walks
