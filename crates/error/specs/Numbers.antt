@@ -1,0 +1,87 @@
+-- 01's 'Numbers the loader gives': the number, the place and the line of each refusal. Where 01 says 0, 0. Assumes nothing.
+use Prim.Native.Nat.{ℕ}
+use Rattle.error.specs.declared.Refusal.{Refusal}
+use Rattle.error.specs.declared.Refusal.the-variants.{Split, Utf8, Eof, ExpectedBool, ExpectedInteger, ExpectedArrayComma, ExpectedMapColon, ExpectedMapNewline, Field, Number, TrailingCharacters, Limit, NoPosition, NoStream, UseGv, Range, Text, State, Block, Room, NodeRef, QuestionRef, LoneNode, WalkTable, Steps}
+
+abbrev pub numberOf : Refusal → ℕ
+numberOf Split = 1
+numberOf (Utf8 p) = 2
+numberOf (Eof p) = 3
+numberOf (ExpectedBool p) = 4
+numberOf (ExpectedInteger p) = 5
+numberOf (ExpectedArrayComma p) = 6
+numberOf (ExpectedMapColon p) = 7
+numberOf (ExpectedMapNewline p) = 8
+numberOf Field = 9
+numberOf (Number p) = 10
+numberOf TrailingCharacters = 11
+numberOf Limit = 12
+numberOf NoPosition = 13
+numberOf NoStream = 14
+numberOf UseGv = 15
+numberOf Range = 16
+numberOf Text = 17
+numberOf State = 18
+numberOf Block = 19
+numberOf Room = 20
+numberOf (NodeRef t k) = 21
+numberOf (QuestionRef t k) = 22
+numberOf (LoneNode t k) = 23
+numberOf WalkTable = 24
+numberOf Steps = 25
+
+-- 2 to 8 and 10: a file offset; 21 to 23: the tree
+abbrev pub placeOf : Refusal → ℕ
+placeOf Split = 0
+placeOf (Utf8 p) = p
+placeOf (Eof p) = p
+placeOf (ExpectedBool p) = p
+placeOf (ExpectedInteger p) = p
+placeOf (ExpectedArrayComma p) = p
+placeOf (ExpectedMapColon p) = p
+placeOf (ExpectedMapNewline p) = p
+placeOf Field = 0
+placeOf (Number p) = p
+placeOf TrailingCharacters = 0
+placeOf Limit = 0
+placeOf NoPosition = 0
+placeOf NoStream = 0
+placeOf UseGv = 0
+placeOf Range = 0
+placeOf Text = 0
+placeOf State = 0
+placeOf Block = 0
+placeOf Room = 0
+placeOf (NodeRef t k) = t
+placeOf (QuestionRef t k) = t
+placeOf (LoneNode t k) = t
+placeOf WalkTable = 0
+placeOf Steps = 0
+
+-- 21 to 23: the line
+abbrev pub lineOf : Refusal → ℕ
+lineOf Split = 0
+lineOf (Utf8 p) = 0
+lineOf (Eof p) = 0
+lineOf (ExpectedBool p) = 0
+lineOf (ExpectedInteger p) = 0
+lineOf (ExpectedArrayComma p) = 0
+lineOf (ExpectedMapColon p) = 0
+lineOf (ExpectedMapNewline p) = 0
+lineOf Field = 0
+lineOf (Number p) = 0
+lineOf TrailingCharacters = 0
+lineOf Limit = 0
+lineOf NoPosition = 0
+lineOf NoStream = 0
+lineOf UseGv = 0
+lineOf Range = 0
+lineOf Text = 0
+lineOf State = 0
+lineOf Block = 0
+lineOf Room = 0
+lineOf (NodeRef t k) = k
+lineOf (QuestionRef t k) = k
+lineOf (LoneNode t k) = k
+lineOf WalkTable = 0
+lineOf Steps = 0
