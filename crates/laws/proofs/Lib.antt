@@ -3,4 +3,5 @@ pub mod Stops
 pub mod Cursor
 pub mod Tables
 pub mod Ranges
+pub mod Signed
 pub mod Steps
