@@ -22,6 +22,11 @@ nameAt s i = let b = stop blank s i in let c = stop inName s b in nameOf i b c (
 unfoldable pub pastByte : ℕ → List ℕ → ℕ → Place
 pastByte b s i = cond (eqb (byteAt s i) b) (At (i + 1)) Nowhere
 
+-- the byte b at the place that was found
+abbrev pub thenByte : ℕ → List ℕ → Place → Place
+thenByte b s (At i) = pastByte b s i
+thenByte b s Nowhere = Nowhere
+
 -- any spaces or tabs, and a newline
 unfoldable pub newlineAt : List ℕ → ℕ → Place
 newlineAt s i = pastByte newline s (stop spaceOrTab s i)

@@ -5,3 +5,4 @@ pub mod Tables
 pub mod Ranges
 pub mod Signed
 pub mod Steps
+pub mod Wholes
