@@ -1,34 +1,29 @@
+-- `tree_line::next_line`: each arm is an arm of `lineFound`. Assumes nothing.
+use mathlib.Core.Path.{_≡_, refl, sym, ap, ap₂, _∙_}
+use Rattle.tree_line.specs.Lines.{lineFound, lineStepAt}
 use borrow.Author.Needs.{needs}
 use Rattle.tree_line.proofs.next_line.Statement.{statement}
 use Rattle.tree_line.proofs.next_line.Tie as tie
-use Rattle.tree_line.proofs.next_line.Reads as reads
-use Rattle.tree_line.proofs.next_line.Lts as lts
-use Rattle.tree_line.proofs.after_line.Reads as after-line-reads
-use Rattle.tree_line.proofs.parse_line.Reads as parse-line-reads
 
--- src/lib.rt:124:11
 parse-line-requires : tie.Need-parse-line-requires
 parse-line-requires c κs = search needs
 
--- src/lib.rt:125:27
 enum-known-line : tie.Need-enum-known-line
 enum-known-line c = search needs
 
--- src/lib.rt:125:43
 after-line-requires : tie.Need-after-line-requires
 after-line-requires c κs = search needs
 
--- src/lib.rt:126:29
 enum-told : tie.Need-enum-told
 enum-told c = search needs
 
--- src/lib.rt:121:1
 returns : tie.Need-returns
-returns c = ?
+unfolding lineStepAt
+returns c = c .after-line .ensures ∙ ap (lineFound _) (sym (c .before .before .line .given .1) ∙ c .before .before .before .before .parse-line .ensures)
 
--- src/lib.rt:121:1
 returns-2 : tie.Need-returns-2
-returns-2 c = ?
+unfolding lineStepAt
+returns-2 c = ap (lineFound _) (sym (c .enum-told .given .1) ∙ c .before .before .parse-line .ensures)
 
 pub next-line-spec : {M : Type 1} → statement M
 next-line-spec =
