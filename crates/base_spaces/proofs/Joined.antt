@@ -8,8 +8,12 @@ use native.Mathlib.Omega.{arith}
 use borrow.Author.Tests.{lt-ltb, ltb-true, eq-eqb, eqb-true}
 use lib.Dec.{ltb, eqb}
 use Rattle.written.specs.Bytes.{blank, spaceOrTab, inName, byteAt, newline, unbrace}
-use Rattle.written.specs.TreeText.{Word, Byte, end, byte, Run, Run₁, Parting, LineParting, parting}
+use lib.ListN.{length}
+use native.Mathlib.Decide.{decLt}
+use Rattle.written.proofs.Once.{Before, before, word-first, run-le}
+use Rattle.written.specs.TreeText.{Word, Byte, end, byte, Run, stop as stops, more, Run₁, Parting, LineParting, parting}
 use Rattle.laws.specs.Runs.{stop}
+use Rattle.laws.proofs.Runs.{byte-in, byte-out}
 use Rattle.laws.proofs.Stops.{run-stop, run-is, run₁-stop, run₁-is}
 use Rattle.base_spaces.specs.Spaces.{nameOf, nameAt, pastByte, newlineAt, thenAt, partingAt, linePartingAt, closeAt}
 use Rattle.base_spaces.specs.declared.Name.{Name}
@@ -139,10 +143,47 @@ module _ (s : List ℕ) where
 
   -- ---- what closes braces
 
-  pub close-found : {i h j : ℕ} → Run s blank i h → Byte s unbrace h j → closeAt s i ≡ At j
-  unfolding closeAt
-  close-found r w = rw (run-stop blank no-blank s r) (byte-past w)
+  -- blanks from i on, and a } up to j
+  pub record Closed (i j : ℕ) : Type 0 where
+    pub brace : ℕ
+    pub blanks : Run s blank i brace
+    pub shut : Byte s unbrace brace j
 
-  pub found-close : (i j : ℕ) → closeAt s i ≡ At j → Run s blank i (stop blank s i) × Byte s unbrace (stop blank s i) j
+  pub close-found : {i j : ℕ} → Closed i j → closeAt s i ≡ At j
   unfolding closeAt
-  found-close i j e = (run-is blank no-blank s i, past-byte unbrace (stop blank s i) j s e)
+  close-found c = rw (run-stop blank no-blank s (c .blanks)) (byte-past (c .shut))
+
+  pub found-close : (i j : ℕ) → closeAt s i ≡ At j → Closed i j
+  unfolding closeAt
+  found-close i j e = record { brace = stop blank s i; blanks = run-is blank no-blank s i; shut = past-byte unbrace (stop blank s i) j s e }
+
+  pub closed-before : {i j : ℕ} → Closed i j → Before s 125 i
+  closed-before c = before (c .blanks) (word-first (c .shut))
+
+  -- ---- what is read stays inside the text
+
+  pub run-inside : {p : ℕ → Bool} {i j : ℕ} → p 256 ≡ false → Run s p i j → i ≤ length s → j ≤ length s
+  run-inside n (stops f) h = h
+  run-inside {p} {i} {j} n (more y r) h = go (decLt i (length s)) (λ l. run-inside n r l)
+    where
+      go : Dec (i < length s) → (i < length s → j ≤ length s) → j ≤ length s
+      go (yes l) later = later l
+      go (no l) later = let e : p (byteAt s i) ≡ false = ap p (byte-out s i (omega arith)) ∙ n in let u : _≡_ {A = ℕ} 0 1 = cc in clash u
+
+  pub byte-inside : {b i j : ℕ} → Byte s b i j → b < 256 → j ≤ length s
+  byte-inside {i = i} (byte h end) l = byte-in s i h l
+
+  pub parting-inside : {i j : ℕ} → Parting s i j → j ≤ length s
+  parting-inside (parting r w b) = run-inside no-blank b (byte-inside w (omega arith))
+
+  pub line-parting-inside : {i j : ℕ} → LineParting s i j → j ≤ length s
+  line-parting-inside (parting r w t b) = run-inside no-blank b (run-inside no-space t (byte-inside w (omega arith)))
+
+  pub closed-inside : {i j : ℕ} → Closed i j → j ≤ length s
+  closed-inside c = byte-inside (c .shut) (omega arith)
+
+  pub closed-lt : {i j : ℕ} → Closed i j → i < j
+  closed-lt c = past (c .blanks) (c .shut)
+    where
+      past : {i h j : ℕ} → Run s blank i h → Byte s unbrace h j → i < j
+      past r (byte e end) = omega (arith, run-le r)

@@ -6,3 +6,4 @@ pub mod Ranges
 pub mod Signed
 pub mod Steps
 pub mod Wholes
+pub mod Parted

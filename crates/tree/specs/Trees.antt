@@ -1,6 +1,6 @@
 -- What the readers of this crate answer, on the list of bytes and the place; the trees of a text as a list; what a tree of `written` is in code. Assumes nothing.
 use mathlib.Core.Bool.{cond}
-use mathlib.Core.List.{List, [], _∷_}
+use mathlib.Core.List.{List, [], zipWith}
 use Prim.Native.Nat.{ℕ}
 use lib.Dec.{ltb, eqb}
 use lib.IntN.{ℤ}
@@ -41,15 +41,10 @@ pub record Tree : Type 0 where
 
 -- ---- a tree of the text, as the code has it
 
--- lines with the places of their question names
-unfoldable pub linesOf : List said.Line → List Span → List Line
-linesOf [] ws = []
-linesOf (l ∷ ls) [] = []
-linesOf (l ∷ ls) (w ∷ ws) = lineOf l w ∷ linesOf ls ws
-
+-- lines, each with the place of its question name
 abbrev pub bodyOf : said.Body → List Span → Body
 bodyOf (said.lone r) ws = lone (indexOf r)
-bodyOf (said.braces ls) ws = braces (linesOf ls ws)
+bodyOf (said.braces ls) ws = braces (zipWith lineOf ls ws)
 
 abbrev pub treeOf : said.Tree → said.TreePlace → Tree
 treeOf t u = record { star = u .star; state = t .state; body = bodyOf (t .body) (u .names) }
