@@ -67,3 +67,10 @@ module _ {A B C : Type 0} where
     pub read-parted : (i e : ℕ) → read step n i .ending ≡ doneAt e → Read i e (read step n i .items)
     unfolding read
     read-parted i e h = read-from (suc n) i e h
+
+-- items that are in code where they stand alone
+module _ {A B : Type 0} where
+  pub laid-only : {Part : ℕ → ℕ → Type 0} {Item : ℕ → ℕ → A → B → Type 0} {i j : ℕ} {xs : List A} {ys : List B} → Parted Part Item i j xs ys → zipWith (λ x y. y) xs ys ≡ ys
+  unfolding zipWith
+  laid-only (only t) = refl
+  laid-only (then {y = y} t p r) = ap (y ∷_) (laid-only r)
