@@ -1,58 +1,51 @@
+-- `question_survey::count_patterns`: what is counted, and what is still to be read, come to the same. Assumes nothing.
+use mathlib.Core.Path.{_≡_, refl, sym, ap, ap₂, _∙_}
+use Prim.Native.Nat.{_-_}
+use native.Mathlib.Omega.{arith}
+use lib.ListN.{length}
+use borrow.Author.Needs.{needs}
+use Rattle.question_survey.proofs.Counting.{next-in, last-in, Counting, counted-more, counted-last, counted-broken}
 use Rattle.question_survey.proofs.count_patterns.Statement.{statement}
 use Rattle.question_survey.proofs.count_patterns.Tie as tie
-use Rattle.question_survey.proofs.count_patterns.Reads as reads
-use Rattle.question_survey.proofs.count_patterns.Lts as lts
-use Rattle.question.proofs.next_pattern.Reads as next-pattern-reads
 
 abbrev Inv-loop : tie.InvT-loop
-Inv-loop s at i₀ n₀ i n = ?
+Inv-loop s at i₀ n₀ i n = Counting s at i n
 
 abbrev μ-loop : tie.MeasureT-loop
-μ-loop s at i₀ n₀ i n = ?
+μ-loop s at i₀ n₀ i n = length s - i
 
--- src/lib.rt:45:5
 loop-holds : tie.Need-loop-holds Inv-loop μ-loop
-loop-holds c = ?
+loop-holds c = record { same = refl; few = omega arith }
 
--- src/lib.rt:46:15
 next-pattern-requires : tie.Need-next-pattern-requires Inv-loop μ-loop
-next-pattern-requires c κs = ?
+next-pattern-requires c κs = search needs
 
--- src/lib.rt:50:17
 enum-known-next : tie.Need-enum-known-next Inv-loop μ-loop
-enum-known-next c = ?
+enum-known-next c = search needs
 
--- src/lib.rt:52:21
 add-n : tie.Need-add-n Inv-loop μ-loop
-add-n c = ?
+add-n c = omega (arith, next-in _ (c .before .before .before .before .loop .i) (sym (c .before .next .given .1) ∙ c .before .before .before .next-pattern .ensures), c .before .before .before .before .loop .inv .few, c .before .before .before .before .before .before .good)
 
--- src/lib.rt:45:5
 loop-less : tie.Need-loop-less Inv-loop μ-loop
-loop-less c = ?
+loop-less c = omega (arith, next-in _ (c .before .before .before .before .loop .i) (sym (c .before .next .given .1) ∙ c .before .before .before .next-pattern .ensures))
 
--- src/lib.rt:45:5
 loop-again : tie.Need-loop-again Inv-loop μ-loop
-loop-again c = ?
+loop-again c = counted-more _ (c .before .before .before .before .loop .inv) (sym (c .before .next .given .1) ∙ c .before .before .before .next-pattern .ensures)
 
--- src/lib.rt:58:17
 enum-known-next-2 : tie.Need-enum-known-next-2 Inv-loop μ-loop
-enum-known-next-2 c = ?
+enum-known-next-2 c = search needs
 
--- src/lib.rt:61:31
 add-t8 : tie.Need-add-t8 Inv-loop μ-loop
-add-t8 c = ?
+add-t8 c = omega (arith, last-in _ (c .before .before .before .before .loop .i) (sym (c .before .next2 .given .1) ∙ c .before .before .before .next-pattern .ensures), c .before .before .before .before .loop .inv .few, c .before .before .before .before .before .before .good)
 
--- src/lib.rt:60:17
 returns : tie.Need-returns Inv-loop μ-loop
-returns c = ?
+returns c = counted-last _ (c .before .before .before .before .loop .inv) (sym (c .before .next2 .given .1) ∙ c .before .before .before .next-pattern .ensures)
 
--- src/lib.rt:66:17
 enum-told : tie.Need-enum-told Inv-loop μ-loop
-enum-told c = ?
+enum-told c = search needs
 
--- src/lib.rt:66:17
 returns-2 : tie.Need-returns-2 Inv-loop μ-loop
-returns-2 c = ?
+returns-2 c = counted-broken _ (c .before .before .before .loop .inv) (sym (c .enum-told .given .1) ∙ c .before .before .next-pattern .ensures)
 
 pub count-patterns-spec : {M : Type 1} → statement M
 count-patterns-spec =
