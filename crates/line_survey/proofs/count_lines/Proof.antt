@@ -1,75 +1,63 @@
+-- `line_survey::count_lines`: what is counted, and what is still to be read, come to the same. Assumes nothing.
+use mathlib.Core.Path.{_≡_, refl, sym, ap, ap₂, _∙_}
+use Prim.Native.Nat.{_-_}
+use native.Mathlib.Omega.{arith}
+use lib.ListN.{length}
+use borrow.Author.Needs.{needs}
+use Rattle.line_survey.proofs.Counting.{line-few, next-in, last-in, Counting, counted-more, counted-last, counted-broken}
 use Rattle.line_survey.proofs.count_lines.Statement.{statement}
 use Rattle.line_survey.proofs.count_lines.Tie as tie
-use Rattle.line_survey.proofs.count_lines.Reads as reads
-use Rattle.line_survey.proofs.count_lines.Lts as lts
-use Rattle.line_survey.proofs.line_pdfs.Reads as line-pdfs-reads
-use Rattle.tree_line.proofs.next_line.Reads as next-line-reads
 
 abbrev Inv-loop : tie.InvT-loop
-Inv-loop s at i₀ n₀ m₀ i n m = ?
+Inv-loop s at i₀ n₀ m₀ i n m = Counting s at i n m
 
 abbrev μ-loop : tie.MeasureT-loop
-μ-loop s at i₀ n₀ m₀ i n m = ?
+μ-loop s at i₀ n₀ m₀ i n m = length s - i
 
--- src/lib.rt:63:5
 loop-holds : tie.Need-loop-holds Inv-loop μ-loop
-loop-holds c = ?
+loop-holds c = record { same = refl; few = omega arith }
 
--- src/lib.rt:64:15
 next-line-requires : tie.Need-next-line-requires Inv-loop μ-loop
-next-line-requires c κs = ?
+next-line-requires c κs = search needs
 
--- src/lib.rt:65:30
 enum-known-line : tie.Need-enum-known-line Inv-loop μ-loop
-enum-known-line c = ?
+enum-known-line c = search needs
 
--- src/lib.rt:66:21
 add-n : tie.Need-add-n Inv-loop μ-loop
-add-n c = ?
+add-n c = omega (arith, next-in _ (c .before .before .before .before .loop .i) (sym (c .before .line .given .1) ∙ c .before .before .before .next-line .ensures), c .before .before .before .before .loop .inv .few, c .before .before .before .before .before .before .good)
 
--- src/lib.rt:67:25
 line-pdfs-requires : tie.Need-line-pdfs-requires Inv-loop μ-loop
-line-pdfs-requires c κs = ?
+line-pdfs-requires c κs = search needs
 
--- src/lib.rt:67:21
 add-m : tie.Need-add-m Inv-loop μ-loop
-add-m c = ?
+add-m c = omega (arith, c .line-pdfs .ensures, line-few (c .before .before .line .given .0 .0), next-in _ (c .before .before .before .before .before .loop .i) (sym (c .before .before .line .given .1) ∙ c .before .before .before .before .next-line .ensures), c .before .before .before .before .before .loop .inv .few, c .before .before .before .before .before .before .before .good)
 
--- src/lib.rt:63:5
 loop-less : tie.Need-loop-less Inv-loop μ-loop
-loop-less c = ?
+loop-less c = omega (arith, next-in _ (c .before .before .before .before .before .loop .i) (sym (c .before .before .line .given .1) ∙ c .before .before .before .before .next-line .ensures))
 
--- src/lib.rt:63:5
 loop-again : tie.Need-loop-again Inv-loop μ-loop
-loop-again c = ?
+loop-again c = counted-more _ (c .before .before .before .before .before .loop .inv) (sym (c .before .before .line .given .1) ∙ c .before .before .before .before .next-line .ensures) (c .line-pdfs .ensures)
 
--- src/lib.rt:70:30
 enum-known-line-2 : tie.Need-enum-known-line-2 Inv-loop μ-loop
-enum-known-line-2 c = ?
+enum-known-line-2 c = search needs
 
--- src/lib.rt:72:28
 add-t12 : tie.Need-add-t12 Inv-loop μ-loop
-add-t12 c = ?
+add-t12 c = omega (arith, last-in _ (c .before .before .before .before .loop .i) (sym (c .before .line2 .given .1) ∙ c .before .before .before .next-line .ensures), c .before .before .before .before .loop .inv .few, c .before .before .before .before .before .before .good)
 
--- src/lib.rt:73:31
 line-pdfs-requires-2 : tie.Need-line-pdfs-requires-2 Inv-loop μ-loop
-line-pdfs-requires-2 c κs = ?
+line-pdfs-requires-2 c κs = search needs
 
--- src/lib.rt:73:27
 add-t14 : tie.Need-add-t14 Inv-loop μ-loop
-add-t14 c = ?
+add-t14 c = omega (arith, c .line-pdfs2 .ensures, line-few (c .before .before .line2 .given .0 .0), last-in _ (c .before .before .before .before .before .loop .i) (sym (c .before .before .line2 .given .1) ∙ c .before .before .before .before .next-line .ensures), c .before .before .before .before .before .loop .inv .few, c .before .before .before .before .before .before .before .good)
 
--- src/lib.rt:71:17
 returns : tie.Need-returns Inv-loop μ-loop
-returns c = ?
+returns c = counted-last _ (c .before .before .before .before .before .loop .inv) (sym (c .before .before .line2 .given .1) ∙ c .before .before .before .before .next-line .ensures) (c .line-pdfs2 .ensures)
 
--- src/lib.rt:78:17
 enum-told : tie.Need-enum-told Inv-loop μ-loop
-enum-told c = ?
+enum-told c = search needs
 
--- src/lib.rt:78:17
 returns-2 : tie.Need-returns-2 Inv-loop μ-loop
-returns-2 c = ?
+returns-2 c = counted-broken _ (c .before .before .before .loop .inv) (sym (c .enum-told .given .1) ∙ c .before .before .next-line .ensures)
 
 pub count-lines-spec : {M : Type 1} → statement M
 count-lines-spec =

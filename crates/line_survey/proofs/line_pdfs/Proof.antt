@@ -1,23 +1,20 @@
+-- `line_survey::line_pdfs`: two counts of one at most. Assumes nothing.
+use mathlib.Core.Path.{_≡_, refl, sym, ap, ap₂, _∙_}
+use native.Mathlib.Omega.{arith}
+use Rattle.line_survey.proofs.Counting.{pdf-few}
 use borrow.Author.Needs.{needs}
 use Rattle.line_survey.proofs.line_pdfs.Statement.{statement}
 use Rattle.line_survey.proofs.line_pdfs.Tie as tie
-use Rattle.line_survey.proofs.line_pdfs.Reads as reads
-use Rattle.line_survey.proofs.line_pdfs.Lts as lts
-use Rattle.tree_reference.proofs.pdf_count.Reads as pdf-count-reads
 
--- src/lib.rt:40:5
 pdf-count-requires : tie.Need-pdf-count-requires
 pdf-count-requires c κs = search needs
 
--- src/lib.rt:40:21
 pdf-count-requires-2 : tie.Need-pdf-count-requires-2
 pdf-count-requires-2 c κs = search needs
 
--- src/lib.rt:40:5
 add-result : tie.Need-add-result
-add-result c = ?
+add-result c = omega (arith, c .pdf-count2 .ensures, c .before .pdf-count .ensures, pdf-few (c .before .before .args .line .no), pdf-few (c .before .before .args .line .yes))
 
--- src/lib.rt:35:1
 returns : tie.Need-returns
 returns c = search needs
 

@@ -1,30 +1,26 @@
+-- `line_survey::line_records`: by whether the references are equal. Assumes nothing.
+use mathlib.Core.Path.{_≡_, refl, sym, ap, ap₂, _∙_}
+use Prim.Native.Nat.{_+_}
+use native.Mathlib.Omega.{arith}
+use Rattle.line_survey.proofs.Counting.{line-few}
 use borrow.Author.Needs.{needs}
 use Rattle.line_survey.proofs.line_records.Statement.{statement}
 use Rattle.line_survey.proofs.line_records.Tie as tie
-use Rattle.line_survey.proofs.line_records.Reads as reads
-use Rattle.line_survey.proofs.line_records.Lts as lts
-use Rattle.line_survey.proofs.line_pdfs.Reads as line-pdfs-reads
-use Rattle.tree_reference.proofs.same_index.Reads as same-index-reads
 
--- src/lib.rt:49:8
 same-index-requires : tie.Need-same-index-requires
 same-index-requires c κs = search needs
 
--- src/lib.rt:52:13
 line-pdfs-requires : tie.Need-line-pdfs-requires
 line-pdfs-requires c κs = search needs
 
--- src/lib.rt:52:9
 add-result : tie.Need-add-result
-add-result c = ?
+add-result c = omega (arith, c .line-pdfs .ensures, line-few (c .before .before .before .args .line))
 
--- src/lib.rt:44:1
 returns : tie.Need-returns
-returns c = ?
+returns c = rw (sym (c .before .same-index .ensures) ∙ c .if1 .taken)
 
--- src/lib.rt:44:1
 returns-2 : tie.Need-returns-2
-returns-2 c = ?
+returns-2 c = rw (sym (c .before .before .same-index .ensures) ∙ c .before .if1 .left) (ap (λ n. 1 + n) (c .line-pdfs .ensures))
 
 pub line-records-spec : {M : Type 1} → statement M
 line-records-spec =
