@@ -43,6 +43,17 @@ unfolding total
 weights [] = refl
 weights (l ∷ ls) = omega (arith, weights ls)
 
+-- a tree has at most a record for each line and each PDF reference
+pub records-few : (ls : List Line) → recordsOf ls ≤ length ls + total linePdfs ls
+unfolding recordsOf total
+records-few [] = omega arith
+records-few (l ∷ []) = go (sameIndex (l .no) (l .yes))
+  where
+    go : (b : Bool) → cond b 1 (1 + linePdfs l) ≤ 1 + (linePdfs l + 0)
+    go true = omega arith
+    go false = omega arith
+records-few (l ∷ (k ∷ ls)) = omega arith
+
 module _ (s : List ℕ) where
   lines-are : (i : ℕ) → linesAt s i ≡ readOf (linesAt s) (step s i)
   unfolding linesAt
@@ -68,7 +79,7 @@ module _ (s : List ℕ) where
   pub last-in : (i : ℕ) {l : Line} {j : ℕ} → answer.Last l j ≡ lineStepAt s i → (3 + i ≤ j) × (j ≤ length s)
   last-in i {l} {j} e = step-last i j l (stepped i e)
 
-  lines-size : (i e : ℕ) → linesAt s i .ending ≡ doneAt e → length (linesAt s i .items) + total linePdfs (linesAt s i .items) + i ≤ e
+  pub lines-size : (i e : ℕ) → linesAt s i .ending ≡ doneAt e → length (linesAt s i .items) + total linePdfs (linesAt s i .items) + i ≤ e
   unfolding linesAt
   lines-size i e h =
       omega (
