@@ -11,7 +11,8 @@ ghost use lib.Dec.{leb, ltb, eqb};
 ghost use lib.ListN.{length};
 ghost use Rattle.written.specs.Bytes.{same};
 ghost use Rattle.order.specs.Keys.{idKey, nameKey, idAt, nameAt};
-ghost use Rattle.search.specs.Found.{lastBelow, firstFrom, sameZ};
+ghost use Rattle.search.specs.Found.{lastBelow, firstFrom};
+ghost use Rattle.search.specs.Index.{Index, Ascends};
 ghost use Rattle.search.specs.Parted.{Falls, Parted};
 
 // A row, or none.
@@ -83,4 +84,53 @@ fn up_to(a: &[u8], b: &[u8]) -> bool
         Side::Same => true,
         Side::Above => false,
     }
+}
+
+// The last line with an id, by an index of the lines that is sorted by (id, line).
+pub fn last_id(work: &[i64], index: &[u64], id: i64) -> Found
+    requires { ⌜ Index (λ e. idKey (idAt (now work) e)) (now index) ⌝ }
+    ensures { λ r. ⌜ r ≡ lastBelow (λ e. eqb (idKey (idAt (now (work .entry)) e)) (idKey id)) (length (now (index .entry))) ⌝ }
+{
+    let key = id_key(id);
+    let after = after_id(work, index, key);
+    if after == 0 {
+        return Found::Nothing;
+    }
+    let line = index[after - 1];
+    if id_key(id_of(work, line)) == key {
+        Found::At(line)
+    } else {
+        Found::Nothing
+    }
+}
+
+// The last question of a name, by an index of the questions that is sorted by (name, row).
+pub fn last_question(s: &[u8], questions: &[u64], index: &[u64], name: &[u8]) -> Found
+    requires { ⌜ Index (λ e. nameKey (nameAt (now s) (now questions) e)) (now index) ⌝ }
+    ensures { λ r. ⌜ r ≡ lastBelow (λ e. same (nameAt (now (s .entry)) (now (questions .entry)) e) (now (name .entry))) (length (now (index .entry))) ⌝ }
+{
+    let after = after_name(s, questions, index, name);
+    if after == 0 {
+        return Found::Nothing;
+    }
+    let row = index[after - 1];
+    match compare_names(name_of(s, questions, row), name) {
+        Side::Same => Found::At(row),
+        Side::Below => Found::Nothing,
+        Side::Above => Found::Nothing,
+    }
+}
+
+// The first leaf with a number, among leaves that ascend.
+pub fn first_leaf(leaves: &[u64], number: u64) -> Found
+    requires { ⌜ Ascends (now leaves) ⌝ }
+    ensures { λ r. ⌜ r ≡ firstFrom (λ e. eqb e number) 0 (now (leaves .entry)) ⌝ }
+{
+    let before = before_leaf(leaves, number);
+    if before < leaves.len() {
+        if leaves[before] == number {
+            return Found::At(before as u64);
+        }
+    }
+    Found::Nothing
 }
