@@ -96,8 +96,8 @@ module _ (w : List ℤ) (n : ℕ) (rows₀ : List ℕ) (at : ℕ) where
           within = omega arith;
           long = ap length (p .0) ∙ length-sets rows end (pdfsOf (linesFrom w line 1)) ∙ g .long;
           stored =
-            ap (λ (l : List ℕ). sets l end₁ (rest w n (line + 1))) (p .0) ∙ ap (λ (k : ℕ). sets (sets rows end one) k (rest w n (line + 1))) (p .1)
-            ∙ sets-append rows end one (rest w n (line + 1)) ∙ ap (sets rows end) (sym (rest-more w n line h)) ∙ g .stored;
+              ap (λ (l : List ℕ). sets l end₁ (rest w n (line + 1))) (p .0) ∙ ap (λ (k : ℕ). sets (sets rows end one) k (rest w n (line + 1))) (p .1)
+              ∙ sets-append rows end one (rest w n (line + 1)) ∙ ap (sets rows end) (sym (rest-more w n line h)) ∙ g .stored;
           ends = omega (arith, p .1, g .ends, ap length (rest-more w n line h), length-append one (rest w n (line + 1)));
         }
 

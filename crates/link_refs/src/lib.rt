@@ -7,7 +7,8 @@ use search::first_leaf;
 use search::last_id;
 ghost use mathlib.Core.Path.{_≡_};
 ghost use Prim.Native.Nat.{_+_, _*_, _<_, _≤_, _^_};
-ghost use lib.ListN.{length, take, drop, getD};
+ghost use lib.Dec.{eqb};
+ghost use lib.ListN.{length, take, drop};
 ghost use lib.Seq.{sets};
 ghost use lib.IntN.{pos};
 ghost use Rattle.order.specs.Keys.{idKey, idAt};
@@ -91,4 +92,49 @@ pub fn in_order(work: &[i64], n: usize) -> bool
         line = line + 1;
     }
     true
+}
+
+// The last line with an id: where the id says, or by the index in front of the rows.
+fn find_line(work: &[i64], rows: &[u64], n: usize, ordered: bool, id: i64) -> Found
+    requires { ⌜ (n ≤ length (now rows)) × Ready (now work) n (take n (now rows)) ordered ⌝ }
+    ensures { λ r. ⌜ r ≡ lastBelow (λ e. eqb (idKey (idAt (now (work .entry)) e)) (idKey id)) n ⌝ }
+{
+    if !ordered {
+        return last_id(work, &rows[..n], id);
+    }
+    let key = id_key(id);
+    if 9223372036854775808 < key {
+        return Found::Nothing;
+    }
+    let line = 9223372036854775808 - key;
+    if line < n as u64 {
+        Found::At(line)
+    } else {
+        Found::Nothing
+    }
+}
+
+// Where the reference leads whose kind stands at `kind`: to a line, or behind the n lines to a leaf.
+pub fn target(
+    work: &[i64],
+    kind: usize,
+    rows: &[u64],
+    n: usize,
+    leaves: usize,
+    ordered: bool,
+) -> Found
+    requires { ⌜ (kind + 1 < length (now work)) × Rows (now work) n leaves ordered (now rows) ⌝ }
+    ensures { λ r. ⌜ r ≡ targetOf (now (work .entry)) n (take leaves (drop (4 * n) (now (rows .entry)))) (refAt (now (work .entry)) kind) ⌝ }
+{
+    let k = work[kind];
+    let v = work[kind + 1];
+    if natural(k) == 0 {
+        return find_line(work, rows, n, ordered, v);
+    }
+    let first = 4 * n;
+    let end = first + leaves;
+    match first_leaf(&rows[first..end], natural(v)) {
+        Found::At(leaf) => Found::At(n as u64 + leaf),
+        Found::Nothing => Found::Nothing,
+    }
 }
