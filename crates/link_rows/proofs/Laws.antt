@@ -46,10 +46,10 @@ module _ (rows₀ : List ℕ) (first leaves : ℕ) where
           within = omega (arith, s .within);
           long = ap length e ∙ length-sets rows (first + 4 * (k - 1)) (1 ∷ getD rows (first + (k - 1)) 0 ∷ 0 ∷ 0 ∷ []) ∙ s .long;
           is =
-            e ∙ ap (λ (p : ℕ). sets rows (first + 4 * (k - 1)) (1 ∷ p ∷ 0 ∷ 0 ∷ [])) read
-            ∙ ap (λ (l : List ℕ). sets l (first + 4 * (k - 1)) row) (s .is ∙ ap (λ (n : ℕ). sets rows₀ n (leafRows (drop k numbers))) at)
-            ∙ sets-before row (leafRows (drop k numbers)) rows₀ (first + 4 * (k - 1))
-            ∙ ap (λ (l : List ℕ). sets rows₀ (first + 4 * (k - 1)) (leafRows l)) (sym (drop-cons numbers (k - 1) 0 inside ∙ ap (λ (n : ℕ). getD numbers (k - 1) 0 ∷ drop n numbers) on));
+              e ∙ ap (λ (p : ℕ). sets rows (first + 4 * (k - 1)) (1 ∷ p ∷ 0 ∷ 0 ∷ [])) read
+              ∙ ap (λ (l : List ℕ). sets l (first + 4 * (k - 1)) row) (s .is ∙ ap (λ (n : ℕ). sets rows₀ n (leafRows (drop k numbers))) at)
+              ∙ sets-before row (leafRows (drop k numbers)) rows₀ (first + 4 * (k - 1))
+              ∙ ap (λ (l : List ℕ). sets rows₀ (first + 4 * (k - 1)) (leafRows l)) (sym (drop-cons numbers (k - 1) 0 inside ∙ ap (λ (n : ℕ). getD numbers (k - 1) 0 ∷ drop n numbers) on));
         }
 
   pub spread-done : (rows : List ℕ) (k : ℕ) → Spreading rows k → k ≤ 0 → rows ≡ sets rows₀ first (leafRows numbers)
@@ -86,13 +86,13 @@ module _ (w : List ℤ) (n : ℕ) (rows₀ : List ℕ) where
         within = omega arith;
         long = ap length e ∙ length-sets rows (4 * k) (0 ∷ q ∷ getD rows (2 * n + 2 * k) 0 ∷ getD rows (2 * n + 2 * k + 1) 0 ∷ []) ∙ p .long;
         same = λ i l.
-          ap (λ (t : List ℕ). getD t i 0) e ∙ sets-past (0 ∷ q ∷ getD rows (2 * n + 2 * k) 0 ∷ getD rows (2 * n + 2 * k + 1) 0 ∷ []) rows (4 * k) i 0 (omega arith) ∙ p .same i (omega arith);
+            ap (λ (t : List ℕ). getD t i 0) e ∙ sets-past (0 ∷ q ∷ getD rows (2 * n + 2 * k) 0 ∷ getD rows (2 * n + 2 * k + 1) 0 ∷ []) rows (4 * k) i 0 (omega arith) ∙ p .same i (omega arith);
         stored =
-          ap (λ (j : ℕ). sets rows₁ (4 * (k + 1)) (lineRows w rows₀ (2 * n) j (n - (k + 1)))) (add-one k)
-          ∙ ap₂ (λ t m. sets t m after) (e ∙ ap (sets rows (4 * k)) is) at
-          ∙ sets-append rows (4 * k) row after
-          ∙ ap (λ (m : ℕ). sets rows (4 * k) (lineRows w rows₀ (2 * n) k m)) (sym count)
-          ∙ p .stored;
+            ap (λ (j : ℕ). sets rows₁ (4 * (k + 1)) (lineRows w rows₀ (2 * n) j (n - (k + 1)))) (add-one k)
+            ∙ ap₂ (λ t m. sets t m after) (e ∙ ap (sets rows (4 * k)) is) at
+            ∙ sets-append rows (4 * k) row after
+            ∙ ap (λ (m : ℕ). sets rows (4 * k) (lineRows w rows₀ (2 * n) k m)) (sym count)
+            ∙ p .stored;
       }
 
   pub write-done : (rows : List ℕ) (k : ℕ) → Writing rows k → n ≤ k → rows ≡ sets rows₀ 0 (lineRows w rows₀ (2 * n) 0 n)
