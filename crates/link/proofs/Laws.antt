@@ -88,10 +88,11 @@ module _ (w : List ℤ) (n leaves : ℕ) (ordered : Bool) (rows₀ : List ℕ) w
       left : (k : Step) → s ≡ k → (goals to (linesFrom w line (n - line)) ≡ goalsOf k (goals to (linesFrom w (line + 1) (n - (line + 1))))) × (outcome to line (linesFrom w line (n - line)) ≡ first line k (outcome to (line + 1) (linesFrom w (line + 1) (n - (line + 1)))))
       unfolding goals outcome
       left k q =
-          let u : to (lineIn w line) ≡ k = sym (found e) ∙ q in
-          (ap (goals to) (lines-on w n line h) ∙ ap (λ (x : Step). goalsOf x (goals to (linesFrom w (line + 1) (n - (line + 1))))) u,
-          ap (outcome to line) (lines-on w n line h) ∙ ap (λ (x : Step). first line x (outcome to (suc line) (linesFrom w (line + 1) (n - (line + 1))))) u
-          ∙ ap (λ (j : ℕ). first line k (outcome to j (linesFrom w (line + 1) (n - (line + 1))))) (sym (add-one line)))
+          let u : to (lineIn w line) ≡ k = sym (found e) ∙ q in (
+            ap (goals to) (lines-on w n line h) ∙ ap (λ (x : Step). goalsOf x (goals to (linesFrom w (line + 1) (n - (line + 1))))) u,
+            ap (outcome to line) (lines-on w n line h) ∙ ap (λ (x : Step). first line x (outcome to (suc line) (linesFrom w (line + 1) (n - (line + 1))))) u
+                ∙ ap (λ (j : ℕ). first line k (outcome to j (linesFrom w (line + 1) (n - (line + 1))))) (sym (add-one line)),
+          )
 
       pub resolve-more : (y m : ℕ) → s ≡ Goes y m → (rows₁ : List ℕ) → rows₁ ≡ sets rows (2 * n + 2 * line) (y ∷ m ∷ []) → Resolving rows₁ (line + 1)
       resolve-more y m q rows₁ t =
@@ -105,15 +106,15 @@ module _ (w : List ℤ) (n leaves : ℕ) (ordered : Bool) (rows₀ : List ℕ) w
             within = omega arith;
             long = size ∙ p .long;
             ready =
-              record {
-                room = omega (arith, p .ready .room);
-                ready = subst (λ (i : List ℕ). Ready w n i ordered) (sym front) (p .ready .ready);
-                ascends = subst (λ (i : List ℕ). Ascends (take leaves i)) (sym back) (p .ready .ascends);
-              };
+                record {
+                  room = omega (arith, p .ready .room);
+                  ready = subst (λ (i : List ℕ). Ready w n i ordered) (sym front) (p .ready .ready);
+                  ascends = subst (λ (i : List ℕ). Ascends (take leaves i)) (sym back) (p .ready .ascends);
+                };
             same = ap (take leaves) back ∙ p .same;
             stored =
-              ap₂ (λ i j. sets i j (goals to (linesFrom w (line + 1) (n - (line + 1))))) t at
-              ∙ sym (ap (sets rows k) (l .0)) ∙ p .stored;
+                ap₂ (λ i j. sets i j (goals to (linesFrom w (line + 1) (n - (line + 1))))) t at
+                ∙ sym (ap (sets rows k) (l .0)) ∙ p .stored;
             out = sym (l .1) ∙ p .out;
           }
 

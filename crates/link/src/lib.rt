@@ -91,3 +91,50 @@ fn resolve_lines(work: &[i64], n: usize, rows: &mut [u64], leaves: usize, ordere
     }
     Link::Done
 }
+
+// The leaves, ascending, side by side from 4n on.
+fn sort_leaves(work: &[i64], n: usize, rows: &mut [u64], leaves: usize)
+    requires { ⌜ (6 * n ≤ length (now work)) × (leaves ≡ length (pdfsOf (linesFrom (now work) 0 n))) × (4 * n + leaves ≤ length (now rows)) ⌝ }
+    ensures { λ r. ⌜ now (rows .exit) ≡ sets (now (rows .entry)) (4 * n) (leavesOf (now (work .entry)) n) ⌝ }
+{
+    let first = 4 * n;
+    let end = gather(work, n, rows, first);
+    sort_numbers(&mut rows[first..end]);
+}
+
+// An index of the lines in front of the rows, unless the ids are in order.
+fn index_lines(work: &[i64], n: usize, rows: &mut [u64]) -> bool
+    requires { ⌜ n ≤ length (now rows) ⌝ }
+    ensures { λ r. ⌜ (r ≡ orderFrom (now (work .entry)) 0 n) × (now (rows .exit) ≡ cond (orderFrom (now (work .entry)) 0 n) (now (rows .entry)) (sets (now (rows .entry)) 0 (sorted (keyOf (λ e. idKey (idAt (now (work .entry)) e))) (countFrom 0 n)))) ⌝ }
+{
+    if in_order(work, n) {
+        return true;
+    }
+    number_lines(rows, n);
+    sort_ids(work, &mut rows[0..n]);
+    false
+}
+
+// The records of a tree whose n lines, with so many PDF references, stand in the work; zeros where linking is refused.
+pub fn link_tree(work: &[i64], n: usize, leaves: usize, rows: &mut [u64]) -> Link
+    requires { ⌜ (6 * n ≤ length (now work)) × (leaves ≡ length (pdfsOf (linesFrom (now work) 0 n))) × (length (now rows) ≡ 4 * n + 4 * leaves) ⌝ }
+    ensures { λ r. ⌜ Linking (now (work .entry)) n (now (rows .entry)) (now (rows .exit)) r ⌝ }
+{
+    sort_leaves(work, n, rows, leaves);
+    let ordered = index_lines(work, n, rows);
+    match resolve_lines(work, n, rows, leaves, ordered) {
+        Link::Done => {
+            spread_leaves(rows, 4 * n, leaves);
+            write_lines(work, n, rows);
+            Link::Done
+        }
+        Link::NodeRef(line) => {
+            zero(rows);
+            Link::NodeRef(line)
+        }
+        Link::QuestionRef(line) => {
+            zero(rows);
+            Link::QuestionRef(line)
+        }
+    }
+}
