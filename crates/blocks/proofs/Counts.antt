@@ -113,6 +113,7 @@ module _ (t w : ℕ) (s : List ℕ) (i W : ℕ) (whole : length s - i ≡ 4 * t 
     where
       pos : 0 < w
       pos = omega (arith, z)
+
       go : W ≡ all * w → Counted → ⊥
       go u (exact p q) = d (ap (λ (x : ℕ). x / w) u ∙ mul-div-cancel all pos ∙ sym p)
       go u (over p q) = omega (arith, le-mul-of-pos-right {m = w} all pos)
@@ -122,6 +123,7 @@ module _ (t w : ℕ) (s : List ℕ) (i W : ℕ) (whole : length s - i ≡ 4 * t 
     where
       pos : 0 < w
       pos = omega (arith, z)
+
       go : Counted → Fits E ≡ blockAt t w s i
       go (exact p q) =
           let u : W / w * w + W % w ≡ W = div-add-mod' W w in

@@ -1,16 +1,13 @@
 // After voice/model.rs, `from_linear`, and the blocks of model/mod.rs, `parse_model`: PDF blocks (01, 'PDF blocks').
 // The block runs from `at` to the end of the slice: a 32-bit count a tree, then the entries of each tree, `width` binary32 each, little-endian.
 // Assumes nothing.
-use tables::put2;
-use widen::widen;
 ghost use mathlib.Core.Path.{_≡_};
 ghost use mathlib.Core.Bool.{cond};
-ghost use Prim.Native.Nat.{_+_, _-_, _*_, _≤_, _<_, _^_};
+ghost use Prim.Native.Nat.{_+_, _*_, _≤_, _<_, _^_};
 ghost use lib.Dec.{leb, eqb};
 ghost use lib.ListN.{length};
-ghost use lib.Seq.{sets};
 ghost use Rattle.written.specs.Blocks.{total};
-ghost use Rattle.blocks.specs.Values.{wordAt, wordsAt, blockAt, blockRows, valueAt, pairsAt, entryAt, valuesAt};
+ghost use Rattle.blocks.specs.Values.{wordAt, wordsAt, blockAt};
 
 // Whether a block is used up exactly, and its entries.
 pub enum Block {
@@ -25,7 +22,7 @@ fn wide(x: u8) -> u32
 }
 
 // The 32-bit number at `at`.
-fn word(s: &[u8], at: usize) -> u32
+pub fn word(s: &[u8], at: usize) -> u32
     requires { ⌜ at + 4 ≤ length (now s) ⌝ }
     ensures { λ r. ⌜ r ≡ wordAt (now (s .entry)) at ⌝ }
 {
