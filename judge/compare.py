@@ -203,9 +203,9 @@ def walks(first, last):
     """Voices that open, and walks over any of their models and trees."""
     for n in range(first, last):
         r = random.Random('walk %d' % n)
-        b = voices.voice(6 * (n // 8) + n % 2)
+        b, which = (voices.walking(n // 8), 0) if n % 4 else (voices.voice(6 * (n // 8) + n % 2), r.randint(0, 4))
         answers = bytes(r.choice((0, 0, 1, 255)) for _ in range(r.choice((0, 3, 4, 6, 6, 6))))
-        yield '%s %d %d %s %d' % (b.hex(), r.randint(0, 4), r.randint(0, 2), answers.hex() or '-', r.choice((0, 1, 2, 3, 5, 100)))
+        yield '%s %d %d %s %d' % (b.hex(), which, r.choice((0, 0, 0, 1, 2)), answers.hex() or '-', r.choice((0, 1, 2, 3, 5, 100)))
 
 
 def main(argv):

@@ -182,6 +182,12 @@ def voice(n):
     return damaged(r, b) if kind in (4, 5) else b
 
 
+def walking(n):
+    """A voice with a duration model alone, for walks: longer trees, many of which go round."""
+    r = random.Random('walking %d' % n)
+    return Voice(r, .4, 0, r.randint(2, 14), r.randint(2, 5), 1, []).file()
+
+
 def large(seed, lines, questions=400):
     """An ordinary voice: three streams of five states, `lines` lines a tree (the duration's, and each state's of two streams)."""
     r = random.Random('large %d' % seed)
