@@ -2,6 +2,7 @@
 
 Ordinary ones as training tools write them; odd ones, with all that the rules allow; faulty ones, with values that they refuse, fields missing or
 twice, counts about their limits; damaged ones."""
+import itertools
 import random
 
 from damage import damaged
@@ -231,3 +232,95 @@ def minimal(types=(b'A',), streams=(b'A',), positions=(b'A',), windows=1, contex
     s = b''.join(b'VECTOR_LENGTH[%s]:1\nNUM_WINDOWS[%s]:1\nIS_MSD[%s]:0\nOPTION[%s]:%s\n' % (n, n, n, n, b','.join([b'o'] * options)) for n in streams)
     p = b'DURATION_PDF:0-1\nDURATION_TREE:0-1\n' + b''.join(b'STREAM_WIN[%s]:%s\nSTREAM_PDF[%s]:0-1\nSTREAM_TREE[%s]:0-1\n' % (n, b','.join([b'0-1'] * windows), n, n) for n in positions)
     return b'[GLOBAL]\n' + g + b'[STREAM]\n' + s + b'[POSITION]\n' + p + b'[DATA]\n'
+
+
+# ---- by hand: 01's examples and each rule at its edge
+
+TEXTS = [b'', b'a', b'"a"', b'"a', b'"', b'""', b'"a"x', b'"a" ', b' a', b'a ', b'a"b', b'a:b', b'"a\nb"', b'"a\n\nb:c"', b'a,b', b'\t', b'\xe3\x81\x82', b'"\xe3\x81\x82"']
+LISTS = [b'', b',', b',,', b'A', b',A', b'A,', b',A,', b'A,B', b'A,,B', b',,A', b'"A"', b'"A","B"', b'"A,B",C', b'"A"x', b'"A"x,B', b'"A\nB",C', b'"A', b'A,"B', b'A,"B"C', b'A"B",C', b' A, B ']
+NUMBERS = [b'', b'0', b'5', b'007', b'5x', b'x', b' 5', b'5 ', b'-5', b'+5', b'"5"', b'5,6', b'18446744073709551615', b'18446744073709551616', b'018446744073709551615', b'018446744073709551616',
+           b'184467440737095516150', b'18446744073709551616x', b'18446744073709551615x', b'99999999999999999999999999999999999999', b'5\xe3\x81\x82', b'\xe3\x81\x82', b'9' * 400]
+FLAGS = [b'', b'0', b'1', b'2', b'01', b'1x', b'x', b' 1', b'-1', b'"1"', b'\xe3\x81\x82']
+PAIRS = [b'', b'5', b'5-', b'5-6', b'-5-6', b'--5-6', b'-', b'--', b'-5', b'-5-', b'5--6', b'5-6-7', b'0-10-20', b'5-6x', b'5x-6', b'x-6', b'5-x', b'5 -6', b'5- 6', b' 5-6', b'5,6', b'5-6,7-8', b'"5-6"',
+         b'18446744073709551615-18446744073709551615', b'18446744073709551616-0', b'0-18446744073709551616', b'0-18446744073709551616x', b'5\xe3\x81\x82', b'5-\xe3\x81\x82', b'00005-0006']
+WINDOWS = PAIRS + [b',', b',5-6', b'5-6,', b',,5-6', b'5-6,,7-8', b'5-6,7', b'5-6,7-', b'5,6-7', b'5-6,x', b'5-6,-7-8', b'-5-6,-7-8', b'5-6 ,7-8']
+VALUES = {'COMMENT': TEXTS, 'HTS_VOICE_VERSION': TEXTS, 'STREAM_TYPE': LISTS, 'GV_OFF_CONTEXT': LISTS, 'OPTION': LISTS, 'NUM_STATES': NUMBERS, 'VECTOR_LENGTH': NUMBERS, 'IS_MSD': FLAGS, 'USE_GV': FLAGS,
+          'DURATION_PDF': PAIRS, 'STREAM_PDF': PAIRS, 'GV_PDF': PAIRS, 'STREAM_WIN': WINDOWS}
+
+
+def with_value(key, value, last=False):
+    """The minimal header with this value: alone in its section's first lines, or (last) at the section's very end."""
+    return with_line(key, (key if key in GLOBAL + DURATION else key + '[A]').encode() + b':' + value, last)
+
+
+def section_of(key):
+    return b'[GLOBAL]\n' if key in GLOBAL else b'[STREAM]\n' if key in STREAM else b'[POSITION]\n'
+
+
+def with_line(key, line, last=False):
+    name = section_of(key)
+    sections = minimal().split(b'[STREAM]\n')
+    g, (s, p) = sections[0][len(b'[GLOBAL]\n'):], sections[1].split(b'[POSITION]\n')
+    parts = {b'[GLOBAL]\n': g, b'[STREAM]\n': s, b'[POSITION]\n': p[:-len(b'[DATA]\n')]}
+    rows = [x for x in parts[name].splitlines(True) if not x.startswith((key.encode() + b':', key.encode() + b'['))]
+    parts[name] = b''.join(rows + [line + b'\n'] if last else [line + b'\n'] + rows)
+    return b''.join(k + v for k, v in parts.items()) + b'[DATA]\n'
+
+
+UTF8_EDGES = [0x00, 0x7f, 0x80, 0x8f, 0x90, 0x9f, 0xa0, 0xbf, 0xc0, 0xc1, 0xc2, 0xdf, 0xe0, 0xe1, 0xec, 0xed, 0xee, 0xef, 0xf0, 0xf1, 0xf3, 0xf4, 0xf5, 0xff]
+
+
+def utf8(length):
+    """A COMMENT of every sequence of so many bytes at the edges of RFC 3629's rows."""
+    for c in itertools.product(UTF8_EDGES, repeat=length):
+        yield with_value('COMMENT', bytes(c), last=True)
+
+
+def by_hand():
+    out = [with_value(key, v, last) for key, values in VALUES.items() for v in values for last in (False, True)]
+    head = minimal()
+    swap = head.replace
+    # sections
+    out += [b'', b'\n', b'[GLOBAL]\n', b'\n\n\n' + head, b' ' + head, head[:-1], head[:-7], head + b'\n[', swap(b'[DATA]\n', b'\n\n[DATA]\n'), swap(b'\n[DATA]', b' \n[DATA]'), swap(b'\n', b'\r\n'),
+            b'[GLOBAL]\n[STREAM]\n\n[POSITION]\n\n[DATA]\n', b'[GLOBAL]\n[STREAM]\n[STREAM]\n[STREAM]\n[POSITION]\n[POSITION]\n[DATA]\n', b'[GLOBAL]\n\n[STREAM]\n\n[POSITION]\n\n[DATA]\n',
+            swap(b'[GLOBAL]\n', b'[GLOBAL]\n\n\n'), swap(b'[STREAM]\n', b'\n\n[STREAM]\n\n\n'), swap(b'[STREAM]', b'[Stream]'), swap(b'[STREAM]', b'[POSITION]'), swap(b'NUM_STATES', b'[X]:y\nNUM_STATES'),
+            swap(b'GV_OFF_CONTEXT:', b'GV_OFF_CONTEXT:"a\n[b"'), swap(b'[DATA]\n', b'[DATA]\n[GLOBAL]\n\n[DATA]\n')]
+    # keys
+    for line in (b'"COMMENT":x', b'"COMMENT"', b'"COMMENT', b'"COMMENT"x:y', b'"COMMENT" :y', b'COMMENT', b'COMMENT :x', b' COMMENT:x', b':x', b'"":x', b'"A:B":x', b'"A\nB":x', b'NOTE:"x', b'NOTE:"x"y"', b'comment:x',
+                 b'COMMENT:a\nCOMMENT:b', b'COMMENT:a\n"COMMENT":b', b'COMMENT:a\nCOMMENT', b'COMMENT:a\nCOMMENTx', b'NOTE:a\nNOTE:b', b'\nCOMMENT:a\n\n', b'NUM_STATES:x\nNUM_STATES:1', b'\xff:x', b'\xe3\x81\x82:x', b'COMMENT[A]:x'):
+        out += [with_line('COMMENT', line), with_line('COMMENT', line, True), with_line('USE_GV', line), with_line('GV_TREE', line, True)]
+    # groups
+    for line in (b'USE_GV[A]:1\nUSE_GV[A]:1', b'USE_GV[A]:x\nUSE_GV[A]:1', b'USE_GV[A]:1\nUSE_GV[A]:x', b'USE_GV[A:1', b'USE_GV]:1', b'USE_GV[A]x:1', b'"USE_GV[A]":1', b'"USE_GV"[A]:1', b'[A]:x', b'x[A]:"', b'USE_GV[A][A]:1',
+                 b'USE_GV[B]:1', b'USE_GV[]:1', b'use_gv[A]:x', b'USE_GV[[A]]:1', b'USE_GV[A]]:1', b'"USE_GV[A\nB]":1', b'OPTION[A]:"a', b'OPTION[A]:"a\nb"', b'USE_GV[B]:x\nVECTOR_LENGTH[C]:y', b'USE_GV[A]:x\nNOTE'):
+        out += [with_line('USE_GV', line), with_line('USE_GV', line, True)]
+    for line in (b'GV_PDF[A]:\nGV_PDF[A]:', b'GV_PDF[A]:\nGV_PDF[A]:1-2', b'GV_TREE[A]:1-2', b'GV_TREE[A]:', b'STREAM_WIN[B]:\nSTREAM_PDF[B]:0-0\nSTREAM_TREE[B]:0-0', b'DURATION_PDF[A]:x', b'DURATION_PDF:5-6', b'"DURATION_PDF":5-6\nDURATION_PDF:x'):
+        out += [with_line('GV_TREE', line), with_line('GV_TREE', line, True)]
+    # more than eight groups: a fault in the ninth, the tenth, both; too many alone
+    good = lambda n: b'VECTOR_LENGTH[%s]:1\nNUM_WINDOWS[%s]:1\nIS_MSD[%s]:0' % (n, n, n)
+    nine = [good(b'N%d' % k) for k in range(10)]
+    out.append(with_line('USE_GV', b'\n'.join(nine)))
+    for k in (7, 8, 9):
+        for bad in (b'USE_GV[N%d]:x', b'IS_MSD[N%d]:1', b'USE_GV[N%d]:'):
+            out.append(with_line('USE_GV', b'\n'.join(nine + [bad % k])))
+    out.append(with_line('USE_GV', b'\n'.join(nine + [b'USE_GV[N9]:x', b'USE_GV[N8]:'])))
+    out.append(with_line('USE_GV', b'\n'.join([b'USE_GV[N9]:x'] + nine + [b'USE_GV[N8]:'])))
+    # 12 of a section before anything of the next
+    out.append(minimal(types=[b'N'] * 9).replace(b'[STREAM]\n', b'[STREAM]\n\xff'))
+    out.append(minimal(options=17).replace(b'[POSITION]\n', b'[POSITION]\n\xff'))
+    out.append(minimal(types=[b'N'] * 9).replace(b'NUM_STATES:1', b'NUM_STATES:'))
+    # UTF-8
+    for c in (b'\x80', b'\xc2', b'\xc2\x80', b'\xc1\xbf', b'\xe0\x9f\xbf', b'\xe0\xa0\x80', b'\xed\x9f\xbf', b'\xed\xa0\x80', b'\xee\x80\x80', b'\xf0\x8f\xbf\xbf', b'\xf0\x90\x80\x80', b'\xf4\x8f\xbf\xbf', b'\xf4\x90\x80\x80', b'\xf5\x80\x80\x80',
+              b'\xe3\x81', b'\xf0\x90\x80', b'\xe3\x81\x82\xff', b'a\xffb\xfe'):
+        out += [with_value('COMMENT', c), with_value('COMMENT', c, True), with_value('USE_GV', c, True), with_value('DURATION_PDF', c, True)]
+    return out
+
+
+def short_values(length):
+    """The minimal header in which the value of one key of each kind, or a whole line, is every short text; at the section's end, so that it can meet the end."""
+    from treetexts import short_texts
+    alphabet = [b'0', b'5', b'-', b',', b'"', b'\n', b'x', b':', b'[', b']']
+    for t in short_texts(alphabet, length):
+        for key in ('COMMENT', 'NUM_STATES', 'STREAM_TYPE', 'IS_MSD', 'OPTION', 'DURATION_PDF', 'STREAM_WIN', 'STREAM_TREE', 'GV_PDF'):
+            yield with_value(key, t, last=True)
+        yield with_line('COMMENT', t)
+        yield with_line('USE_GV', b'USE_GV' + t)

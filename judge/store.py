@@ -114,7 +114,7 @@ def under_quota(make, number_of, quota, longest):
 
 
 def header_inputs():
-    out = headers.at_limits()
+    out = headers.at_limits() + headers.by_hand()
     for key in headers.GLOBAL + headers.STREAM + headers.DURATION + headers.POSITION:
         out += [headers.without(key, False), headers.without(key, True)]
     quota = {0: 800, 1: 120, 2: 150, 3: 150, 4: 100, 5: 180, 6: 150, 7: 150, 8: 150, 9: 250, 10: 80, 12: 40}
@@ -134,6 +134,7 @@ def tree_inputs():
 
 def voice_inputs():
     """Every number that a load can give at least a few times; most of them load in full."""
+    yield from voices.by_hand()
     left = {'all': 230, 'mixed': 200, 1: 10, 2: 10, 3: 3, 5: 5, 6: 5, 7: 5, 8: 5, 9: 15, 13: 20, 14: 20, 16: 25, 17: 25, 18: 20, 19: 25, 21: 25, 22: 25, 23: 25}
     n = 0
     while any(left.values()) and n < 60000:

@@ -2,7 +2,8 @@
 """The clauses of crates/written/specs, transcribed rule by rule, and held against the oracle.
 
   transcribed.py headers|trees|voices FROM TO     the generated inputs of these numbers
-  transcribed.py short                            all short texts over small alphabets: tree text, and header text of each kind of value
+  transcribed.py tables FROM TO                   walks over any tables
+  transcribed.py short [LENGTH]                   all short texts over small alphabets: tree text, and header text of each kind of value
   transcribed.py byhand                           the inputs by hand
 
 A relation `R a b` of the crate is here a generator that yields every b for which a rule gives R a b; a rule that asks for a place tries all places. So a text has
@@ -10,6 +11,7 @@ as many answers here as the rules allow. Counted: texts with no answer, with mor
 oracle's (through reading.py, which is compared with the oracle in the same run)."""
 import collections
 import itertools
+import random
 import sys
 
 import compare
@@ -854,6 +856,36 @@ def From(qs, ls, answer, k, m, asked):
         k, m, asked = after[0], m - 1, asked + 1
 
 
+def Loaded(answers, rows, k, m):
+    """Every outcome from record k on; m questions are still allowed."""
+    asked = 0
+    while True:
+        if not k < len(rows):
+            yield (24,)
+            return
+        kind, a, y, n = rows[k]
+        if kind >= 2:
+            yield (24,)
+        elif kind == 1:
+            yield a, asked
+        elif not a < len(answers):
+            yield (24,)
+        elif asked == m:
+            yield (25,)
+        else:
+            k, asked = (y if answers[a] else n), asked + 1
+            continue
+        return
+
+
+def LoadedTree(answers, trees, records, t, m):
+    if not t < len(trees):
+        yield (24,)
+    else:
+        _, first, count, _ = trees[t]
+        yield from Loaded(answers, records[first:first + count], 0, m)
+
+
 # ---- Blocks
 
 def Block(t, w, block):
@@ -909,7 +941,7 @@ class Held:
         self.counts[what] += 1
         different = set(map(str, answers))
         for wrong, name in ((not answers, 'no answer'), (len(different) > 1, 'more than one answer'), (len(answers) > len(different), 'one answer derived twice'),
-                            (len(different) == 1 and answers[0] != want, 'another answer than the oracle\'s')):
+                            (len(different) == 1 and answers[0] != want, 'another answer')):
             self.counts['%s: %s' % (what, name)] += wrong
             if wrong and len(self.shown) < 10 and name != 'one answer derived twice':
                 self.shown.append('%s: %s\n  %r\n  rules  %s\n  wanted %s' % (what, name, b, ' | '.join(sorted(different))[:300], str(want)[:300]))
@@ -977,6 +1009,24 @@ class Held:
                     want = (r.number,)
                 self.one('walks', b, walked, want)
 
+    def tables(self, first, last):
+        """Walks over any tables: what the loaded walk's rules give against the reading."""
+        for n in range(first, last):
+            r = random.Random('tables %d' % n)
+            number = lambda: r.choice((0, 0, 1, 1, 2, 3, 4, 5, 2 ** 32, 2 ** 64 - 1)) if r.random() < .2 else r.randrange(4)
+            trees = [[number() for _ in range(4)] for _ in range(r.randrange(3))]
+            if trees and r.random() < .8:
+                trees[0][1], trees[0][2] = r.randrange(2), r.choice((3, 5, 6, 8, 2 ** 64 - 1))
+            records = [[r.choice((0, 0, 0, 1, 1, 2 if r.random() < .2 else 0)), number(), number(), number()] for _ in range(r.randrange(9))]
+            answers, limit = bytes(r.choice((0, 1, 255)) for _ in range(r.randrange(6))), r.choice((0, 1, 2, 3, 5, 50))
+            flat = lambda rows: [v for row in rows for v in row]
+            t = r.choice((0, 0, 0, 1, 2))
+            try:
+                want = reading.walk(flat(trees) + [7] * r.randrange(4), flat(records) + [7] * r.randrange(4), t, answers, limit)
+            except reading.Refused as refused:
+                want = (refused.number,)
+            self.one('walks over any tables', (trees, records, t, answers, limit), list(LoadedTree(answers, trees, records, t, limit)), want)
+
     def report(self):
         for key, n in sorted(self.counts.items()):
             print('%9d  %s' % (n, key))
@@ -984,25 +1034,6 @@ class Held:
             print(s)
         print('the reading against the oracle:')
         return self.judge.report() or any(n for key, n in self.counts.items() if ':' in key and key.split(': ')[1].startswith(('no ', 'more', 'another')))
-
-
-VALUE_ALPHABET = [b'0', b'5', b'-', b',', b'"', b'\n', b'x', b':', b'[', b']']
-VALUE_KEYS = [(b'COMMENT:', b'FULLCONTEXT_VERSION:1\n', b''), (b'NUM_STATES:', b'NUM_STATES:1\n', b''), (b'STREAM_TYPE:', b'STREAM_TYPE:A\n', b''),
-              (b'DURATION_PDF:', b'DURATION_PDF:0-1\n', b''), (b'IS_MSD[A]:', b'IS_MSD[A]:0\n', b''), (b'OPTION[A]:', b'', b''), (b'STREAM_WIN[A]:', b'STREAM_WIN[A]:0-1\n', b''),
-              (b'GV_PDF[A]:', b'', b''), (b'STREAM_TREE[A]:', b'STREAM_TREE[A]:0-1\n', b''), (b'', b'', b'')]
-
-
-def short_headers(length):
-    """A minimal header in which the value of one key, of each kind, is every short text."""
-    head = headers.minimal()
-    for key, old, _ in VALUE_KEYS:
-        section = b'[STREAM]\n' if key[:6] in (b'IS_MSD', b'OPTION') else b'[POSITION]\n' if key[:2] in (b'DU', b'ST', b'GV') and not key.startswith(b'STREAM_TYPE') else b'[GLOBAL]\n'
-        for t in treetexts.short_texts(VALUE_ALPHABET, length):
-            line = key + t + b'\n'
-            if old and old.startswith(key):
-                yield head.replace(old, line)
-            else:
-                yield head.replace(section, section + line)
 
 
 def main(argv):
@@ -1013,11 +1044,13 @@ def main(argv):
         getattr(held, what)(make(n) for n in range(int(argv[2]), int(argv[3])))
     elif what == 'short':
         length = int(argv[2]) if len(argv) > 2 else 3
-        held.headers(short_headers(length))
-        for before, alphabet, after, _ in treetexts.SEAMS:
+        held.headers(headers.short_values(length))
+        for before, alphabet, after in treetexts.SEAMS:
             held.trees(before + t + after for t in treetexts.short_texts(alphabet, length + 2))
+    elif what == 'tables':
+        held.tables(int(argv[2]), int(argv[3]))
     elif what == 'byhand':
-        held.headers(store.header_inputs()[:60])
+        held.headers(headers.at_limits() + headers.by_hand())
         held.trees(store.tree_inputs()[:400])
     sys.exit(held.report())
 

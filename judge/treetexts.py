@@ -149,11 +149,11 @@ def short_texts(alphabet, length):
 
 # a beginning and an end around all short texts of pieces: what is read there is decided by the middle
 SEAMS = [
-    (b'', [b'QS', b' ', b'\n', b'\t', b'A', b'{x}', b'{*}[2]p1'], b'', 6),
-    (b'{*}[2]', [b'1', b'a', b'_', b'-', b'"', b' ', b'{', b'}'], b'', 6),
-    (b'{*}', [b' ', b'\n', b'\t', b'[', b'2', b'-', b']', b'p1'], b'', 6),
-    (b'{*}[2]{', [b'0', b' ', b'\n', b'\t', b'0 A 0 p1', b'}', b'A'], b'', 6),
-    (b'QS A {', [b'x', b'"', b',', b' ', b'\n', b'\t', b'}'], b'\n{*}[2]p1', 6),
-    (b'{*}[2]p1', [b' ', b'\n', b'\t', b'{*}[2]p1', b'x', b'\xff'], b'', 6),
-    (b'QS A {x}', [b' ', b'\n', b'\t', b'QS B {y}', b'{*}[2]p1', b'x'], b'{*}[3]p2', 6),
+    (b'', [b'QS', b' ', b'\n', b'\t', b'A', b'{x}', b'{*}[2]p1'], b''),
+    (b'{*}[2]', [b'1', b'a', b'_', b'-', b'"', b' ', b'{', b'}'], b''),
+    (b'{*}', [b' ', b'\n', b'\t', b'[', b'2', b'-', b']', b'p1'], b''),
+    (b'{*}[2]{', [b'0', b' ', b'\n', b'\t', b'0 A 0 p1', b'}', b'A'], b''),
+    (b'QS A {', [b'x', b'"', b',', b' ', b'\n', b'\t', b'}'], b'\n{*}[2]p1'),
+    (b'{*}[2]p1', [b' ', b'\n', b'\t', b'{*}[2]p1', b'x', b'\xff'], b''),
+    (b'QS A {x}', [b' ', b'\n', b'\t', b'QS B {y}', b'{*}[2]p1', b'x'], b'{*}[3]p2'),
 ]

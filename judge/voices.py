@@ -201,6 +201,76 @@ def wide(width):
     return Voice(r, 0, 0, 0, 1, 1, [Stream('A', width // 2, 1, width % 2, 0)], plain=True).file()
 
 
+# ---- by hand
+
+def pdf(counts, values):
+    return struct.pack('<%dI' % len(counts), *counts) + struct.pack('<%dI' % len(values), *values)
+
+
+ONE = pdf([1], [0x3f800000, 0x40000000])  # one entry of width 2
+QS = b'QS A {a}\nQS B {b}\nQS C {c}\n'
+
+
+def simple(text=b'{*}[2]p_1', block=ONE, gv=None, swap=()):
+    """A voice of one stream M of width 2, whose model has this text and block; the duration model is a bare leaf; `swap` replaces parts of the header."""
+    data, where = b'', {}
+    for name, part in ('DT', b'{*}[2]d_1'), ('DP', ONE), ('T', text), ('P', block), ('GT', gv and gv[0]), ('GP', gv and gv[1]):
+        if part is not None:
+            where[name] = b'%d-%d' % (len(data), len(data) + len(part) - 1)
+            data += part
+    head = b'[GLOBAL]\nHTS_VOICE_VERSION:1\nSAMPLING_FREQUENCY:1\nFRAME_PERIOD:1\nNUM_STATES:1\nNUM_STREAMS:1\nSTREAM_TYPE:M\nFULLCONTEXT_FORMAT:x\nFULLCONTEXT_VERSION:1\n'
+    head += b'[STREAM]\nVECTOR_LENGTH[M]:1\nNUM_WINDOWS[M]:1\nIS_MSD[M]:0\nUSE_GV[M]:%d\n' % (gv is not None)
+    head += b'[POSITION]\nDURATION_PDF:%s\nDURATION_TREE:%s\nSTREAM_WIN[M]:0-0\nSTREAM_PDF[M]:%s\nSTREAM_TREE[M]:%s\n' % (where['DP'], where['DT'], where['P'], where['T'])
+    if gv:
+        head += b'GV_PDF[M]:%s\nGV_TREE[M]:%s\n' % (where['GP'], where['GT'])
+    head += b'[DATA]\n'
+    for old, new in swap:
+        head = head.replace(old, new)
+    return head + data
+
+
+def by_hand():
+    two = pdf([2], [0x3f800000, 0x40000000, 0x40400000, 0x40800000])
+    tree = lambda body: QS + b'{*}[2]' + body
+    out = [simple(tree(b), pdf([3] + [0] * b.count(b'{*}'), SPECIAL[:6])) for b in (
+        b'{ 0 A -1 p_3\n-1 B p_1 p_3 }', b'{0 A p_1 p_2}', b'{0 A p_1 p_1}', b'{0 A p_1 q_1}', b'{0 nowhere p_1 "x1"}', b'{}', b'p_3', b'"p_3"', b'p_4', b'p_0',
+        b'{0 A 0 0}', b'{0 A 0 p_1}', b'{0 A p_1 0}', b'{0 A -1 -1\n-1 B 0 0}', b'{0 A -1 p_1\n-1 B -2 p_2\n-2 C 0 p_3}',           # trees that go round
+        b'{0 A -1 p_1\n-1 B p_2 p_2\n-1 C p_3 p_3}', b'{5 A 7 p_1\n7 B p_2 5\n7 C p_3 7}', b'{0 A p_1 p_1\n0 A p_1 p_1}', b'{-0 A 00 p_1\n0 B p_1 p_2}',  # repeated ids, repeated leaves
+        b'{0 A 1 p_1}', b'{0 A p_1 1}', b'{0 A 1 2}', b'{0 X p_1 p_2}', b'{0 X 1 p_2}', b'{0 X p_1 1}', b'{0 A p_1 p_2\n1 X p_1 p_2}', b'{0 A p_1 p_2\n1 X p_1 9}', b'{0 X p_1 p_2\n1 A 9 9}',  # 21 and 22, in their order
+        b'-1', b'"7"', b'{0 A 7 7}', b'{0 X 7 7}', b'p_1\n{*}[3]{0 A 9 p_1}', b'{0 A 9 p_1}\n{*}[3]-1', b'-1\n{*}[3]{0 A 9 p_1}', b'{0 A p_9223372036854775807 p_1}')]
+    # two questions of one name; no question
+    out += [simple(b'QS A {a}\nQS A {b}\n{*}[2]{0 A p_1 p_2}', two), simple(b'QS A {a}\nQS B {b}\nQS A {c}\n{*}[2]{0 A p_1 p_2\n1 B p_1 p_2}', two), simple(b'{*}[2]{0 A p_1 p_2}', two), simple(b'{*}[2]{0 A p_1 p_1}', two)]
+    # several trees, entries of each
+    out += [simple(b'{*}[2]p_1\n{*}[3]p_2', pdf([1, 2], SPECIAL[:6])), simple(b'{*}[2]p_1\n{*}[2]{}\n{*}[4]p_2', pdf([0, 0, 1], SPECIAL[8:10])), simple(b'{*}[2]p_1\n{*}[3]p_1', pdf([1], SPECIAL[:2]))]
+    # blocks: width 0 to 5, counts and lengths one off, every special value
+    for length, windows, msd in (0, 1, 0), (1, 0, 0), (0, 1, 1), (1, 1, 1), (2, 1, 0), (1, 2, 1):
+        width = 2 * length * windows + msd
+        sizes = (b'VECTOR_LENGTH[M]:1', b'VECTOR_LENGTH[M]:%d' % length), (b'NUM_WINDOWS[M]:1', b'NUM_WINDOWS[M]:%d' % windows), (b'IS_MSD[M]:0', b'IS_MSD[M]:%d' % msd)
+        out += [simple(block=pdf([n], (SPECIAL * 2)[k:k + n * width + more]), swap=sizes) for n, k, more in ((0, 0, 0), (1, 3, 0), (2, 9, 0), (1, 0, 1), (2, 0, -1 if width else 0), (0, 0, 1))]
+    out += [simple(block=b) for b in (b'', b'\x01', b'\x01\0\0', b'\0\0\0\0', ONE[:-1], ONE + b'\0', ONE[:4], b'\xff\xff\xff\xff', b'\xff\xff\xff\xff' + ONE[4:], ONE + ONE, pdf([len(SPECIAL) // 2], SPECIAL))]
+    # which model: 13, 14, 15, 12, and what comes first
+    good = (b'{*}[2]g_1', ONE)
+    big = (b'VECTOR_LENGTH[M]:1', b'VECTOR_LENGTH[M]:2049')
+    for swap in ([], [(b'STREAM_TYPE:M', b'STREAM_TYPE:M,N')], [(b'STREAM_TYPE:M', b'STREAM_TYPE:M,M')], [(b'STREAM_TYPE:M', b'STREAM_TYPE:')], [(b'LENGTH[M]', b'LENGTH[N]'), (b'WINDOWS[M]', b'WINDOWS[N]'), (b'MSD[M]', b'MSD[N]'), (b'GV[M]', b'GV[N]')],
+                 [(b'_PDF[M]', b'_PDF[N]'), (b'_TREE[M]', b'_TREE[N]'), (b'WIN[M]', b'WIN[N]')], [(b'[M]', b'[N]')], [(b'USE_GV[M]:1', b'USE_GV[M]:0')], [(b'USE_GV[M]:1\n', b'')], [(b'GV_PDF[M]', b'GV_PDX[M]')], [(b'GV_TREE[M]', b'GV_TREX[M]')],
+                 [big], [(b'VECTOR_LENGTH[M]:1', b'VECTOR_LENGTH[M]:2048'), (b'IS_MSD[M]:0', b'IS_MSD[M]:1')], [(b'VECTOR_LENGTH[M]:1', b'VECTOR_LENGTH[M]:2048')], [(b'VECTOR_LENGTH[M]:1', b'VECTOR_LENGTH[M]:9223372036854775809')],
+                 [(b'NUM_WINDOWS[M]:1', b'NUM_WINDOWS[M]:18446744073709551615')], [(b'NUM_STATES:1', b'NUM_STATES:2048')], [(b'NUM_STATES:1', b'NUM_STATES:2049')], [(b'NUM_STATES:1', b'NUM_STATES:0')],
+                 [big, (b'STREAM_TREE[M]:', b'STREAM_TREE[M]:9')], [big, (b'USE_GV[M]:1', b'USE_GV[M]:0')]):
+        out.append(simple(gv=good, swap=swap))
+    # ranges: empty, one off, past the data, start past end; with a faulty text or block beside them
+    base = simple(b'{*}[2]p_1 ', ONE + b'\0')
+    tree, block = (base[base.index(k) + len(k):].split(b'\n')[0] for k in (b'STREAM_TREE[M]:', b'STREAM_PDF[M]:'))
+    a, z = map(int, tree.split(b'-'))
+    c, y = map(int, block.split(b'-'))
+    for r in ((a, z - 1), (a, z), (a, z - 2), (a + 1, z), (a - 1, z), (a, a - 1), (a, a - 2), (0, 0), (a, y), (a, y + 1), (a, 2 ** 64 - 1), (0, 2 ** 64 - 1), (2 ** 64 - 1, 2 ** 64 - 1), (y + 1, y), (y + 2, y + 1), (2 ** 64 - 1, 2 ** 64 - 2), (2 ** 63, 5)):
+        for t in (b'%d-%d' % r, b'%d-%d' % (a, z)):
+            for p in (b'%d-%d' % (c, y - 1), b'%d-%d' % (c, y), b'%d-%d' % r):
+                out.append(base.replace(b'STREAM_TREE[M]:' + tree, b'STREAM_TREE[M]:' + t).replace(b'STREAM_PDF[M]:' + block, b'STREAM_PDF[M]:' + p))
+    # 17 before 18, 18 before what is wrong with the block, 19 before linking
+    out += [simple(t, b) for t in (b'{*}[-2]p_1', b'{*}[-2]p_1x', b'{*}[-2]-1', b'{*}[2]-1', b'{*}[2]p_1\n\xff') for b in (ONE, ONE[:-1])]
+    return list(dict.fromkeys(out))
+
+
 if __name__ == '__main__':
     seed, lines, path = sys.argv[1:]
     with open(path, 'wb') as f:
