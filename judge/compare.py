@@ -2,11 +2,14 @@
 """Runs the oracle, the second reading and, once it is there, the product on the same inputs, and compares every line of their answers.
 
   compare.py headers|trees|voices|walks FROM TO     the generated inputs of these numbers
+  compare.py texts FROM TO                          the generated tree texts, each as a stream of a whole voice
   compare.py byhand                                 the inputs by hand, each limit, each field missing
   compare.py short [LENGTH]                         all short tree texts over small alphabets (LENGTH pieces), all short header values (LENGTH - 2 bytes)
   compare.py utf8                                   all sequences of up to four bytes at the edges of RFC 3629's rows
+  compare.py large                                  ordinary voices of up to 14 MB; files about the limit
   compare.py files FILE..                           whole voices
   --product 'COMMAND'   also compare the product: COMMAND reads hex lines and prints the dump of each and END (`larsavim hex`)
+  --walker 'COMMAND'    the same for walks: COMMAND reads lines of hex, model, tree, answers, limit and prints `PDF n ASKED k` or `REFUSED n`, and END
   --no-oracle           leave the oracle out (where there is no cargo)
 Prints figures, and up to ten differences that no rule explains; the exit status is 1 if there is any.
 
@@ -70,9 +73,9 @@ def text_ends_badly(text):
 
 class Judge:
     """Counts, and keeps the first differences."""
-    def __init__(self, product=None, oracle=True):
+    def __init__(self, product=None, walker=None, oracle=True):
         self.counts, self.shown, self.bad = collections.Counter(), [], 0
-        self.product = product
+        self.programs = {'dump': product, 'open': product, 'walk': walker}
         self.oracle = oracle and subprocess.run([os.path.join(HERE, '..', 'oracle', 'build')], stdout=subprocess.PIPE, universal_newlines=True, check=True).stdout.strip()
 
     def differ(self, what, line, mine, other):
@@ -97,9 +100,9 @@ class Judge:
         if self.oracle:
             for line, m, o in zip(lines, mine, run([self.oracle, mode], lines)):
                 getattr(self, mode)(line, m, o)
-        if self.product and mode in ('dump', 'open'):
-            for line, m, p in zip(lines, mine, run(self.product, lines)):
-                self.lines_alike('product', line, m, p if mode == 'dump' else by_model(p)[0])
+        if self.programs.get(mode):
+            for line, m, p in zip(lines, mine, run(self.programs[mode], lines)):
+                self.lines_alike('product', line, m, by_model(p)[0] if mode == 'open' else p)
 
     # ---- one answer of each mode
 
@@ -210,23 +213,34 @@ def walks(first, last):
         yield '%s %d %d %s %d' % (b.hex(), which, r.choice((0, 0, 0, 1, 2)), answers.hex() or '-', r.choice((0, 1, 2, 3, 5, 100)))
 
 
+def taken(argv, option):
+    """The words of an option's value, taken out of the arguments."""
+    if option not in argv:
+        return None
+    k = argv.index(option)
+    value = argv[k + 1].split()
+    del argv[k:k + 2]
+    return value
+
+
 def main(argv):
-    product, oracle = None, True
-    if '--no-oracle' in argv:
-        argv.remove('--no-oracle')
-        oracle = False
-    if '--product' in argv:
-        k = argv.index('--product')
-        product = argv[k + 1].split()
-        del argv[k:k + 2]
-    judge = Judge(product, oracle)
+    product, walker = taken(argv, '--product'), taken(argv, '--walker')
+    oracle = '--no-oracle' not in argv
+    argv = [a for a in argv if a != '--no-oracle']
+    judge = Judge(product, walker, oracle)
     what, rest = argv[1], argv[2:]
-    if what in ('headers', 'trees', 'voices', 'walks'):
-        first, last = map(int, rest)
-        mode, make = {'headers': ('open', headers.header), 'trees': ('tree', treetexts.tree_text), 'voices': ('dump', voices.voice), 'walks': ('walk', None)}[what]
-        judge.all(mode, walks(first, last) if what == 'walks' else (make(n).hex() for n in range(first, last)))
+    modes = {'headers': ('open', headers.header), 'trees': ('tree', treetexts.tree_text), 'voices': ('dump', voices.voice), 'texts': ('dump', lambda n: voices.around(treetexts.tree_text(n)))}
+    if what in modes:
+        mode, make = modes[what]
+        judge.all(mode, (make(n).hex() for n in range(int(rest[0]), int(rest[1]))))
+    elif what == 'walks':
+        judge.all('walk', walks(int(rest[0]), int(rest[1])))
     elif what == 'byhand':
         by_hand(judge)
+    elif what == 'large':
+        for b in [voices.large(seed, lines) for seed, lines in ((1, 10), (2, 300), (3, 2100))] + [voices.padded(reading.FILE_LIMIT + k) for k in (-1, 0, 1)]:
+            print(len(b), 'bytes')
+            judge.batch('dump', [b.hex()])
     elif what == 'short':
         short(judge, int(rest[0]) if rest else 6)
     elif what == 'utf8':

@@ -102,7 +102,7 @@ class Writer:
             state = r.choice(BAD_IDS) if self.chance(self.faulty) else r.choice(IDS) if self.chance(self.odd * .3) else str(r.randint(0, 6))
             n = r.choice((0, 1, 1, 2, 3, 5))
             ids = [r.choice(BAD_IDS) if self.chance(self.faulty) else r.choice(IDS) if self.chance(self.odd) else str(-k) for k in range(n)]
-            rows = [self.line(i, r.choice(names) if names and self.chance(.9) else self.name(), self.reference(ids), self.reference(ids)) for i in ids]
+            rows = [self.line(i, r.choice(names) if names and self.chance(.9) else self.name(), self.reference(ids if self.chance(.95) else IDS), self.reference(ids if self.chance(.95) else IDS)) for i in ids]
             trees.append(self.tree(state, self.braces(rows) if rows or self.chance(.2) else self.reference(IDS[:3] if self.chance(.1) else ())))
         return self.whole([self.question(n) for n in names], trees).encode('latin-1')
 

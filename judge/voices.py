@@ -1,6 +1,6 @@
 #!/usr/bin/env python3
 """Whole voices. `voice(n)` is always the same for the same n: small ordinary and odd ones, whole or damaged. `large(seed, lines)` is an ordinary one of
-about any size, as training tools write them. As a command:  voices.py SEED LINES FILE   writes a large one (8,000 lines a tree make 14 MB)."""
+about any size, as training tools write them. As a command:  voices.py SEED LINES FILE   writes a large one (2,100 lines a tree make 14 MB)."""
 import random
 import struct
 import sys
@@ -195,6 +195,12 @@ def large(seed, lines, questions=400):
     return Voice(r, 0, 0, lines, questions, 5, streams, plain=True).file()
 
 
+def padded(size):
+    """An ordinary voice, its data lengthened to a file of this size."""
+    b = simple()
+    return b + bytes(size - len(b))
+
+
 def wide(width):
     """A voice whose one stream has this PDF width (one entry)."""
     r = random.Random('wide %d' % width)
@@ -227,6 +233,11 @@ def simple(text=b'{*}[2]p_1', block=ONE, gv=None, swap=()):
     for old, new in swap:
         head = head.replace(old, new)
     return head + data
+
+
+def around(text):
+    """A voice whose stream has this tree text, and a block with no entry for as many trees as it seems to have."""
+    return simple(text, bytes(4 * text.count(b'{*}')))
 
 
 def by_hand():
