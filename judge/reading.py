@@ -560,28 +560,32 @@ def walk(trees, records, tree, answers, limit):
         k = yes if answers[number] else no
 
 
-def written_walk(s, questions, tree, answers, limit):
-    """The same over the tree as it is written, without tables."""
-    one = single(tree)
-    if one:
-        return one[1], 0
-    ls = tree[3]
-    if not ls:
-        raise Refused(24)
-    k, asked, seen = 0, 0, set()
-    while True:
-        _, (a, b), no, yes = ls[k]
-        q = max(i for i, ((x, y), _) in enumerate(questions) if s[x:y] == s[a:b])
-        if q >= len(answers):
+class WrittenTree:
+    """A tree as it is written, to be walked without tables: the last question of each name, the last line of each id."""
+    def __init__(self, s, questions, tree):
+        self.one, self.lines = single(tree), [(s[a:b], no, yes) for _, (a, b), no, yes in tree[3]]
+        self.question = {s[a:b]: i for i, ((a, b), _) in enumerate(questions)}
+        self.line = {ident: k for k, (ident, _, _, _) in enumerate(tree[3])}
+
+    def walk(self, answers, limit):
+        if self.one:
+            return self.one[1], 0
+        if not self.lines:
             raise Refused(24)
-        if asked == limit or k in seen:
-            raise Refused(25)
-        seen.add(k)
-        asked += 1
-        kind, n = yes if answers[q] else no
-        if kind == 'P':
-            return n, asked
-        k = max(i for i, line in enumerate(ls) if line[0] == n)
+        k, asked, seen = 0, 0, set()
+        while True:
+            name, no, yes = self.lines[k]
+            q = self.question[name]
+            if q >= len(answers):
+                raise Refused(24)
+            if asked == limit or k in seen:
+                raise Refused(25)
+            seen.add(k)
+            asked += 1
+            kind, n = yes if answers[q] else no
+            if kind == 'P':
+                return n, asked
+            k = self.line[n]
 
 
 def leaves_fit(questions, trees, records, blocks, values, width):
@@ -695,13 +699,19 @@ def tree_lines(s):
             yield 'L %d %s %s%d %s%d' % ((ident, quoted(s, name)) + no + yes)
 
 
+def outcome(walking, *args):
+    try:
+        return 'PDF %d ASKED %d' % walking(*args)
+    except Refused as r:
+        return 'REFUSED %d' % r.number
+
+
 def walk_line(file, which, tree, answers, limit):
     try:
         m = Model(file, Header(file), which)
-        n, asked = walk(m.trees, m.records, tree, answers, limit)
     except Refused as r:
         return 'REFUSED %d' % r.number
-    return 'PDF %d ASKED %d' % (n, asked)
+    return outcome(walk, m.trees, m.records, tree, answers, limit)
 
 
 def answer(mode, line):

@@ -44,8 +44,9 @@ fn run(mode: &str, input: &[u8], args: &[&str], o: &mut String) {
         }
         "tree" => load::text(input, o),
         "walk" => walk::walk(input, args, o),
+        "walks" => walk::walks(input, o),
         _ => {
-            eprintln!("oracle open|dump|tree|walk [FILE]   (no FILE: hex lines on standard input)");
+            eprintln!("oracle open|dump|tree|walk <hex lines    oracle open|dump|tree FILE    oracle walks FILE <lines");
             std::process::exit(2);
         }
     }
