@@ -811,6 +811,39 @@ def Refused(qs, body):
                     yield c, k
 
 
+def linked(qs, body, rows):
+    """Linked: what the walk needs of a tree's records."""
+    leaf = lambda row: row[0] == 1 and row[2:] == (0, 0)
+    for kind, n in Single(body):
+        if kind == 1 and rows == ((1, n, 0, 0),):
+            return True
+    if body == (1, ()):
+        return rows == ()
+    if body[0] == 0 or list(Single(body)):
+        return False
+    ls = body[1]
+    front, leaves = rows[:len(ls)], rows[len(ls):]
+    to = lambda r, k: k in Last(lambda l: l[0] == r[1], ls) if r[0] == 0 else k < len(rows) and rows[k] == (1, r[1], 0, 0)
+    return len(front) == len(ls) and all(map(leaf, leaves)) and all(
+        row[0] == 0 and row[1] in Last(lambda name: name == l[1], qs) and to(l[3], row[2]) and to(l[2], row[3]) for l, row in zip(ls, front))
+
+
+def broken(qs, body):
+    """Broken: demand 3's own words."""
+    if any(kind == 0 for kind, _ in Single(body)):
+        return True
+    if body[0] == 0 or list(Single(body)):
+        return False
+    ls = body[1]
+    return any(r[0] == 0 and not any(e[0] == r[1] for e in ls) for l in ls for r in (l[3], l[2])) or any(l[1] not in qs for l in ls)
+
+
+def other_leaves(r, rows):
+    """The same rows, but for the choice among equal leaves."""
+    alike = lambda k: r.choice([j for j, row in enumerate(rows) if row == rows[k]]) if rows[k][0] == 1 else k
+    return tuple(row if row[0] == 1 else row[:2] + (alike(row[2]), alike(row[3])) for row in rows)
+
+
 def Linkings(qs, ts):
     """TreeRows: every (0, tree rows, records); ModelRefused: every (number, tree, line)."""
     done = [((), ())]
@@ -940,7 +973,7 @@ class Held:
         """The answers that the rules allow against the one that is wanted."""
         self.counts[what] += 1
         different = set(map(str, answers))
-        for wrong, name in ((not answers, 'no answer'), (len(different) > 1, 'more than one answer'), (len(answers) > len(different), 'one answer derived twice'),
+        for wrong, name in ((not answers, 'no answer'), (len(different) > 1, 'more than one answer'), (len(answers) > len(different) and what != 'models: linked rows', 'one answer derived twice'),
                             (len(different) == 1 and answers[0] != want, 'another answer')):
             self.counts['%s: %s' % (what, name)] += wrong
             if wrong and len(self.shown) < 10 and name != 'one answer derived twice':
@@ -991,13 +1024,18 @@ class Held:
         names = [s[x:y] for (x, y), _ in texts[0][0]]
         ts = [(star, x, (kind, tuple((i, s[p:q], no, yes) for i, (p, q), no, yes in body) if kind else body)) for star, x, (kind, body) in texts[0][1]]
         flat = lambda rows: [v for row in rows for v in row]
-        linked = [(a[0], flat(a[1]), flat(a[2])) if a[0] == 0 else a for a in Linkings(names, ts)]
-        self.one('models: linking', b, linked, (0, m.trees, m.records) if m else stopped)
+        linkings = [(a[0], flat(a[1]), flat(a[2])) if a[0] == 0 else a for a in Linkings(names, ts)]
+        self.one('models: linking', b, linkings, (0, m.trees, m.records) if m else stopped)
+        self.one('models: broken', b, [any(broken(names, t[2]) for t in ts)], m is None)
         if m is None:
             return
         rows, values = blocks[0]
         self.one('models: rows and values', b, [(flat(rows), all(kept(v, w) for v, w in zip(values, m.values)), len(values))], (m.blocks, True, len(m.values)))
+        source = random.Random(n)
         for t, (_, _, body) in enumerate(ts):
+            records = list(Records(names, body))[0]
+            others = other_leaves(source, records)
+            self.one('models: linked rows', b, [linked(names, body, records), linked(names, body, others)][:1 + (others != records)], True)
             for k in range(4):
                 answers = bytes((n * 7 + k * 3 + q * q + k * q) % 3 % 2 for q in range(len(names)))
                 limit = (n + k) % 7
@@ -1008,6 +1046,7 @@ class Held:
                 except reading.Refused as r:
                     want = (r.number,)
                 self.one('walks', b, walked, want)
+                self.one('walks over linked rows', b, list(Loaded(answers, others, 0, limit)), want)
 
     def tables(self, first, last):
         """Walks over any tables: what the loaded walk's rules give against the reading."""
