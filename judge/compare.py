@@ -182,6 +182,13 @@ class Judge:
         if batch:
             self.batch(mode, batch)
 
+    def texts(self, texts):
+        """Tree texts; with a product, each as a stream of a whole voice."""
+        if self.programs['dump']:
+            self.all('dump', (voices.around(t).hex() for t in texts), 20000)
+        else:
+            self.all('tree', (t.hex() for t in texts), 50000)
+
     def report(self):
         for key, n in sorted(self.counts.items(), key=lambda kv: [int(x) if x.isdigit() else x for x in re.split(r'(\d+)', kv[0])]):
             print('%9d  %s' % (n, key))
@@ -195,14 +202,14 @@ def by_hand(judge):
     for key in headers.GLOBAL + headers.STREAM + headers.DURATION + headers.POSITION:
         inputs += [headers.without(key, False), headers.without(key, True)]
     judge.all('open', (b.hex() for b in inputs))
-    judge.all('tree', (b.hex() for b in treetexts.BY_HAND))
+    judge.texts(treetexts.BY_HAND)
     judge.all('dump', (b.hex() for b in voices.by_hand() + [voices.wide(w) for w in (1, 2, 4095, 4096, 4097)]))
 
 
 def short(judge, length):
     judge.all('open', (b.hex() for b in headers.short_values(length - 2)), 20000)
     for before, alphabet, after in treetexts.SEAMS:
-        judge.all('tree', ((before + t + after).hex() for t in treetexts.short_texts(alphabet, length)), 50000)
+        judge.texts((before + t + after for t in treetexts.short_texts(alphabet, length)))
 
 
 def walks(first, last):
