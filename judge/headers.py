@@ -308,6 +308,10 @@ def by_hand():
     out.append(minimal(types=[b'N'] * 9).replace(b'[STREAM]\n', b'[STREAM]\n\xff'))
     out.append(minimal(options=17).replace(b'[POSITION]\n', b'[POSITION]\n\xff'))
     out.append(minimal(types=[b'N'] * 9).replace(b'NUM_STATES:1', b'NUM_STATES:'))
+    # 2 before reading order, reading order before missing fields, missing fields before groups
+    out += [head.replace(b'NUM_STATES:1', b'NUM_STATES:x').replace(b'GV_OFF_CONTEXT:', b'GV_OFF_CONTEXT:\xff'), head.replace(b'NUM_STATES:1', b'NUM_STATES:x').replace(b'[STREAM]\n', b'[STREAM]\n\xff'),
+            head.replace(b'FRAME_PERIOD:1\n', b'').replace(b'NUM_STATES:1', b'NUM_STATES:x'), head.replace(b'DURATION_PDF:0-1\n', b'').replace(b'STREAM_PDF[A]:0-1', b'STREAM_PDF[A]:x'),
+            head.replace(b'DURATION_PDF:0-1\n', b'DURATION_PDF:0-x\n').replace(b'STREAM_PDF[A]:0-1', b'STREAM_PDF[A]:x'), head.replace(b'IS_MSD[A]:0\n', b'').replace(b'NUM_WINDOWS[A]:1', b'NUM_WINDOWS[A]:x')]
     # UTF-8
     for c in (b'\x80', b'\xc2', b'\xc2\x80', b'\xc1\xbf', b'\xe0\x9f\xbf', b'\xe0\xa0\x80', b'\xed\x9f\xbf', b'\xed\xa0\x80', b'\xee\x80\x80', b'\xf0\x8f\xbf\xbf', b'\xf0\x90\x80\x80', b'\xf4\x8f\xbf\xbf', b'\xf4\x90\x80\x80', b'\xf5\x80\x80\x80',
               b'\xe3\x81', b'\xf0\x90\x80', b'\xe3\x81\x82\xff', b'a\xffb\xfe'):
