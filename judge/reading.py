@@ -1,5 +1,5 @@
 #!/usr/bin/env python3
-"""A second reading of docs/01-scope.md, for judging the loader: written from its words (and RFC 3629, IEEE 754), from no program.
+"""A second reading of docs/01-scope.md, for judging the loader: written from its words (and RFC 3629, IEEE 754), not after the Rust.
 
   reading.py dump FILE                          the lines of `larsavim dump`
   reading.py open|dump|tree|walk  <hex lines    an input a line, as hex; each answer ends with a line END
