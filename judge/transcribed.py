@@ -264,12 +264,6 @@ def NextLine(T, s):
     return step
 
 
-def Section(T, s, i):
-    for xs, k in Many(NextLine(T, s), i):
-        if each(is_newline, s, k, len(s)) and distinct(T, xs):
-            yield xs
-
-
 # ---- Groups
 
 Row = collections.namedtuple('Row', 'at field group value')
@@ -368,6 +362,7 @@ class SectionOf:
         self.ends = octets_ends(self.u)
         self.octets = len(self.u) in self.ends
         self.beginnings = list(Many(NextLine(T, self.s), x[0])) if self.octets else []
+        # Section: good lines, then perhaps blank ones; no field twice
         self.sections = [xs for xs, k in self.beginnings if each(is_newline, self.s, k, len(self.s)) and distinct(T, xs)]
 
     def said(self):
