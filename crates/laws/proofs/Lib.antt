@@ -4,3 +4,6 @@ pub mod Cursor
 pub mod Tables
 pub mod Ranges
 pub mod Signed
+pub mod Steps
+pub mod Wholes
+pub mod Parted

@@ -8,7 +8,8 @@ use native.Mathlib.Omega.{arith}
 use lib.ListN.{length, getD, take, drop, drop-of-length-le}
 use lib.Seq.{drop-cons}
 use Rattle.written.specs.Bytes.{byteAt, between}
-use Rattle.written.specs.TreeText.{Run, stop as stops, more}
+use Rattle.written.specs.TreeText.{Run, stop as stops, more, Run₁, some}
+use Rattle.written.proofs.Once.{run₁-lt}
 use Rattle.laws.specs.Runs.{run, stop}
 use Rattle.laws.proofs.Runs.{byte-is, byte-out}
 
@@ -58,3 +59,15 @@ module _ (p : ℕ → Bool) (none : p 256 ≡ false) (s : List ℕ) where
   -- and it stands there
   pub run-is : (i : ℕ) → Run s p i (stop p s i)
   run-is i = let r = run-from (length s) i (omega arith) in subst (Run s p i) (sym (run-stop (r .1))) (r .1)
+
+  -- ---- the same for runs of at least one byte
+
+  pub run₁-stop : {i j : ℕ} → Run₁ s p i j → (stop p s i ≡ j) × (i < j)
+  run₁-stop (some y r) = (run-stop (more y r), run₁-lt (some y r))
+
+  pub run₁-is : (i : ℕ) → i < stop p s i → Run₁ s p i (stop p s i)
+  run₁-is i h = go (run-is i) h
+    where
+      go : {j : ℕ} → Run s p i j → i < j → Run₁ s p i j
+      go (stops n) l = absurd (omega arith)
+      go (more y r) l = some y r

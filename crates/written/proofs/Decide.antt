@@ -286,7 +286,7 @@ module _ {A B : Type 0} {Ends : ℕ → Type 0} {Part : ℕ → ℕ → Type 0} 
 -- ---- the rules
 
 module _ (s : List ℕ) where
-  number-le : {i j : ℕ} {x : ℤ} → Number s i j x → i ≤ j
+  pub number-le : {i j : ℕ} {x : ℤ} → Number s i j x → i ≤ j
   number-le (plus d f) = omega (arith, digits-lt d)
   number-le (minus w d f) = omega (arith, word-le s w, digits-lt d)
 
@@ -294,7 +294,7 @@ module _ (s : List ℕ) where
   bare-le (number n) = number-le n
   bare-le (word m r l a d f) = omega (arith, run₁-lt r)
 
-  reference-le : {i j : ℕ} {r : Ref} → Reference s i j r → i ≤ j
+  pub reference-le : {i j : ℕ} {r : Ref} → Reference s i j r → i ≤ j
   reference-le (bare b) = bare-le b
   reference-le (quoted w b v) = omega (arith, word-le s w, bare-le b, word-le s v)
 

@@ -152,7 +152,7 @@ module _ {s : List ℕ} where
   past-newline (byte h end) (more z r) = r
 
   -- so they stop where a parting ends
-  parting-end : {a b c : ℕ} → Parting s a c → Run s blank a b → spaceOrTab (byteAt s b) ≡ false → c ≡ b
+  pub parting-end : {a b c : ℕ} → Parting s a c → Run s blank a b → spaceOrTab (byteAt s b) ≡ false → c ≡ b
   parting-end (parting t w r) b h = run-once r (past-newline w (past t b h)) refl
 
   line-parting-end : {a b c : ℕ} → LineParting s a c → Run s blank a b → spaceOrTab (byteAt s b) ≡ false → c ≡ b

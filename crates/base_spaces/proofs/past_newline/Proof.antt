@@ -1,0 +1,20 @@
+-- `base_spaces::past_newline`: the byte past a run. Assumes nothing.
+use mathlib.Core.Path.{_≡_, ap, _∙_}
+use Rattle.written.specs.Bytes.{newline}
+use Rattle.base_spaces.specs.Spaces.{pastByte, newlineAt}
+use borrow.Author.Needs.{needs}
+use Rattle.base_spaces.proofs.past_newline.Statement.{statement}
+use Rattle.base_spaces.proofs.past_newline.Tie as tie
+
+run-end-requires : tie.Need-run-end-requires
+run-end-requires c κs = search needs
+
+past-byte-requires : tie.Need-past-byte-requires
+past-byte-requires c κs = search needs
+
+returns : tie.Need-returns
+unfolding newlineAt
+returns c = c .past-byte .ensures ∙ ap (pastByte newline _) (c .before .run-end .ensures)
+
+pub past-newline-spec : {M : Type 1} → statement M
+past-newline-spec = tie.close (tie.spec run-end-requires past-byte-requires returns)

@@ -1,0 +1,24 @@
+-- `question::first_item`: by whether a question starts. Assumes nothing.
+use mathlib.Core.Path.{_≡_, refl, sym, ap, ap₂, _∙_}
+use Rattle.question.specs.Questions.{startsQuestion, itemAt}
+use Rattle.question.specs.declared.Item.the-variants.{Tree}
+use borrow.Author.Needs.{needs}
+use Rattle.question.proofs.first_item.Statement.{statement}
+use Rattle.question.proofs.first_item.Tie as tie
+
+starts-question-requires : tie.Need-starts-question-requires
+starts-question-requires c κs = search needs
+
+run-end-requires : tie.Need-run-end-requires
+run-end-requires c κs = search needs
+
+returns : tie.Need-returns
+unfolding itemAt
+returns c = rw (sym (c .before .starts-question .ensures) ∙ c .if1 .taken)
+
+returns-2 : tie.Need-returns-2
+unfolding itemAt
+returns-2 c = ap Tree (c .run-end .ensures) ∙ rw (sym (c .before .before .starts-question .ensures) ∙ c .before .if1 .left)
+
+pub first-item-spec : {M : Type 1} → statement M
+first-item-spec = tie.close (tie.spec starts-question-requires run-end-requires returns returns-2)

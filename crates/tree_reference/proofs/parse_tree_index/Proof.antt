@@ -1,0 +1,41 @@
+-- `tree_reference::parse_tree_index`: each arm is an arm of `opened`. Assumes nothing.
+use mathlib.Core.Path.{_≡_, sym, ap, _∙_}
+use Rattle.tree_reference.specs.References.{opened, referenceAt}
+use borrow.Author.Needs.{needs}
+use Rattle.tree_reference.proofs.parse_tree_index.Statement.{statement}
+use Rattle.tree_reference.proofs.parse_tree_index.Tie as tie
+
+past-byte-requires : tie.Need-past-byte-requires
+past-byte-requires c κs = search needs
+
+enum-known-inside : tie.Need-enum-known-inside
+enum-known-inside c = search needs
+
+parse-quoted-requires : tie.Need-parse-quoted-requires
+parse-quoted-requires c κs = search needs
+
+enum-told : tie.Need-enum-told
+enum-told c = search needs
+
+parse-bare-requires : tie.Need-parse-bare-requires
+parse-bare-requires c κs = search needs
+
+returns : tie.Need-returns
+unfolding referenceAt
+returns c = c .parse-quoted .ensures ∙ ap (opened _ _) (sym (c .before .before .inside .given .1) ∙ c .before .before .before .before .past-byte .ensures)
+
+returns-2 : tie.Need-returns-2
+unfolding referenceAt
+returns-2 c = c .parse-bare .ensures ∙ ap (opened _ _) (sym (c .before .enum-told .given .1) ∙ c .before .before .before .past-byte .ensures)
+
+pub parse-tree-index-spec : {M : Type 1} → statement M
+parse-tree-index-spec =
+    tie.close
+    (tie.spec
+    past-byte-requires
+    enum-known-inside
+    parse-quoted-requires
+    enum-told
+    parse-bare-requires
+    returns
+    returns-2)

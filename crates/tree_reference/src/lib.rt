@@ -1,0 +1,120 @@
+// After model/tree.rs, `parse_tree_index`: references (01, 'Tree text').
+// A reference is bare or in `"`: a number that fits signed 64 bits is a node; failing that, letters, digits and `_` are a PDF, by the digits at their end.
+// Every function takes any bytes and any place, also one past the end. A place is an index into the slice. Assumes nothing.
+use base::Test;
+use base::is_digit;
+use base::run_end;
+use base_spaces::Place;
+use base_spaces::past_byte;
+use base_values::Signed;
+use base_values::parse_signed;
+ghost use mathlib.Core.Path.{_≡_};
+ghost use Rattle.tree_reference.specs.References.{digitsFrom, pdfAt, bareAt, quotedAt, referenceAt, sameIndex, pdfCount};
+
+// Where a line leads: to the line that bears an id, or to the PDF of a number.
+pub enum TreeIndex {
+    Node(i64),
+    Pdf(i64),
+}
+
+pub enum Reference {
+    Found { index: TreeIndex, next: usize },
+    NoReference,
+}
+
+// Where the digits begin that stand at the end of the bytes from `at` up to `end`.
+fn digits_start(s: &[u8], at: usize, end: usize) -> usize
+    ensures { λ r. ⌜ r ≡ digitsFrom (now (s .entry)) at end ⌝ }
+{
+    let mut i = end;
+    while at < i {
+        if s.len() < i {
+            return i;
+        }
+        if !is_digit(s[i - 1]) {
+            return i;
+        }
+        i = i - 1;
+    }
+    i
+}
+
+// Letters, digits and `_`, as far as they go; the digits at their end say the number.
+fn parse_pdf(s: &[u8], at: usize) -> Reference
+    ensures { λ r. ⌜ r ≡ pdfAt (now (s .entry)) at ⌝ }
+{
+    let end = run_end(Test::Word, s, at);
+    let start = digits_start(s, at, end);
+    if end <= start {
+        return Reference::NoReference;
+    }
+    match parse_signed(s, start) {
+        Signed::Number { value, next } => Reference::Found {
+            index: TreeIndex::Pdf(value),
+            next,
+        },
+        Signed::NoNumber => Reference::NoReference,
+    }
+}
+
+// A reference without quotes.
+fn parse_bare(s: &[u8], at: usize) -> Reference
+    ensures { λ r. ⌜ r ≡ bareAt (now (s .entry)) at ⌝ }
+{
+    match parse_signed(s, at) {
+        Signed::Number { value, next } => Reference::Found {
+            index: TreeIndex::Node(value),
+            next,
+        },
+        Signed::NoNumber => parse_pdf(s, at),
+    }
+}
+
+// A reference from `at` on, and the quote behind it.
+fn parse_quoted(s: &[u8], at: usize) -> Reference
+    ensures { λ r. ⌜ r ≡ quotedAt (now (s .entry)) at ⌝ }
+{
+    match parse_bare(s, at) {
+        Reference::Found { index, next } => match past_byte(s, next, b'"') {
+            Place::At(past) => Reference::Found { index, next: past },
+            Place::Nowhere => Reference::NoReference,
+        },
+        Reference::NoReference => Reference::NoReference,
+    }
+}
+
+// A reference, bare or in `"`.
+pub fn parse_tree_index(s: &[u8], at: usize) -> Reference
+    ensures { λ r. ⌜ r ≡ referenceAt (now (s .entry)) at ⌝ }
+{
+    match past_byte(s, at, b'"') {
+        Place::At(inside) => parse_quoted(s, inside),
+        Place::Nowhere => parse_bare(s, at),
+    }
+}
+
+// Whether two references are of the same kind and number.
+pub fn same_index(a: TreeIndex, b: TreeIndex) -> bool
+    ensures { λ r. ⌜ r ≡ sameIndex a b ⌝ }
+{
+    match a {
+        TreeIndex::Node(x) => match b {
+            TreeIndex::Node(y) => x == y,
+            TreeIndex::Pdf(_) => false,
+        },
+        TreeIndex::Pdf(x) => match b {
+            TreeIndex::Node(_) => false,
+            TreeIndex::Pdf(y) => x == y,
+        },
+    }
+}
+
+// The leaves that a reference asks for: one for a PDF, none for a node.
+pub fn pdf_count(a: TreeIndex) -> usize
+    ensures { λ r. ⌜ r ≡ pdfCount a ⌝ }
+{
+    match a {
+        TreeIndex::Node(_) => 0,
+        TreeIndex::Pdf(_) => 1,
+    }
+}

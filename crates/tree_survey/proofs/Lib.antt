@@ -1,0 +1,4 @@
+pub mod Counting
+pub mod Whole
+pub mod Joined
+pub mod Said
