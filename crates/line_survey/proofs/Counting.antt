@@ -2,7 +2,7 @@
 use mathlib.Core.Path.{_≡_, refl, sym, ap, ap₂, _∙_}
 use mathlib.Core.Bool.{Bool, true, false, cond}
 use mathlib.Core.List.{List, [], _∷_}
-use Prim.Native.Nat.{ℕ, suc, _+_, _≤_, _<_}
+use Prim.Native.Nat.{ℕ, suc, _+_, _≤_}
 use native.Mathlib.Omega.{arith}
 use lib.ListN.{length}
 use Rattle.written.specs.Bytes.{Span}
@@ -10,7 +10,7 @@ use Rattle.written.specs.Said as says
 use Rattle.written.specs.TreeText.{LineAt, line}
 use Rattle.written.proofs.Once.{run₁-lt}
 use Rattle.written.proofs.Decide.{number-le, reference-le, line-parting-lt}
-use Rattle.laws.specs.Steps.{Ending, doneAt, brokenAt, Step, next, last, broken, Reading, readOf, read}
+use Rattle.laws.specs.Steps.{Ending, doneAt, brokenAt, Step, next, last, broken, Reading, readOf}
 use Rattle.laws.specs.Totals.{total}
 use Rattle.laws.proofs.Steps.{read-is, weighed}
 use Rattle.laws.proofs.Parted.{onward}

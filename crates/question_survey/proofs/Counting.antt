@@ -1,6 +1,6 @@
 -- The laws of counting patterns and questions: a turn of a loop counts one more of those that are read, and goes up. Assumes nothing.
-use mathlib.Core.Path.{_≡_, refl, sym, ap, ap₂, _∙_, subst}
-use mathlib.Core.List.{List, [], _∷_}
+use mathlib.Core.Path.{_≡_, refl, sym, ap, ap₂, _∙_}
+use mathlib.Core.List.{List}
 use Prim.Native.Nat.{ℕ, suc, _+_, _≤_, _<_}
 use native.Mathlib.Omega.{arith}
 use lib.ListN.{length}
@@ -25,7 +25,6 @@ use Rattle.question.specs.declared.PatternStep.the-variants as pattern
 use Rattle.question.proofs.Joined.{pattern-step, pattern-reads, question-reads}
 use Rattle.question_survey.specs.Counts.{patternsEnded, patternsCounted, patternCount, questionSurveyed, questionsEnded, questionsCounted}
 use Rattle.question_survey.specs.declared.Patterns.the-variants as patterns
-use Rattle.question_survey.specs.declared.QuestionSurvey.{QuestionSurvey}
 use Rattle.question_survey.specs.declared.QuestionSurvey.the-variants as survey
 use Rattle.question_survey.specs.declared.Questions.the-variants as questions
 

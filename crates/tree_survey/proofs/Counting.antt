@@ -1,40 +1,33 @@
 -- The laws of surveying trees: what one tree needs; a turn of the loop counts one more of those that are read, and goes up. Assumes nothing.
-use mathlib.Core.Path.{_≡_, refl, sym, ap, ap₂, _∙_}
-use mathlib.Core.Bool.{Bool, true, false, cond, _||_}
-use mathlib.Core.List.{List, [], _∷_, zipWith}
+use mathlib.Core.Path.{_≡_, refl, sym, ap, _∙_}
+use mathlib.Core.Bool.{Bool, false, _||_}
+use mathlib.Core.List.{List, [], zipWith}
 use Prim.Native.Nat.{ℕ, suc, _+_, _≤_, _<_}
 use native.Mathlib.Omega.{arith}
-use lib.IntN.{ℤ, pos, negsuc}
 use lib.ListN.{length}
 use Rattle.written.specs.Bytes.{Span}
 use Rattle.written.specs.Said as says
 use Rattle.written.specs.TreeText.{byte, end, BodyAt, one, none, lines, TreeAt, tree}
 use Rattle.written.proofs.Once.{run-le}
 use Rattle.written.proofs.Decide.{number-le, reference-le, parting-lt}
-use Rattle.laws.specs.Steps.{Ending, doneAt, brokenAt, Step, next, last, broken, Reading, readOf, read}
+use Rattle.laws.specs.Steps.{Ending, doneAt, brokenAt, Step, next, last, broken, Reading, readOf}
 use Rattle.laws.specs.Totals.{total, larger, largest, anyOf}
 use Rattle.laws.proofs.Steps.{read-is}
 use Rattle.laws.proofs.Parted.{onward}
-use Rattle.base_spaces.proofs.Joined.{Closed, closed-lt}
+use Rattle.base_spaces.proofs.Joined.{Closed}
 use Rattle.tree_line.specs.Lines.{lineOf, linesAt}
 use Rattle.tree_line.specs.declared.Line.{Line}
 use Rattle.tree_line.proofs.Joined.{lines-read}
 use Rattle.line_survey.specs.Counts.{linePdfs, recordsOf, surveyEnded as linesEnded, linesSurveyed}
-use Rattle.line_survey.specs.declared.LineSurvey.{LineSurvey}
-use Rattle.line_survey.specs.declared.LineSurvey.the-variants as lined
 use Rattle.line_survey.proofs.Counting.{lines-size, records-few}
-use Rattle.tree.specs.Trees.{Body, lone, braces, Tree, bodyOf, treeOf, headAt, afterTree, treeFollowed, treeRead, treeHeaded, treeStepAt, treesAt}
+use Rattle.tree.specs.Trees.{lone, braces, Tree, bodyOf, treeOf, headAt, afterTree, treeFollowed, treeRead, treeHeaded, treeStepAt, treesAt}
 use Rattle.tree.specs.declared.TreeHead.{TreeHead}
 use Rattle.tree.specs.declared.TreeHead.the-variants as head
-use Rattle.tree.specs.declared.TreeStep.{TreeStep}
 use Rattle.tree.specs.declared.TreeStep.the-variants as after
 use Rattle.tree.proofs.Joined.{reads}
-use Rattle.tree_survey.specs.Survey.{negative, bodyRecords, bodyLines, treeNegative, treeRecords, treeLines, linesCounted, headCounted, treeSurveyed, treesEnded, treesCounted}
-use Rattle.tree_survey.specs.declared.TreeCount.{TreeCount}
+use Rattle.tree_survey.specs.Survey.{negative, bodyRecords, treeNegative, treeRecords, treeLines, linesCounted, headCounted, treeSurveyed, treesEnded, treesCounted}
 use Rattle.tree_survey.specs.declared.TreeCount.the-variants as count
-use Rattle.tree_survey.specs.declared.TreeSurvey.{TreeSurvey}
 use Rattle.tree_survey.specs.declared.TreeSurvey.the-variants as surveyed
-use Rattle.tree_survey.specs.declared.Trees.{Trees}
 use Rattle.tree_survey.specs.declared.Trees.the-variants as all
 
 module _ (s : List ℕ) where
