@@ -62,6 +62,16 @@ module _ (s : List ℕ) where
   stepped : (i : ℕ) {a : LineStep} → a ≡ lineStepAt s i → step s i ≡ lineStep i a
   stepped i e = ap (lineStep i) (sym e)
 
+  -- the lines that are read from a place on, by what stands there
+  pub items-next : (i : ℕ) {l : Line} {j : ℕ} → answer.Next l j ≡ lineStepAt s i → linesAt s i .items ≡ l ∷ linesAt s j .items
+  items-next i e = ap (λ (r : Reading Line). r .items) (lines-are i ∙ ap (readOf (linesAt s)) (stepped i e))
+
+  pub items-last : (i : ℕ) {l : Line} {j : ℕ} → answer.Last l j ≡ lineStepAt s i → linesAt s i .items ≡ l ∷ []
+  items-last i e = ap (λ (r : Reading Line). r .items) (lines-are i ∙ ap (readOf (linesAt s)) (stepped i e))
+
+  pub items-broken : (i : ℕ) → answer.Broken ≡ lineStepAt s i → linesAt s i .items ≡ []
+  items-broken i e = ap (λ (r : Reading Line). r .items) (lines-are i ∙ ap (readOf (linesAt s)) (stepped i e))
+
   -- ---- lines and references are fewer than bytes
 
   line-size : {i j : ℕ} {l : says.Line} {w : Span} → LineAt s i j l w → 4 + i ≤ j
