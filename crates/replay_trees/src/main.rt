@@ -1,14 +1,7 @@
 // Replays stored answers on tree texts: a line is a text as hex, and then the numbers that are to be said of it (judge/README.md, `trees`).
 // It reads them from standard input, surveys each text, reads it again item by item as a load does, and says how many lines there are and how many differ.
 // Assumes that the lines fit its room, and a text 4,096 bytes; a line that doesn't differs.
-use base_spaces::Place;
-use base_spaces::past_byte;
-use base_values::Signed;
-use base_values::Unsigned;
-use base_values::parse_signed;
-use base_values::parse_unsigned;
 use libc::STDIN_FILENO;
-use libc::STDOUT_FILENO;
 use line_survey::LineCount;
 use line_survey::count_lines;
 use question::Item;
@@ -20,6 +13,16 @@ use question::next_pattern;
 use question::question_head;
 use question_survey::Patterns;
 use question_survey::count_patterns;
+use stored::Stored;
+use stored::decode;
+use stored::ended;
+use stored::number;
+use stored::other;
+use stored::pair;
+use stored::past_line;
+use stored::say;
+use stored::signed;
+use stored::wrong;
 use tree::TreeHead;
 use tree::TreeStep;
 use tree::after_tree;
@@ -32,57 +35,6 @@ use tree_survey::Survey;
 use tree_survey::survey_text;
 ghost use Prim.Native.Nat.{_≤_, _<_};
 ghost use lib.ListN.{length};
-
-// Where the next of a line's numbers stands, and whether all so far were as stored.
-struct Stored {
-    at: usize,
-    same: bool,
-}
-
-fn other(c: Stored) -> Stored {
-    Stored {
-        at: c.at,
-        same: false,
-    }
-}
-
-// ---- what is stored
-
-// A space and the number `want`.
-fn number(c: Stored, s: &[u8], want: u64) -> Stored {
-    let at = c.at;
-    let same = c.same;
-    match past_byte(s, at, b' ') {
-        Place::At(start) => match parse_unsigned(s, start) {
-            Unsigned::Number { value, next } => Stored {
-                at: next,
-                same: same && value == want,
-            },
-            Unsigned::TooLarge => other(c),
-            Unsigned::NoDigit => other(c),
-        },
-        Place::Nowhere => other(c),
-    }
-}
-
-fn signed(c: Stored, s: &[u8], want: i64) -> Stored {
-    let at = c.at;
-    let same = c.same;
-    match past_byte(s, at, b' ') {
-        Place::At(start) => match parse_signed(s, start) {
-            Signed::Number { value, next } => Stored {
-                at: next,
-                same: same && value == want,
-            },
-            Signed::NoNumber => other(c),
-        },
-        Place::Nowhere => other(c),
-    }
-}
-
-fn pair(c: Stored, s: &[u8], a: usize, b: usize) -> Stored {
-    number(number(c, s, a as u64), s, b as u64)
-}
 
 fn reference(c: Stored, s: &[u8], index: TreeIndex) -> Stored {
     match index {
@@ -98,8 +50,6 @@ fn one_line(c: Stored, s: &[u8], line: Line) -> Stored {
     let named = pair(signed(c, s, line.id), s, line.start, line.len);
     reference(reference(named, s, no), s, yes)
 }
-
-// ---- a text's items, as a load reads them
 
 // A cursor in the text, and beside it the one in what is stored.
 struct Both {
@@ -253,8 +203,6 @@ fn trees(b: Both, s: &[u8], text: &[u8], count: usize) -> Both {
     cursor
 }
 
-// ---- a whole text
-
 fn first_place(text: &[u8]) -> usize {
     match first_item(text, 0) {
         Item::Question(at) => at,
@@ -287,70 +235,6 @@ fn replay_text(s: &[u8], at: usize, text: &[u8]) -> bool {
     }
 }
 
-// Whether the line ends here, and all was as stored.
-fn ended(c: Stored, s: &[u8]) -> bool {
-    let at = c.at;
-    let same = c.same;
-    match past_byte(s, at, b'\n') {
-        Place::At(_) => same,
-        Place::Nowhere => false,
-    }
-}
-
-// ---- the lines
-
-fn hex(b: u8) -> u8 {
-    match b {
-        b'0'..=b'9' => b - 48,
-        b'a'..=b'f' => b - 87,
-        _ => 255,
-    }
-}
-
-fn two(high: u8, low: u8) -> u8 {
-    (high % 16) * 16 + low % 16
-}
-
-// The text of a line, and where the numbers begin.
-struct Text {
-    len: usize,
-    at: usize,
-}
-
-fn decode(s: &[u8], from: usize, text: &mut [u8; 4096]) -> Text
-    requires { ⌜ from < length (now s) ⌝ }
-{
-    let mut i = from;
-    let mut n = 0;
-    while n < 4096 {
-        if s.len() - i < 2 {
-            return Text { len: n, at: i };
-        }
-        if 15 < hex(s[i]) {
-            return Text { len: n, at: i };
-        }
-        text[n] = two(hex(s[i]), hex(s[i + 1]));
-        i = i + 2;
-        n = n + 1;
-    }
-    Text { len: n, at: i }
-}
-
-// The place past the next newline, or the end.
-fn past_line(s: &[u8], from: usize) -> usize
-    requires { ⌜ from < length (now s) ⌝ }
-    ensures { λ r. ⌜ from < r ⌝ }
-{
-    let mut i = from;
-    while i < s.len() {
-        if s[i] == 10 {
-            return i + 1;
-        }
-        i = i + 1;
-    }
-    i
-}
-
 fn replay_line(s: &[u8], from: usize) -> bool
     requires { ⌜ from < length (now s) ⌝ }
 {
@@ -374,12 +258,6 @@ struct Tally {
     differ: usize,
 }
 
-fn wrong(same: bool) -> usize
-    ensures { λ r. ⌜ r ≤ 1 ⌝ }
-{
-    if same { 0 } else { 1 }
-}
-
 fn replay(s: &[u8]) -> Tally {
     let mut at = 0;
     let mut cases = 0;
@@ -392,39 +270,8 @@ fn replay(s: &[u8]) -> Tally {
     Tally { cases, differ }
 }
 
-// ---- input and output
-
 fn room() -> [u8; 1048576] {
     [0; 1048576]
-}
-
-// The number in decimal, at the end of 20 bytes, and where it begins.
-fn decimal(n: usize, out: &mut [u8; 20]) -> usize {
-    let mut rest = n;
-    let mut k = 20;
-    while 0 < k {
-        k = k - 1;
-        out[k] = (rest % 10) as u8 + 48;
-        rest = rest / 10;
-        if rest == 0 {
-            return k;
-        }
-    }
-    k
-}
-
-fn say(n: usize, what: &[u8]) {
-    let mut digits = [0u8; 20];
-    let k = decimal(n, &mut digits);
-    write_from(&digits, k);
-    io::write_all(STDOUT_FILENO, what);
-}
-
-fn write_from(digits: &[u8; 20], k: usize) {
-    if k <= 20 {
-        let whole = &digits[..];
-        io::write_all(STDOUT_FILENO, &whole[k..]);
-    }
 }
 
 fn main() {

@@ -1,9 +1,9 @@
--- `replay_trees::decode`: two digits a byte, inside the line and the room. Assumes nothing.
+-- `stored::decode`: two digits a byte, inside the line and the room. Assumes nothing.
 use Prim.Native.Nat.{_-_, _≤_}
 use borrow.Author.Needs.{needs}
 use lib.ListN.{length}
-use Rattle.replay_trees.proofs.decode.Statement.{statement}
-use Rattle.replay_trees.proofs.decode.Tie as tie
+use Rattle.stored.proofs.decode.Statement.{statement}
+use Rattle.stored.proofs.decode.Tie as tie
 
 abbrev Inv-loop : tie.InvT-loop
 Inv-loop s from text₀ i₀ n₀ text i n = i ≤ length s

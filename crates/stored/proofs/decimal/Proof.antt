@@ -1,8 +1,8 @@
--- `replay_trees::decimal`: a digit a turn. Assumes nothing.
+-- `stored::decimal`: a digit a turn. Assumes nothing.
 use Prim.Native.Nat.{_-_, _≤_}
 use borrow.Author.Needs.{needs}
-use Rattle.replay_trees.proofs.decimal.Statement.{statement}
-use Rattle.replay_trees.proofs.decimal.Tie as tie
+use Rattle.stored.proofs.decimal.Statement.{statement}
+use Rattle.stored.proofs.decimal.Tie as tie
 
 abbrev Inv-loop : tie.InvT-loop
 Inv-loop n out₀ rest₀ k₀ out rest k = k ≤ 20

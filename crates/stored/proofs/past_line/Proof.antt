@@ -1,9 +1,9 @@
--- `replay_trees::past_line`: the place goes up. Assumes nothing.
+-- `stored::past_line`: the place goes up. Assumes nothing.
 use Prim.Native.Nat.{_-_, _≤_}
 use borrow.Author.Needs.{needs}
 use lib.ListN.{length}
-use Rattle.replay_trees.proofs.past_line.Statement.{statement}
-use Rattle.replay_trees.proofs.past_line.Tie as tie
+use Rattle.stored.proofs.past_line.Statement.{statement}
+use Rattle.stored.proofs.past_line.Tie as tie
 
 abbrev Inv-loop : tie.InvT-loop
 Inv-loop s from i₀ i = from ≤ i
