@@ -133,3 +133,8 @@ last-inside p (suc n) e h = go (p n) h (last-inside p n e)
     go : (b : Bool) → cond b (At n) (lastBelow p n) ≡ At e → (lastBelow p n ≡ At e → e < n) → e < suc n
     go true q r = let s : n ≡ e = cc in omega arith
     go false q r = omega (arith, r q)
+
+pub last-ext-below : (p q : ℕ → Bool) (n : ℕ) → ((m : ℕ) → m < n → p m ≡ q m) → lastBelow p n ≡ lastBelow q n
+unfolding lastBelow
+last-ext-below p q zero e = refl
+last-ext-below p q (suc n) e = rw (e n (omega arith), last-ext-below p q n (λ m h. e m (omega arith)))
