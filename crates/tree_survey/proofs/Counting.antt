@@ -12,7 +12,6 @@ use Rattle.written.proofs.Once.{run-le}
 use Rattle.written.proofs.Decide.{number-le, reference-le, parting-lt}
 use Rattle.laws.specs.Steps.{Ending, doneAt, brokenAt, Step, next, last, broken, Reading, readOf}
 use Rattle.laws.specs.Totals.{total, larger, largest, anyOf}
-use Rattle.laws.proofs.Steps.{read-is}
 use Rattle.laws.proofs.Parted.{onward}
 use Rattle.base_spaces.proofs.Joined.{Closed}
 use Rattle.tree_line.specs.Lines.{lineOf, linesAt}
@@ -24,6 +23,7 @@ use Rattle.tree.specs.Trees.{lone, braces, Tree, bodyOf, treeOf, headAt, afterT
 use Rattle.tree.specs.declared.TreeHead.{TreeHead}
 use Rattle.tree.specs.declared.TreeHead.the-variants as head
 use Rattle.tree.specs.declared.TreeStep.the-variants as after
+use Rattle.tree.proofs.Filling.{trees-are}
 use Rattle.tree.proofs.Joined.{reads}
 use Rattle.tree_survey.specs.Survey.{negative, bodyRecords, treeNegative, treeRecords, treeLines, linesCounted, headCounted, treeSurveyed, treesEnded, treesCounted}
 use Rattle.tree_survey.specs.declared.TreeCount.the-variants as count
@@ -132,10 +132,6 @@ module _ (s : List ℕ) where
 
   -- ---- all trees
 
-  trees-are : (i : ℕ) → treesAt s i ≡ readOf (treesAt s) (treeStepAt s i)
-  unfolding treesAt
-  trees-are i = read-is (treeStepAt s) (length s) (onward (reads s)) i
-
   -- the tree at i that was surveyed
   record Seen (i : ℕ) (b : Bool) (m n : ℕ) (Step-is : Tree → Type 0) : Type 0 where
     it : Tree
@@ -201,7 +197,7 @@ module _ (s : List ℕ) where
       record {
         same =
             (λ z. treesEnded (anyOf treeNegative (v z) (treesAt s j .items)) (x z) (y z) (largest treeLines (w z) (treesAt s j .items)) (treesAt s j .ending))
-            ∙ sym (ap (treesCounted b n m k) (trees-are i ∙ ap (readOf (treesAt s)) (t .steps))) ∙ d .same;
+            ∙ sym (ap (treesCounted b n m k) (trees-are s i ∙ ap (readOf (treesAt s)) (t .steps))) ∙ d .same;
         few = omega (arith, d .few, u .0);
         few-records = omega (arith, d .few-records, u .2);
       }
@@ -214,8 +210,8 @@ module _ (s : List ℕ) where
       let y : m + r ≡ m + (treeRecords (t .it) + 0) = omega (arith, t .records) in
       let v : b′ ≡ b || treeNegative (t .it) = p ∙ ap (b ||_) (sym (t .below)) in
       let w : k′ ≡ larger k (treeLines (t .it)) = q ∙ ap (larger k) (sym (t .lines)) in
-      (λ z. all.Counted (v z) (n + 1) (y z) (w z)) ∙ sym (ap (treesCounted b n m k) (trees-are i ∙ ap (readOf (treesAt s)) (t .steps .1))) ∙ d .same
+      (λ z. all.Counted (v z) (n + 1) (y z) (w z)) ∙ sym (ap (treesCounted b n m k) (trees-are s i ∙ ap (readOf (treesAt s)) (t .steps .1))) ∙ d .same
 
   pub surveyed-none : {at i : ℕ} {b : Bool} {n m k j : ℕ} → Surveying at i b n m k → surveyed.Broken j ≡ treeSurveyed (treeStepAt s i) → all.Broken j ≡ treesCounted false 0 0 0 (treesAt s at)
   unfolding treesCounted
-  surveyed-none {i = i} {b = b} {n = n} {m = m} {k = k} {j = j} d h = sym (ap (treesCounted b n m k) (trees-are i ∙ ap (readOf (treesAt s)) (seen-broken i j h))) ∙ d .same
+  surveyed-none {i = i} {b = b} {n = n} {m = m} {k = k} {j = j} d h = sym (ap (treesCounted b n m k) (trees-are s i ∙ ap (readOf (treesAt s)) (seen-broken i j h))) ∙ d .same
