@@ -69,10 +69,11 @@ module _ (w : List ℤ) (n m : ℕ) (records : List ℕ) (first : ℕ) (room : f
   unfolding linkResult
   linked-part e q {part} {after} {r} long kept l =
       let z : e - first ≡ 4 * m = omega arith in
-      let size : length part ≡ 4 * m = long ∙ z in
-      (ap (linkEnds n m) (l .is),
-      ap (λ (k : ℕ). putMid first k records after) z ∙ part-put records first (4 * m) after (kept ∙ size) room
-      ∙ ap (sets records first) (l .rows ∙ ap (rowsAfter (linkOutcome w n) (linkedRows w n)) size))
+      let size : length part ≡ 4 * m = long ∙ z in (
+        ap (linkEnds n m) (l .is),
+        ap (λ (k : ℕ). putMid first k records after) z ∙ part-put records first (4 * m) after (kept ∙ size) room
+            ∙ ap (sets records first) (l .rows ∙ ap (rowsAfter (linkOutcome w n) (linkedRows w n)) size),
+      )
 
 -- ---- a tree in braces
 
@@ -117,8 +118,8 @@ module _ (s questions : List ℕ) (nq : ℕ) (ls : List Line) where
           long = omega (arith, length-sets work 0 W);
           also = omega arith;
           same = λ i h.
-            let z : 0 + i ≡ i = omega arith in
-            ap (λ (j : ℕ). getD (sets work 0 W) j (pos 0)) (sym z) ∙ sets-at W work 0 i (pos 0) (omega arith) (omega arith);
+              let z : 0 + i ≡ i = omega arith in
+              ap (λ (j : ℕ). getD (sets work 0 W) j (pos 0)) (sym z) ∙ sets-at W work 0 i (pos 0) (omega arith) (omega arith);
         }
 
     pub count-leaves : length (pdfsOf (linesFrom (sets work 0 (lineWords s questions nq ls)) 0 (length ls))) ≡ total linePdfs ls

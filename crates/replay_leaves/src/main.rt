@@ -40,7 +40,11 @@ fn utf8_of(c: Stored, s: &[u8], text: &[u8]) -> Stored {
 // 0, the number and where its digits end; or 1 for 2^64 or more, 2 for no digit.
 fn unsigned_of(c: Stored, s: &[u8], text: &[u8]) -> Stored {
     match parse_unsigned(text, 0) {
-        Unsigned::Number { value, next } => number(number(number(c, s, 0), s, value), s, next as u64),
+        Unsigned::Number { value, next } => number(
+            number(number(c, s, 0), s, value),
+            s,
+            next as u64,
+        ),
         Unsigned::TooLarge => number(c, s, 1),
         Unsigned::NoDigit => number(c, s, 2),
     }
@@ -70,18 +74,34 @@ fn told(c: Stored, s: &[u8], b: bool) -> Stored {
 
 // The class, and whether the byte may stand in a pattern, a reference, a name, and is a blank, or a space or tab.
 fn byte_of(c: Stored, s: &[u8], b: u8) -> Stored {
-    let spelt = told(told(told(number(c, s, class_number(b)), s, is_pattern(b)), s, is_word(b)), s, is_name(b));
+    let spelt = told(
+        told(
+            told(number(c, s, class_number(b)), s, is_pattern(b)),
+            s,
+            is_word(b),
+        ),
+        s,
+        is_name(b),
+    );
     told(told(spelt, s, is_blank(b)), s, is_space_or_tab(b))
 }
 
 // The first byte, where there is one.
 fn class_said(c: Stored, s: &[u8], text: &[u8]) -> Stored {
-    if 0 < text.len() { byte_of(c, s, text[0]) } else { c }
+    if 0 < text.len() {
+        byte_of(c, s, text[0])
+    } else {
+        c
+    }
 }
 
 // The first four bytes as a double's bits, where there are four.
 fn widened_of(c: Stored, s: &[u8], text: &[u8]) -> Stored {
-    if 4 <= text.len() { number(c, s, widen(word(text, 0))) } else { c }
+    if 4 <= text.len() {
+        number(c, s, widen(word(text, 0)))
+    } else {
+        c
+    }
 }
 
 // Whether all that is stored from `at` on is said of the text.
