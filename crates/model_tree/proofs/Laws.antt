@@ -6,8 +6,8 @@ use Prim.Native.Nat.{ℕ, zero, suc, _+_, _-_, _*_, _≤_, _<_}
 use native.Mathlib.Omega.{arith}
 use borrow.Rule.Slice.PartMut.{putMid}
 use lib.IntN.{ℤ, pos}
-use lib.ListN.{length, getD}
-use lib.Seq.{sets, length-sets}
+use lib.ListN.{length, getD, take, drop, length-drop}
+use lib.Seq.{sets, length-sets, length-take-le}
 use Rattle.laws.specs.Totals.{total}
 use Rattle.laws.proofs.Tables.{part-put, sets-at}
 use Rattle.tree_reference.specs.References.{sameIndex}
@@ -63,6 +63,9 @@ module _ (s : List ℕ) (i n : ℕ) (e : n ≡ length (linesAt s i .items)) wher
 -- ---- lines linked in a part of the records
 
 module _ (w : List ℤ) (n m : ℕ) (records : List ℕ) (first : ℕ) (room : first + 4 * m ≤ length records) where
+  pub part-length : length (take (first + 4 * m - first) (drop first records)) ≡ first + 4 * m - first
+  part-length = length-take-le (first + 4 * m - first) (drop first records) (omega (arith, length-drop first records))
+
   pub linked-part :
       (e : ℕ) → e ≡ first + 4 * m → {part after : List ℕ} {r : Link} → length part ≡ e - first → length after ≡ length part → Linking w n part after r
       → (linkEnds n m r ≡ linkResult w n m .ends) × (putMid first (e - first) records after ≡ sets records first (linkResult w n m .rows))
@@ -134,3 +137,38 @@ module _ (s questions : List ℕ) (nq : ℕ) (ls : List Line) where
         ap₂ (λ o r. record { ends = linkEnds (length ls) m o; rows = rowsAfter o r (4 * m) })
         (outcome-same (length ls) (sets work 0 (lineWords s questions nq ls)) (lineWords s questions nq ls) agree)
         (rows-same (length ls) (sets work 0 (lineWords s questions nq ls)) (lineWords s questions nq ls) agree)
+
+-- ---- what `fill_braces` knows of a tree of n lines that needs m records
+
+module _ (s questions : List ℕ) (nq : ℕ) (ls : List Line) (n m : ℕ) (e : n ≡ length ls) (some : 0 < n) (d : m ≡ recordsOf ls) where
+  pub one-record : {x : TreeIndex} → One x ≡ singleOf ls → m ≡ 1
+  unfolding recordsOf
+  one-record {x} q = d ∙ go ls (sym q)
+    where
+      go : (ls : List Line) → singleOf ls ≡ One x → recordsOf ls ≡ 1
+      go [] e = let u : _≡_ {A = ℕ} 0 1 = cc in absurd (omega arith)
+      go (l ∷ []) e = pick (sameIndex (l .no) (l .yes)) e
+        where
+          pick : (b : Bool) → cond b (One (l .yes)) Several ≡ One x → cond b 1 (1 + linePdfs l) ≡ 1
+          pick true q = refl
+          pick false q = let u : _≡_ {A = ℕ} 0 1 = cc in absurd (omega arith)
+      go (l ∷ (k ∷ ls)) e = let u : _≡_ {A = ℕ} 0 1 = cc in absurd (omega arith)
+
+  module _ (work : List ℤ) (room : 6 * n ≤ length work) (q : Several ≡ singleOf ls) {w : List ℤ} (f : w ≡ sets work 0 (lineWords s questions nq ls)) where
+    wide : 6 * length ls ≤ length work
+    wide = omega arith
+
+    pub linked-room : 6 * n ≤ length w
+    linked-room = omega (arith, ap length f, length-sets work 0 (lineWords s questions nq ls))
+
+    pub linked-needed : m ≡ n + length (pdfsOf (linesFrom w 0 n))
+    linked-needed =
+        d ∙ several-result s questions nq ls (omega arith) (sym q) .1
+        ∙ ap₂ (λ (a b : ℕ). a + b) (sym e)
+        (sym (ap (λ (l : List ℤ). length (pdfsOf (linesFrom l 0 n))) f ∙ ap (λ (k : ℕ). length (pdfsOf (linesFrom (sets work 0 (lineWords s questions nq ls)) 0 k))) e ∙ count-leaves s questions nq ls work wide))
+
+    pub linked-is : linkResult w n m ≡ linesResult s questions nq ls
+    linked-is =
+        ap (λ (l : List ℤ). linkResult l n m) f ∙ ap₂ (λ (a b : ℕ). linkResult (sets work 0 (lineWords s questions nq ls)) a b) e d
+        ∙ same-result s questions nq ls work wide (recordsOf ls)
+        ∙ sym (several-result s questions nq ls (omega arith) (sym q) .0)

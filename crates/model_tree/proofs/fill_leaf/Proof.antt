@@ -27,9 +27,11 @@ same-length c = search needs
 returns : tie.Need-returns
 returns c =
     let a = c .before .before .before .before .before .before .before .before .before .args in
-    let q = c .before .before .before .before .before .before .index .given .1 in (
-      ap (λ x. leafResult x .ends) (sym q),
-      c .before .before .put4 .ensures ∙ ap (λ n. sets (a .records .now) (a .first) (1 ∷ n ∷ 0 ∷ 0 ∷ [])) (c .before .before .before .natural .ensures ∙ ap natOf (search needs)) ∙ ap (λ x. sets (a .records .now) (a .first) (leafResult x .rows)) (sym q),
+    let x = c .before .before .before .before .before .before .index .given in (
+      ap (λ x. leafResult x .ends) (sym (x .1)),
+      c .before .before .put4 .ensures
+          ∙ ap (λ n. sets (a .records .now) (a .first) (1 ∷ n ∷ 0 ∷ 0 ∷ [])) (c .before .before .before .natural .ensures ∙ ap natOf (back (x .0 .0) (c .before .before .before .before .before .known-told .given .0 .1)))
+          ∙ ap (λ x. sets (a .records .now) (a .first) (leafResult x .rows)) (sym (x .1)),
     )
 
 returns-2 : tie.Need-returns-2
