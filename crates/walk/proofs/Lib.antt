@@ -1,0 +1,7 @@
+pub mod Pigeonhole
+pub mod Judged
+pub mod Round
+pub mod Following
+pub mod Bound
+pub mod Loaded
+pub mod Demand
