@@ -8,10 +8,9 @@ use native.Mathlib.Omega.{arith}
 use borrow.Author.Tests.{lt-ltb, ltb-true, le-leb, leb-true, eq-eqb, ne-eqb, eqb-true, eqb-false}
 use lib.Dec.{ltb, leb, eqb}
 use lib.ListN.{length}
-use Rattle.rows.specs.Rows.{treeFirst, treeRecords, recordThere, recordKind, recordQuestion, recordPdf, recordYes, recordNo, blockThere, blockFirst, blockEntries}
-use Rattle.rows.proofs.Stand.{record-in, in-record}
-use Rattle.leaves.specs.Conditions.{LineStands, RecordStands, ValuesStand, TreeStands, LeavesFit}
-use Rattle.leaves.specs.Checks.{all, leafFits, questionThere, lineFits, kindFits, recordFits, valuesFit, treeFits, leavesFit}
+use Rattle.rows.specs.Rows.{questionThere, treeRows, treeThere, treeFirst, treeRecords, recordThere, recordKind, recordQuestion, recordPdf, recordYes, recordNo, blockThere, blockFirst, blockEntries}
+use Rattle.leaves.specs.Conditions.{leafFits, LineStands, RecordStands, ValuesStand, TreeStands, LeavesFit}
+use Rattle.leaves.specs.Checks.{all, lineFits, kindFits, recordFits, valuesFit, treeFits, leavesFit}
 use Rattle.leaves.proofs.Every.{both, first-of, second-of, all-each, each-all}
 
 -- ---- values
@@ -45,7 +44,7 @@ module _ (questions records : List ℕ) (count : ℕ) where
   says-line i e =
       let r = second-of (questionThere questions (recordQuestion records i)) (ltb (recordYes records i) count && ltb (recordNo records i) count) e in
       record {
-        question = ltb-true (recordQuestion records i) (length questions / 4) (first-of (questionThere questions (recordQuestion records i)) (ltb (recordYes records i) count && ltb (recordNo records i) count) e);
+        question = (first-of (questionThere questions (recordQuestion records i)) (ltb (recordYes records i) count && ltb (recordNo records i) count) e);
         yes-record = ltb-true (recordYes records i) count (first-of (ltb (recordYes records i) count) (ltb (recordNo records i) count) r);
         no-record = ltb-true (recordNo records i) count (second-of (ltb (recordYes records i) count) (ltb (recordNo records i) count) r);
       }
@@ -53,7 +52,7 @@ module _ (questions records : List ℕ) (count : ℕ) where
   line-says : (i : ℕ) → LineStands questions records count i → lineFits questions records count i ≡ true
   unfolding lineFits
   line-says i s =
-      both (lt-ltb (recordQuestion records i) (length questions / 4) (s .question))
+      both (s .question)
       (both (lt-ltb (recordYes records i) count (s .yes-record)) (lt-ltb (recordNo records i) count (s .no-record)))
 
   module _ (entries : ℕ) where
@@ -64,7 +63,7 @@ module _ (questions records : List ℕ) (count : ℕ) where
         go : (a b : Bool) → eqb (recordKind records i) 0 ≡ a → eqb (recordKind records i) 1 ≡ b
             → cond a (lineFits questions records count i) (cond b (leafFits (recordPdf records i) entries) false) ≡ true → RecordStands questions records count entries i
         go true b p q h = RecordStands.line (eqb-true (recordKind records i) 0 p) (says-line i h)
-        go false true p q h = RecordStands.leaf (eqb-true (recordKind records i) 1 q) (leb-true (recordPdf records i) entries h)
+        go false true p q h = RecordStands.leaf (eqb-true (recordKind records i) 1 q) h
         go false false p q h = let u : _≡_ {A = ℕ} 0 1 = cc in absurd (omega arith)
 
     kind-says : (i : ℕ) → RecordStands questions records count entries i → kindFits questions records count entries i ≡ true
@@ -75,7 +74,7 @@ module _ (questions records : List ℕ) (count : ℕ) where
     kind-says i (RecordStands.leaf o s) =
         ap (λ (b : Bool). cond b (lineFits questions records count i) (cond (eqb (recordKind records i) 1) (leafFits (recordPdf records i) entries) false)) (ne-eqb (recordKind records i) 0 (λ q. omega arith))
         ∙ ap (λ (b : Bool). cond b (leafFits (recordPdf records i) entries) false) (eq-eqb (recordKind records i) 1 o)
-        ∙ le-leb (recordPdf records i) entries s
+        ∙ s
 
 -- ---- trees
 
@@ -84,9 +83,9 @@ module _ (questions trees records blocks values : List ℕ) (width : ℕ) where
   unfolding treeFits recordFits
   says-tree t e =
       record {
-        block = ltb-true t (length blocks / 2) (first-of (blockThere blocks t) (fitting && every) e);
+        block = first-of (blockThere blocks t) (fitting && every) e;
         values-there = says-values values (blockFirst blocks t) (blockEntries blocks t) width (first-of fitting every rest);
-        inside = λ k h. record-in records (treeFirst trees t) (treeRecords trees t) k (first-of (recordThere records (treeFirst trees t) (treeRecords trees t) k) (kindFits questions records (treeRecords trees t) (blockEntries blocks t) (treeFirst trees t + k)) (at k h)) .1;
+        inside = λ k h. first-of (recordThere records (treeFirst trees t) (treeRecords trees t) k) (kindFits questions records (treeRecords trees t) (blockEntries blocks t) (treeFirst trees t + k)) (at k h);
         each = λ k h. says-kind questions records (treeRecords trees t) (blockEntries blocks t) (treeFirst trees t + k) (second-of (recordThere records (treeFirst trees t) (treeRecords trees t) k) (kindFits questions records (treeRecords trees t) (blockEntries blocks t) (treeFirst trees t + k)) (at k h));
       }
     where
@@ -105,21 +104,21 @@ module _ (questions trees records blocks values : List ℕ) (width : ℕ) where
   tree-says : (t : ℕ) → TreeStands questions trees records blocks values width t → treeFits questions trees records blocks values width t ≡ true
   unfolding treeFits recordFits
   tree-says t s =
-      both (lt-ltb t (length blocks / 2) (s .block))
+      both (s .block)
       (both (values-say values (blockFirst blocks t) (blockEntries blocks t) width (s .values-there))
       (each-all (recordFits questions records (treeFirst trees t) (treeRecords trees t) (blockEntries blocks t)) 0 (treeRecords trees t)
       (λ k l h.
       let m : k < treeRecords trees t = omega arith in
-      both (in-record records (treeFirst trees t) (treeRecords trees t) k m (s .inside k m)) (kind-says questions records (treeRecords trees t) (blockEntries blocks t) (treeFirst trees t + k) (s .each k m)))))
+      both (s .inside k m) (kind-says questions records (treeRecords trees t) (blockEntries blocks t) (treeFirst trees t + k) (s .each k m)))))
 
   -- yes exactly where the conditions hold
   pub fits-says : leavesFit questions trees records blocks values width ≡ true → LeavesFit questions trees records blocks values width
   unfolding leavesFit
-  fits-says e = record { each = λ t h. says-tree t (all-each (treeFits questions trees records blocks values width) 0 (length trees / 4) e t (omega arith) (omega arith)) }
+  fits-says e = record { each = λ t h. says-tree t (all-each (treeFits questions trees records blocks values width) 0 (treeRows trees) e t (omega arith) (let l = ltb-true t (treeRows trees) h in omega arith)) }
 
   pub says-fits : LeavesFit questions trees records blocks values width → leavesFit questions trees records blocks values width ≡ true
   unfolding leavesFit
-  says-fits s = each-all (treeFits questions trees records blocks values width) 0 (length trees / 4) (λ t l h. tree-says t (s .each t (omega arith)))
+  says-fits s = each-all (treeFits questions trees records blocks values width) 0 (treeRows trees) (λ t l h. tree-says t (s .each t (lt-ltb t (treeRows trees) (omega arith))))
 
   -- the same of what `leaves_fit` returns
   pub yes-exactly : {r : Bool} → r ≡ leavesFit questions trees records blocks values width

@@ -9,8 +9,9 @@ use native.Mathlib.Omega.{arith}
 use borrow.Author.Tests.{lt-ltb, le-ltb, le-leb, lt-leb, eq-eqb, ne-eqb}
 use lib.Dec.{ltb, leb, eqb}
 use lib.ListN.{length}
-use Rattle.rows.specs.Rows.{recordThere, recordKind, recordQuestion, recordPdf, recordYes, recordNo, treeFirst, treeRecords, blockThere, blockFirst, blockEntries}
-use Rattle.leaves.specs.Checks.{all, leafFits, questionThere, lineFits, kindFits, recordFits, valuesFit, treeFits}
+use Rattle.rows.specs.Rows.{questionThere, recordThere, recordKind, recordQuestion, recordPdf, recordYes, recordNo, treeFirst, treeRecords, blockThere, blockFirst, blockEntries}
+use Rattle.leaves.specs.Conditions.{leafFits}
+use Rattle.leaves.specs.Checks.{all, lineFits, kindFits, recordFits, valuesFit, treeFits}
 use Rattle.leaves.proofs.Every.{both, not-first, then-second}
 
 -- ---- values
@@ -56,13 +57,13 @@ module _ (values : List ℕ) (first entries width : ℕ) where
 -- ---- a line
 
 module _ (questions records : List ℕ) (count i : ℕ) {q : ℕ} (asks : q ≡ recordQuestion records i) where
-  pub no-question : length questions / 4 ≤ q → false ≡ lineFits questions records count i
+  pub no-question : questionThere questions q ≡ false → false ≡ lineFits questions records count i
   unfolding lineFits
-  no-question h = not-first (ltb (recordYes records i) count && ltb (recordNo records i) count) (le-ltb (recordQuestion records i) (length questions / 4) (omega arith))
+  no-question h = not-first (ltb (recordYes records i) count && ltb (recordNo records i) count) (ap (questionThere questions) (sym asks) ∙ h)
 
-  module _ (asked : q < length questions / 4) {y : ℕ} (goes : y ≡ recordYes records i) where
+  module _ (asked : questionThere questions q ≡ true) {y : ℕ} (goes : y ≡ recordYes records i) where
     there : questionThere questions (recordQuestion records i) ≡ true
-    there = lt-ltb (recordQuestion records i) (length questions / 4) (omega arith)
+    there = ap (questionThere questions) (sym asks) ∙ asked
 
     pub no-yes : count ≤ y → false ≡ lineFits questions records count i
     unfolding lineFits
@@ -108,17 +109,17 @@ module _ (questions trees records blocks values : List ℕ) (width t : ℕ) wher
       not-first (valuesFit values (blockFirst blocks t) (blockEntries blocks t) width && all (recordFits questions records (treeFirst trees t) (treeRecords trees t) (blockEntries blocks t)) 0 (treeRecords trees t)) e
 
   module _ (there : blockThere blocks t ≡ true) {e f : ℕ} (entries : e ≡ blockEntries blocks t) (start : f ≡ blockFirst blocks t) where
-    pub no-values : valuesFit values f e width ≡ false → false ≡ treeFits questions trees records blocks values width t
+    pub no-values : {v : Bool} → v ≡ valuesFit values f e width → v ≡ false → false ≡ treeFits questions trees records blocks values width t
     unfolding treeFits
-    no-values h =
+    no-values g h =
         then-second there
-        (not-first (all (recordFits questions records (treeFirst trees t) (treeRecords trees t) (blockEntries blocks t)) 0 (treeRecords trees t)) (sym (ap₂ (λ (a b : ℕ). valuesFit values a b width) start entries) ∙ h))
+        (not-first (all (recordFits questions records (treeFirst trees t) (treeRecords trees t) (blockEntries blocks t)) 0 (treeRecords trees t)) (sym (ap₂ (λ (a b : ℕ). valuesFit values a b width) start entries) ∙ sym g ∙ h))
 
-    pub by-records : {first count : ℕ} {r : Bool} → valuesFit values f e width ≡ true → first ≡ treeFirst trees t → count ≡ treeRecords trees t
+    pub by-records : {first count : ℕ} {v r : Bool} → v ≡ valuesFit values f e width → v ≡ true → first ≡ treeFirst trees t → count ≡ treeRecords trees t
         → r ≡ all (recordFits questions records first count e) 0 count → r ≡ treeFits questions trees records blocks values width t
     unfolding treeFits
-    by-records {first} {count} h p q s =
+    by-records {first} {count} g h p q s =
         then-second there
-        (then-second (sym (ap₂ (λ (a b : ℕ). valuesFit values a b width) start entries) ∙ h)
+        (then-second (sym (ap₂ (λ (a b : ℕ). valuesFit values a b width) start entries) ∙ sym g ∙ h)
         (s ∙ ap₂ (λ (a b : ℕ). all (recordFits questions records a count b) 0 count) p entries
         ∙ ap (λ (n : ℕ). all (recordFits questions records (treeFirst trees t) n (blockEntries blocks t)) 0 n) q))

@@ -1,21 +1,16 @@
 -- The leaf check by computation: the conditions, one test each. Assumes nothing.
 use mathlib.Core.Bool.{Bool, true, false, cond, _&&_, _||_}
 use mathlib.Core.List.{List}
-use Prim.Native.Nat.{ℕ, zero, suc, _+_, _*_, _/_}
+use Prim.Native.Nat.{ℕ, zero, suc, _+_, _*_}
 use lib.Dec.{ltb, leb, eqb}
 use lib.ListN.{length}
-use Rattle.rows.specs.Rows.{treeFirst, treeRecords, recordThere, recordKind, recordQuestion, recordPdf, recordYes, recordNo, blockThere, blockFirst, blockEntries}
+use Rattle.rows.specs.Rows.{questionThere, treeRows, treeFirst, treeRecords, recordThere, recordKind, recordQuestion, recordPdf, recordYes, recordNo, blockThere, blockFirst, blockEntries}
+use Rattle.leaves.specs.Conditions.{leafFits}
 
 -- p at k and the n - 1 numbers after it
 unfoldable pub all : (ℕ → Bool) → ℕ → ℕ → Bool
 all p k zero = true
 all p k (suc n) = p k && all p (suc k) n
-
-abbrev pub leafFits : ℕ → ℕ → Bool
-leafFits number entries = leb number entries
-
-abbrev pub questionThere : List ℕ → ℕ → Bool
-questionThere questions q = ltb q (length questions / 4)
 
 unfoldable pub lineFits : List ℕ → List ℕ → ℕ → ℕ → Bool
 lineFits questions records count i = questionThere questions (recordQuestion records i) && (ltb (recordYes records i) count && ltb (recordNo records i) count)
@@ -39,4 +34,4 @@ treeFits questions trees records blocks values width t =
     && (valuesFit values (blockFirst blocks t) (blockEntries blocks t) width && all (recordFits questions records (treeFirst trees t) (treeRecords trees t) (blockEntries blocks t)) 0 (treeRecords trees t))
 
 unfoldable pub leavesFit : List ℕ → List ℕ → List ℕ → List ℕ → List ℕ → ℕ → Bool
-leavesFit questions trees records blocks values width = all (treeFits questions trees records blocks values width) 0 (length trees / 4)
+leavesFit questions trees records blocks values width = all (treeFits questions trees records blocks values width) 0 (treeRows trees)

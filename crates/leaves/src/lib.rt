@@ -3,6 +3,7 @@
 use rows::block_entries;
 use rows::block_first;
 use rows::block_there;
+use rows::question_there;
 use rows::record_kind;
 use rows::record_no;
 use rows::record_pdf;
@@ -11,10 +12,12 @@ use rows::record_there;
 use rows::record_yes;
 use rows::tree_first;
 use rows::tree_records;
+use rows::tree_there;
 ghost use mathlib.Core.Path.{_≡_};
-ghost use Prim.Native.Nat.{_<_, _/_};
-ghost use lib.ListN.{length};
-ghost use Rattle.leaves.specs.Checks.{all, leafFits, lineFits, kindFits, recordFits, valuesFit, treeFits, leavesFit};
+ghost use Prim.Native.Nat.{_<_};
+ghost use Rattle.rows.specs.Rows.{treeRows, recordRows};
+ghost use Rattle.leaves.specs.Checks.{all, lineFits, recordFits, valuesFit, treeFits, leavesFit};
+ghost use Rattle.leaves.specs.Conditions.{leafFits};
 
 // Whether a leaf's number is at most the entries of its tree's block.
 pub fn leaf_fits(number: u64, entries: u64) -> bool
@@ -42,10 +45,10 @@ fn values_fit(values: &[u64], first: u64, entries: u64, width: u64) -> bool
 
 // A line at row i: its question, and its yes and no among the tree's records.
 fn line_fits(questions: &[u64], records: &[u64], count: u64, i: u64) -> bool
-    requires { ⌜ i < length (now records) / 4 ⌝ }
+    requires { ⌜ i < recordRows (now records) ⌝ }
     ensures { λ r. ⌜ r ≡ lineFits (now (questions .entry)) (now (records .entry)) count i ⌝ }
 {
-    if (questions.len() / 4) as u64 <= record_question(records, i) {
+    if !question_there(questions, record_question(records, i)) {
         return false;
     }
     if count <= record_yes(records, i) {
@@ -103,7 +106,7 @@ fn tree_fits(
     width: u64,
     t: u64,
 ) -> bool
-    requires { ⌜ t < length (now trees) / 4 ⌝ }
+    requires { ⌜ t < treeRows (now trees) ⌝ }
     ensures { λ r. ⌜ r ≡ treeFits (now (questions .entry)) (now (trees .entry)) (now (records .entry)) (now (blocks .entry)) (now (values .entry)) width t ⌝ }
 {
     if !block_there(blocks, t) {
@@ -133,9 +136,8 @@ pub fn leaves_fit(
 ) -> bool
     ensures { λ r. ⌜ r ≡ leavesFit (now (questions .entry)) (now (trees .entry)) (now (records .entry)) (now (blocks .entry)) (now (values .entry)) width ⌝ }
 {
-    let n = (trees.len() / 4) as u64;
     let mut t = 0;
-    while t < n {
+    while tree_there(trees, t) {
         if !tree_fits(questions, trees, records, blocks, values, width, t) {
             return false;
         }

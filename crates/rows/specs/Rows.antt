@@ -2,34 +2,52 @@
 -- width rows; a rest is never read. Assumes nothing.
 use mathlib.Core.Path.{_≡_}
 use mathlib.Core.Bool.{Bool, true, _&&_}
-use mathlib.Core.List.{List, [], _∷_}
-use Prim.Native.Nat.{ℕ, zero, suc, _+_, _*_, _/_, _<_}
+use mathlib.Core.List.{List, [], _∷_, _++_}
+use Prim.Native.Nat.{ℕ, zero, suc, _+_, _-_, _*_, _/_, min}
 use lib.Dec.{ltb}
 use lib.ListN.{length, getD}
 use Rattle.written.specs.Linking.{Row, Nth}
 
+-- ---- question: name start, length, first pattern, patterns
+
+abbrev pub questionRows : List ℕ → ℕ
+questionRows Q = length Q / 4
+
+abbrev pub questionThere : List ℕ → ℕ → Bool
+questionThere Q q = ltb q (questionRows Q)
+
 -- ---- tree: state, first record, records, lines
 
+abbrev pub treeRows : List ℕ → ℕ
+treeRows T = length T / 4
+
 abbrev pub treeThere : List ℕ → ℕ → Bool
-treeThere T i = ltb i (length T / 4)
+treeThere T t = ltb t (treeRows T)
 
 abbrev pub treeState : List ℕ → ℕ → ℕ
-treeState T i = getD T (4 * i) 0
+treeState T t = getD T (4 * t) 0
 
 abbrev pub treeFirst : List ℕ → ℕ → ℕ
-treeFirst T i = getD T (4 * i + 1) 0
+treeFirst T t = getD T (4 * t + 1) 0
 
 abbrev pub treeRecords : List ℕ → ℕ → ℕ
-treeRecords T i = getD T (4 * i + 2) 0
+treeRecords T t = getD T (4 * t + 2) 0
 
 abbrev pub treeLines : List ℕ → ℕ → ℕ
-treeLines T i = getD T (4 * i + 3) 0
+treeLines T t = getD T (4 * t + 3) 0
 
 -- ---- record: (0, question, yes, no) or (1, PDF number, 0, 0)
 
+abbrev pub recordRows : List ℕ → ℕ
+recordRows R = length R / 4
+
 -- record k of a tree that has `count` records from `first` on: among them, and in the table
 abbrev pub recordThere : List ℕ → ℕ → ℕ → ℕ → Bool
-recordThere R first count k = ltb k count && ltb (first + k) (length R / 4)
+recordThere R first count k = ltb k count && ltb (first + k) (recordRows R)
+
+-- how many of them stand in the table: the smaller of their count and the rows from the first on
+abbrev pub recordsIn : List ℕ → ℕ → ℕ → ℕ
+recordsIn R first count = min count (recordRows R - first)
 
 abbrev pub recordKind : List ℕ → ℕ → ℕ
 recordKind R i = getD R (4 * i) 0
@@ -48,32 +66,45 @@ recordNo R i = getD R (4 * i + 3) 0
 
 -- ---- block: first value, entries
 
+abbrev pub blockRows : List ℕ → ℕ
+blockRows B = length B / 2
+
 abbrev pub blockThere : List ℕ → ℕ → Bool
-blockThere B i = ltb i (length B / 2)
+blockThere B b = ltb b (blockRows B)
 
 abbrev pub blockFirst : List ℕ → ℕ → ℕ
-blockFirst B i = getD B (2 * i) 0
+blockFirst B b = getD B (2 * b) 0
 
 abbrev pub blockEntries : List ℕ → ℕ → ℕ
-blockEntries B i = getD B (2 * i + 1) 0
+blockEntries B b = getD B (2 * b + 1) 0
 
--- ---- the rows of a table of width 4, as lists of four numbers
+-- ---- tables as rows of four numbers
 
-abbrev pub rowAt : List ℕ → ℕ → Row
-rowAt t i = getD t (4 * i) 0 ∷ getD t (4 * i + 1) 0 ∷ getD t (4 * i + 2) 0 ∷ getD t (4 * i + 3) 0 ∷ []
+abbrev pub treeRow : List ℕ → ℕ → Row
+treeRow T t = treeState T t ∷ treeFirst T t ∷ treeRecords T t ∷ treeLines T t ∷ []
 
--- n of them, from row i on
-unfoldable pub rowsFrom : List ℕ → ℕ → ℕ → List Row
-rowsFrom t i zero = []
-rowsFrom t i (suc n) = rowAt t i ∷ rowsFrom t (suc i) n
+abbrev pub recordRow : List ℕ → ℕ → Row
+recordRow R i = recordKind R i ∷ recordQuestion R i ∷ recordYes R i ∷ recordNo R i ∷ []
 
--- all of them
-unfoldable pub rowsOf : List ℕ → List Row
-rowsOf t = rowsFrom t 0 (length t / 4)
+-- n rows, from row i on
+unfoldable pub rowsFrom : (ℕ → Row) → ℕ → ℕ → List Row
+rowsFrom row i zero = []
+rowsFrom row i (suc n) = row i ∷ rowsFrom row (suc i) n
 
--- rows stand in a table, from its row `first` on
-pub record Standing (t : List ℕ) (first : ℕ) (rows : List Row) : Type 0 where
-  pub each : (k : ℕ) (r : Row) → Nth rows k r → (first + k < length t / 4) × (r ≡ rowAt t (first + k))
+unfoldable pub treeTable : List ℕ → List Row
+treeTable T = rowsFrom (treeRow T) 0 (treeRows T)
+
+unfoldable pub recordTable : List ℕ → List Row
+recordTable R = rowsFrom (recordRow R) 0 (recordRows R)
+
+-- rows one behind the other
+unfoldable pub flat : List Row → List ℕ
+flat [] = []
+flat (r ∷ rows) = r ++ flat rows
+
+-- records stand in a table, from its row `first` on
+pub record Standing (R : List ℕ) (first : ℕ) (rows : List Row) : Type 0 where
+  pub each : (k : ℕ) (r : Row) → Nth rows k r → (ltb (first + k) (recordRows R) ≡ true) × (r ≡ recordRow R (first + k))
 
 -- the tables have a tree t with these records
 pub record HasTree (T R : List ℕ) (t : ℕ) (rows : List Row) : Type 0 where

@@ -2,22 +2,36 @@
 // (0, question, yes, no) or (1, PDF number, 0, 0), block (first value, entries). A table has length div width rows; a rest is never read.
 // Assumes nothing; what reads a row requires that it stands in its table, which `tree_there`, `record_there` and `block_there` tell.
 ghost use mathlib.Core.Path.{_≡_};
-ghost use Prim.Native.Nat.{_<_, _/_};
-ghost use lib.ListN.{length};
-ghost use Rattle.rows.specs.Rows.{treeThere, recordThere, blockThere, treeFirst, treeRecords, recordKind, recordQuestion, recordPdf, recordYes, recordNo, blockFirst, blockEntries};
+ghost use Prim.Native.Nat.{_<_};
+ghost use Rattle.rows.specs.Rows.{treeRows, recordRows, blockRows, questionThere, treeThere, recordThere, recordsIn, blockThere, treeFirst, treeRecords, recordKind, recordQuestion, recordPdf, recordYes, recordNo, blockFirst, blockEntries};
 
-// Whether there is a tree i.
-pub fn tree_there(trees: &[u64], i: u64) -> bool
-    ensures { λ r. ⌜ r ≡ treeThere (now (trees .entry)) i ⌝ }
+const QUESTION: usize = 4;
+
+const TREE: usize = 4;
+
+const RECORD: usize = 4;
+
+const BLOCK: usize = 2;
+
+// Whether there is a question q.
+pub fn question_there(questions: &[u64], q: u64) -> bool
+    ensures { λ r. ⌜ r ≡ questionThere (now (questions .entry)) q ⌝ }
 {
-    i < (trees.len() / 4) as u64
+    q < (questions.len() / QUESTION) as u64
+}
+
+// Whether there is a tree t.
+pub fn tree_there(trees: &[u64], t: u64) -> bool
+    ensures { λ r. ⌜ r ≡ treeThere (now (trees .entry)) t ⌝ }
+{
+    t < (trees.len() / TREE) as u64
 }
 
 // Whether record k of a tree with `count` records from `first` on stands among them and in the table.
 pub fn record_there(records: &[u64], first: u64, count: u64, k: u64) -> bool
     ensures { λ r. ⌜ r ≡ recordThere (now (records .entry)) first count k ⌝ }
 {
-    let rows = (records.len() / 4) as u64;
+    let rows = (records.len() / RECORD) as u64;
     if count <= k {
         return false;
     }
@@ -27,75 +41,90 @@ pub fn record_there(records: &[u64], first: u64, count: u64, k: u64) -> bool
     k < rows - first
 }
 
-// Whether there is a block i.
-pub fn block_there(blocks: &[u64], i: u64) -> bool
-    ensures { λ r. ⌜ r ≡ blockThere (now (blocks .entry)) i ⌝ }
+// How many records of such a tree stand in the table.
+pub fn records_in(records: &[u64], first: u64, count: u64) -> u64
+    ensures { λ r. ⌜ r ≡ recordsIn (now (records .entry)) first count ⌝ }
 {
-    i < (blocks.len() / 2) as u64
+    let rows = (records.len() / RECORD) as u64;
+    if rows <= first {
+        return 0;
+    }
+    if count <= rows - first {
+        count
+    } else {
+        rows - first
+    }
 }
 
-pub fn tree_first(trees: &[u64], i: u64) -> u64
-    requires { ⌜ i < length (now trees) / 4 ⌝ }
-    ensures { λ r. ⌜ r ≡ treeFirst (now (trees .entry)) i ⌝ }
+// Whether there is a block b.
+pub fn block_there(blocks: &[u64], b: u64) -> bool
+    ensures { λ r. ⌜ r ≡ blockThere (now (blocks .entry)) b ⌝ }
 {
-    trees[4 * (i as usize) + 1]
+    b < (blocks.len() / BLOCK) as u64
 }
 
-pub fn tree_records(trees: &[u64], i: u64) -> u64
-    requires { ⌜ i < length (now trees) / 4 ⌝ }
-    ensures { λ r. ⌜ r ≡ treeRecords (now (trees .entry)) i ⌝ }
+pub fn tree_first(trees: &[u64], t: u64) -> u64
+    requires { ⌜ t < treeRows (now trees) ⌝ }
+    ensures { λ r. ⌜ r ≡ treeFirst (now (trees .entry)) t ⌝ }
 {
-    trees[4 * (i as usize) + 2]
+    trees[TREE * (t as usize) + 1]
+}
+
+pub fn tree_records(trees: &[u64], t: u64) -> u64
+    requires { ⌜ t < treeRows (now trees) ⌝ }
+    ensures { λ r. ⌜ r ≡ treeRecords (now (trees .entry)) t ⌝ }
+{
+    trees[TREE * (t as usize) + 2]
 }
 
 // 0 is a line, 1 a leaf.
 pub fn record_kind(records: &[u64], i: u64) -> u64
-    requires { ⌜ i < length (now records) / 4 ⌝ }
+    requires { ⌜ i < recordRows (now records) ⌝ }
     ensures { λ r. ⌜ r ≡ recordKind (now (records .entry)) i ⌝ }
 {
-    records[4 * (i as usize)]
+    records[RECORD * (i as usize)]
 }
 
 // The question of a line.
 pub fn record_question(records: &[u64], i: u64) -> u64
-    requires { ⌜ i < length (now records) / 4 ⌝ }
+    requires { ⌜ i < recordRows (now records) ⌝ }
     ensures { λ r. ⌜ r ≡ recordQuestion (now (records .entry)) i ⌝ }
 {
-    records[4 * (i as usize) + 1]
+    records[RECORD * (i as usize) + 1]
 }
 
 // The PDF number of a leaf.
 pub fn record_pdf(records: &[u64], i: u64) -> u64
-    requires { ⌜ i < length (now records) / 4 ⌝ }
+    requires { ⌜ i < recordRows (now records) ⌝ }
     ensures { λ r. ⌜ r ≡ recordPdf (now (records .entry)) i ⌝ }
 {
-    records[4 * (i as usize) + 1]
+    records[RECORD * (i as usize) + 1]
 }
 
 pub fn record_yes(records: &[u64], i: u64) -> u64
-    requires { ⌜ i < length (now records) / 4 ⌝ }
+    requires { ⌜ i < recordRows (now records) ⌝ }
     ensures { λ r. ⌜ r ≡ recordYes (now (records .entry)) i ⌝ }
 {
-    records[4 * (i as usize) + 2]
+    records[RECORD * (i as usize) + 2]
 }
 
 pub fn record_no(records: &[u64], i: u64) -> u64
-    requires { ⌜ i < length (now records) / 4 ⌝ }
+    requires { ⌜ i < recordRows (now records) ⌝ }
     ensures { λ r. ⌜ r ≡ recordNo (now (records .entry)) i ⌝ }
 {
-    records[4 * (i as usize) + 3]
+    records[RECORD * (i as usize) + 3]
 }
 
-pub fn block_first(blocks: &[u64], i: u64) -> u64
-    requires { ⌜ i < length (now blocks) / 2 ⌝ }
-    ensures { λ r. ⌜ r ≡ blockFirst (now (blocks .entry)) i ⌝ }
+pub fn block_first(blocks: &[u64], b: u64) -> u64
+    requires { ⌜ b < blockRows (now blocks) ⌝ }
+    ensures { λ r. ⌜ r ≡ blockFirst (now (blocks .entry)) b ⌝ }
 {
-    blocks[2 * (i as usize)]
+    blocks[BLOCK * (b as usize)]
 }
 
-pub fn block_entries(blocks: &[u64], i: u64) -> u64
-    requires { ⌜ i < length (now blocks) / 2 ⌝ }
-    ensures { λ r. ⌜ r ≡ blockEntries (now (blocks .entry)) i ⌝ }
+pub fn block_entries(blocks: &[u64], b: u64) -> u64
+    requires { ⌜ b < blockRows (now blocks) ⌝ }
+    ensures { λ r. ⌜ r ≡ blockEntries (now (blocks .entry)) b ⌝ }
 {
-    blocks[2 * (i as usize) + 1]
+    blocks[BLOCK * (b as usize) + 1]
 }

@@ -6,12 +6,12 @@ use Prim.Native.Nat.{ℕ, zero, suc, _/_, _≤_, _<_, min}
 use native.Mathlib.Omega.{arith}
 use lib.ListN.{length}
 use Rattle.error.specs.declared.Refusal.the-variants.{WalkTable, Steps}
-use Rattle.rows.specs.Rows.{treeThere, treeFirst, treeRecords}
+use Rattle.rows.specs.Rows.{treeThere, treeFirst, treeRecords, recordsIn}
 use Rattle.walk.specs.declared.Met.{Met}
 use Rattle.walk.specs.declared.Met.the-variants.{Leaf, Line, Wrong}
 use Rattle.walk.specs.declared.Walked.{Walked}
 use Rattle.walk.specs.declared.Walked.the-variants.{Pdf, Refused}
-use Rattle.walk.specs.Walking.{meetAt, oneMore, byMet, walkFrom, walkOf, reachOf}
+use Rattle.walk.specs.Walking.{meetAt, oneMore, byMet, walkFrom, walkOf}
 use Rattle.walk.specs.Answer.{answerOf}
 use Rattle.walk.proofs.Judged.{line-within}
 use Rattle.walk.proofs.Round.{enough-min}
@@ -37,10 +37,10 @@ within meets (suc l) k = go (meets k) (within meets l)
 
 module _ (T R : List ℕ) (t : ℕ) (bytes : List ℕ) (l : ℕ) where
   abbrev most : ℕ
-  most = reachOf R (treeFirst T t) (treeRecords T t)
+  most = recordsIn R (treeFirst T t) (treeRecords T t)
 
   -- a limit above the tree's records in the table is as good as their number
-  pub walk-most : walkOf T R t bytes (min l (reachOf R (treeFirst T t) (treeRecords T t))) ≡ walkOf T R t bytes l
+  pub walk-most : walkOf T R t bytes (min l (recordsIn R (treeFirst T t) (treeRecords T t))) ≡ walkOf T R t bytes l
   unfolding walkOf
   walk-most =
       ap (λ (w : Walked). cond (treeThere T t) w (Refused WalkTable))
@@ -54,7 +54,7 @@ module _ (T R : List ℕ) (t : ℕ) (bytes : List ℕ) (l : ℕ) where
       go true = within (meetAt R (treeFirst T t) (treeRecords T t) bytes) m 0
       go false = omega arith
 
-  pub walk-asked : (answerOf (walkOf T R t bytes l) .asked ≤ l) × (answerOf (walkOf T R t bytes l) .asked ≤ reachOf R (treeFirst T t) (treeRecords T t))
+  pub walk-asked : (answerOf (walkOf T R t bytes l) .asked ≤ l) × (answerOf (walkOf T R t bytes l) .asked ≤ recordsIn R (treeFirst T t) (treeRecords T t))
   walk-asked =
       let h = subst (λ (w : Walked). answerOf w .asked ≤ min l most) walk-most (asked-in (min l most)) in
       (omega (arith, h), omega (arith, h))

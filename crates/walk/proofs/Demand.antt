@@ -3,8 +3,7 @@
 use mathlib.Core.Path.{_≡_, refl, sym, ap, _∙_, subst}
 use mathlib.Core.Bool.{Bool, true}
 use mathlib.Core.List.{List}
-use Prim.Native.Nat.{ℕ, _/_}
-use borrow.Author.Tests.{ltb-true}
+use Prim.Native.Nat.{ℕ}
 use lib.ListN.{length, take, drop}
 use Rattle.written.specs.Said.{Body, Tree, Question}
 use Rattle.written.specs.Linking.{Nth, Row, Linked}
@@ -12,8 +11,8 @@ use Rattle.written.specs.Tables.{TreeRows}
 use Rattle.written.specs.Walks.{Ending, limit, nothing, Written, Outcome, refused, Loaded, LoadedTree, asLoaded, Answers}
 use Rattle.written.proofs.Walk.{demand₃, written-once}
 use Rattle.written.proofs.Model.{model-walks}
-use Rattle.rows.specs.Rows.{treeThere, treeFirst, treeRecords, rowsOf, HasTree}
-use Rattle.rows.proofs.Stand.{row-there, standing-cut}
+use Rattle.rows.specs.Rows.{treeThere, treeFirst, treeRecords, treeTable, recordTable, HasTree}
+use Rattle.rows.proofs.Stand.{tree-there, standing-cut}
 use Rattle.walk.specs.declared.Walked.{Walked}
 use Rattle.walk.specs.declared.Walked.the-variants.{Pdf, Refused}
 use Rattle.walk.specs.Walking.{walkOf}
@@ -54,12 +53,12 @@ module _ {qs : List Question} {answer : ℕ → Bool} {bytes : List ℕ} (given 
       → (e : Ending) × Written qs answer body m e × (answerOf r ≡ endingAnswer e) × ((f : Ending) → Written qs answer body m f → f ≡ e)
   walk-demand₃ {T} {R} {t} {body} {rows} h l m {r} q =
       let d = demand₃ given l m in
-      let e : rows ≡ take (treeRecords T t) (drop (treeFirst T t) (rowsOf R)) = sym (ap (λ (n : ℕ). take n (drop (treeFirst T t) (rowsOf R))) (h .count) ∙ standing-cut R (h .stands)) in
-      let w = LoadedTree.there (row-there T t (ltb-true t (length T / 4) (h .there))) (subst (λ (rs : List Row). Loaded bytes rs 0 m (asLoaded (d .0))) e (d .2)) in
+      let e : rows ≡ take (treeRecords T t) (drop (treeFirst T t) (recordTable R)) = sym (ap (λ (n : ℕ). take n (drop (treeFirst T t) (recordTable R))) (h .count) ∙ standing-cut R (h .stands)) in
+      let w = LoadedTree.there (tree-there T t (h .there)) (subst (λ (rs : List Row). Loaded bytes rs 0 m (asLoaded (d .0))) e (d .2)) in
       (d .0, d .1, alike r (d .0) (loaded-walk T R t bytes m w ∙ ap outcomeOf (sym q)), λ f a. written-once given l a (d .1))
 
   -- every tree of a model whose rows the tables are
-  pub model-walk : (T R : List ℕ) {ts : List Tree} {i : ℕ} {t : Tree} → TreeRows qs 0 ts (rowsOf T) (rowsOf R) → Nth ts i t → (m : ℕ) {r : Walked} → r ≡ walkOf T R i bytes m
+  pub model-walk : (T R : List ℕ) {ts : List Tree} {i : ℕ} {t : Tree} → TreeRows qs 0 ts (treeTable T) (recordTable R) → Nth ts i t → (m : ℕ) {r : Walked} → r ≡ walkOf T R i bytes m
       → (e : Ending) × Written qs answer (t .body) m e × (answerOf r ≡ endingAnswer e)
   model-walk T R {i = i} rs h m {r} q =
       let d = model-walks given rs h m in

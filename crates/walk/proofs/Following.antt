@@ -5,12 +5,12 @@ use mathlib.Core.List.{List}
 use Prim.Native.Nat.{ℕ, zero, suc, _+_, _-_, _≤_, _<_, min}
 use native.Mathlib.Omega.{arith}
 use Rattle.error.specs.declared.Refusal.the-variants.{WalkTable, Steps}
-use Rattle.rows.specs.Rows.{treeThere, treeFirst, treeRecords}
+use Rattle.rows.specs.Rows.{treeThere, treeFirst, treeRecords, recordsIn}
 use Rattle.walk.specs.declared.Met.{Met}
 use Rattle.walk.specs.declared.Met.the-variants.{Leaf, Line, Wrong}
 use Rattle.walk.specs.declared.Walked.{Walked}
 use Rattle.walk.specs.declared.Walked.the-variants.{Pdf, Refused}
-use Rattle.walk.specs.Walking.{oneMore, walkFrom, meetAt, reachOf, walkOf}
+use Rattle.walk.specs.Walking.{oneMore, walkFrom, meetAt, walkOf}
 use Rattle.walk.proofs.Judged.{line-within}
 use Rattle.walk.proofs.Round.{plus, plus-none, plus-more, walk-leaf, walk-wrong, walk-stop, walk-on, enough-min}
 
@@ -29,14 +29,14 @@ pub record Following (meets : ℕ → Met) (limit most k asked : ℕ) : Type 0 w
   pub rest : plus asked (walkFrom meets (min limit most - asked) k) ≡ walkFrom meets limit 0
 
 pub following-none : (R : List ℕ) (first count : ℕ) (bytes : List ℕ) (limit : ℕ) {most : ℕ}
-    → most ≡ reachOf R first count → Following (meetAt R first count bytes) limit most 0 0
+    → most ≡ recordsIn R first count → Following (meetAt R first count bytes) limit most 0 0
 following-none R first count bytes limit {most} e =
-    let z : min limit most - 0 ≡ min limit (reachOf R first count) = omega arith in
+    let z : min limit most - 0 ≡ min limit (recordsIn R first count) = omega arith in
     record {
       limited = omega arith;
       bounded = omega arith;
       rest = plus-none (walkFrom (meetAt R first count bytes) (min limit most - 0) 0) ∙ ap (λ (l : ℕ). walkFrom (meetAt R first count bytes) l 0) z
-          ∙ enough-min (meetAt R first count bytes) 0 (reachOf R first count) (λ k j m. line-within R first count bytes k m) limit;
+          ∙ enough-min (meetAt R first count bytes) 0 (recordsIn R first count) (λ k j m. line-within R first count bytes k m) limit;
     }
 
 module _ (meets : ℕ → Met) (limit most k asked : ℕ) (f : Following meets limit most k asked) where

@@ -8,11 +8,11 @@ use borrow.Author.Tests.{lt-ltb, le-ltb, eq-eqb, ne-eqb}
 use lib.Dec.{eqb}
 use lib.ListN.{length, getD}
 use Rattle.written.specs.Walks.{chosen, isYes}
-use Rattle.rows.specs.Rows.{recordThere, recordKind, recordQuestion, recordPdf, recordYes, recordNo}
+use Rattle.rows.specs.Rows.{recordThere, recordsIn, recordKind, recordQuestion, recordPdf, recordYes, recordNo}
 use Rattle.rows.proofs.Stand.{record-in}
 use Rattle.walk.specs.declared.Met.{Met}
 use Rattle.walk.specs.declared.Met.the-variants.{Leaf, Line, Wrong}
-use Rattle.walk.specs.Walking.{lineAt, kindAt, meetAt, reachOf}
+use Rattle.walk.specs.Walking.{lineAt, kindAt, meetAt}
 
 is-yes : (b : ℕ) → (b ≡ 0 → ⊥) → isYes b ≡ true
 is-yes zero d = absurd (d refl)
@@ -70,10 +70,10 @@ module _ (R : List ℕ) (first count : ℕ) (bytes : List ℕ) (k : ℕ) where
           ∙ inside
 
   -- a line that is met stands among the records that the table has
-  pub line-within : {j : ℕ} → meetAt R first count bytes k ≡ Line j → k < reachOf R first count
+  pub line-within : {j : ℕ} → meetAt R first count bytes k ≡ Line j → k < recordsIn R first count
   unfolding meetAt
   line-within {j} e = go (recordThere R first count k) refl e
     where
-      go : (b : Bool) → recordThere R first count k ≡ b → cond b (kindAt R bytes (first + k)) Wrong ≡ Line j → k < reachOf R first count
+      go : (b : Bool) → recordThere R first count k ≡ b → cond b (kindAt R bytes (first + k)) Wrong ≡ Line j → k < recordsIn R first count
       go true t e = let h = record-in R first count k t in omega (arith, h .0, h .1)
       go false t e = let u : _≡_ {A = ℕ} 0 1 = cc in absurd (omega arith)

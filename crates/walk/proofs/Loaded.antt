@@ -11,8 +11,8 @@ use Rattle.written.specs.Linking.{Nth, Row, branch}
 use Rattle.written.specs.Walks.{isYes, chosen, Outcome, refused, afterwards, Loaded, LoadedTree}
 use Rattle.written.proofs.Walk.{nth-once, loaded-once}
 use Rattle.error.specs.declared.Refusal.the-variants.{WalkTable, Steps}
-use Rattle.rows.specs.Rows.{treeThere, treeState, treeFirst, treeRecords, treeLines, recordThere, recordKind, recordQuestion, recordPdf, recordYes, recordNo, rowAt, rowsOf}
-use Rattle.rows.proofs.Stand.{nth-at, nth-below, row-there, row-in, record-stands, record-out}
+use Rattle.rows.specs.Rows.{treeThere, treeFirst, treeRecords, recordThere, recordKind, recordQuestion, recordPdf, recordYes, recordNo, recordRow, treeTable, recordTable}
+use Rattle.rows.proofs.Stand.{nth-at, nth-below, tree-there, tree-missing, record-stands, record-out}
 use Rattle.walk.specs.declared.Met.{Met}
 use Rattle.walk.specs.declared.Met.the-variants.{Leaf, Line, Wrong}
 use Rattle.walk.specs.declared.Walked.{Walked}
@@ -32,7 +32,7 @@ module _ (bytes : List ℕ) where
     leaf : {n a b : ℕ} → Nth rows k (1 ∷ n ∷ a ∷ b ∷ []) → Sees rows k (Leaf n)
     line : {q y n b : ℕ} → Nth rows k (branch q y n) → Nth bytes q b → Sees rows k (Line (chosen (isYes b) y n))
 
-  module _ (R : List ℕ) (rows : List Row) (i k : ℕ) (stands : Nth rows k (rowAt R i)) where
+  module _ (R : List ℕ) (rows : List Row) (i k : ℕ) (stands : Nth rows k (recordRow R i)) where
     sees-line : recordKind R i ≡ 0 → Sees rows k (lineAt R bytes i)
     unfolding lineAt
     sees-line z = go (ltb (recordQuestion R i) (length bytes)) refl
@@ -62,43 +62,43 @@ module _ (bytes : List ℕ) where
         go false false p q = sees-other (recordKind R i) refl (eqb-false (recordKind R i) 0 p) (eqb-false (recordKind R i) 1 q)
 
   module _ (R : List ℕ) (first count : ℕ) where
-    sees : (k : ℕ) → Sees (take count (drop first (rowsOf R))) k (meetAt R first count bytes k)
+    sees : (k : ℕ) → Sees (take count (drop first (recordTable R))) k (meetAt R first count bytes k)
     unfolding meetAt
     sees k = go (recordThere R first count k) refl
       where
-        go : (t : Bool) → recordThere R first count k ≡ t → Sees (take count (drop first (rowsOf R))) k (cond t (kindAt R bytes (first + k)) Wrong)
-        go true e = sees-kind R (take count (drop first (rowsOf R))) (first + k) k (record-stands R first count k e)
+        go : (t : Bool) → recordThere R first count k ≡ t → Sees (take count (drop first (recordTable R))) k (cond t (kindAt R bytes (first + k)) Wrong)
+        go true e = sees-kind R (take count (drop first (recordTable R))) (first + k) k (record-stands R first count k e)
         go false e = wrong (λ m. Loaded.outside (record-out R first count k e))
 
-    loaded-from : (m k : ℕ) → Loaded bytes (take count (drop first (rowsOf R))) k m (outcomeOf (walkFrom (meetAt R first count bytes) m k))
+    loaded-from : (m k : ℕ) → Loaded bytes (take count (drop first (recordTable R))) k m (outcomeOf (walkFrom (meetAt R first count bytes) m k))
     unfolding walkFrom
     loaded-from zero k = go (sees k)
       where
-        go : {x : Met} → Sees (take count (drop first (rowsOf R))) k x → Loaded bytes (take count (drop first (rowsOf R))) k zero (outcomeOf (byMet (λ j. Refused Steps) x))
+        go : {x : Met} → Sees (take count (drop first (recordTable R))) k x → Loaded bytes (take count (drop first (recordTable R))) k zero (outcomeOf (byMet (λ j. Refused Steps) x))
         go (wrong f) = f zero
         go (leaf h) = Loaded.leaf h
         go (line h b) = Loaded.met h b
     loaded-from (suc m) k = go (sees k) (loaded-from m)
       where
-        go : {x : Met} → Sees (take count (drop first (rowsOf R))) k x
-            → ((j : ℕ) → Loaded bytes (take count (drop first (rowsOf R))) j m (outcomeOf (walkFrom (meetAt R first count bytes) m j)))
-            → Loaded bytes (take count (drop first (rowsOf R))) k (suc m) (outcomeOf (byMet (λ j. oneMore (walkFrom (meetAt R first count bytes) m j)) x))
+        go : {x : Met} → Sees (take count (drop first (recordTable R))) k x
+            → ((j : ℕ) → Loaded bytes (take count (drop first (recordTable R))) j m (outcomeOf (walkFrom (meetAt R first count bytes) m j)))
+            → Loaded bytes (take count (drop first (recordTable R))) k (suc m) (outcomeOf (byMet (λ j. oneMore (walkFrom (meetAt R first count bytes) m j)) x))
         go (wrong f) r = f (suc m)
         go (leaf h) r = Loaded.leaf h
         go (line {q = q} {y = y} {n = n} {b = b} h a) r =
-            subst (Loaded bytes (take count (drop first (rowsOf R))) k (suc m)) (more (walkFrom (meetAt R first count bytes) m (chosen (isYes b) y n))) (Loaded.goes h a (r (chosen (isYes b) y n)))
+            subst (Loaded bytes (take count (drop first (recordTable R))) k (suc m)) (more (walkFrom (meetAt R first count bytes) m (chosen (isYes b) y n))) (Loaded.goes h a (r (chosen (isYes b) y n)))
 
 -- ---- a tree
 
 -- the answer is the loaded walk's
-pub walk-loaded : (T R : List ℕ) (t : ℕ) (bytes : List ℕ) (limit : ℕ) → LoadedTree bytes (rowsOf T) (rowsOf R) t limit (outcomeOf (walkOf T R t bytes limit))
+pub walk-loaded : (T R : List ℕ) (t : ℕ) (bytes : List ℕ) (limit : ℕ) → LoadedTree bytes (treeTable T) (recordTable R) t limit (outcomeOf (walkOf T R t bytes limit))
 unfolding walkOf
-walk-loaded T R t bytes limit = go (ltb t (length T / 4)) refl
+walk-loaded T R t bytes limit = go (treeThere T t) refl
   where
-    go : (b : Bool) → ltb t (length T / 4) ≡ b
-        → LoadedTree bytes (rowsOf T) (rowsOf R) t limit (outcomeOf (cond b (walkFrom (meetAt R (treeFirst T t) (treeRecords T t) bytes) limit 0) (Refused WalkTable)))
-    go true e = LoadedTree.there (row-there T t (ltb-true t (length T / 4) e)) (loaded-from bytes R (treeFirst T t) (treeRecords T t) limit 0)
-    go false e = LoadedTree.missing {t = t} (λ r h. let l : t < length T / 4 = row-in T h in omega (arith, ltb-false t (length T / 4) e))
+    go : (b : Bool) → treeThere T t ≡ b
+        → LoadedTree bytes (treeTable T) (recordTable R) t limit (outcomeOf (cond b (walkFrom (meetAt R (treeFirst T t) (treeRecords T t) bytes) limit 0) (Refused WalkTable)))
+    go true e = LoadedTree.there (tree-there T t e) (loaded-from bytes R (treeFirst T t) (treeRecords T t) limit 0)
+    go false e = LoadedTree.missing (tree-missing T t e)
 
 same-row : {a b c d e f g h : ℕ} → a ∷ b ∷ c ∷ d ∷ [] ≡ e ∷ f ∷ g ∷ h ∷ [] → (b ≡ f) × (c ≡ g)
 same-row e = (cc, cc)
@@ -113,5 +113,5 @@ tree-once {bytes} {trees} {records} {t} {m} {o} {u} (LoadedTree.there {first = f
     loaded-once (subst (λ (n : ℕ). Loaded bytes (take n (drop g records)) 0 m o) (e .1) (subst (λ (n : ℕ). Loaded bytes (take c (drop n records)) 0 m o) (e .0) w)) v
 
 -- and the loaded walk's outcome is the answer's
-pub loaded-walk : (T R : List ℕ) (t : ℕ) (bytes : List ℕ) (limit : ℕ) {o : Outcome} → LoadedTree bytes (rowsOf T) (rowsOf R) t limit o → o ≡ outcomeOf (walkOf T R t bytes limit)
+pub loaded-walk : (T R : List ℕ) (t : ℕ) (bytes : List ℕ) (limit : ℕ) {o : Outcome} → LoadedTree bytes (treeTable T) (recordTable R) t limit o → o ≡ outcomeOf (walkOf T R t bytes limit)
 loaded-walk T R t bytes limit h = tree-once h (walk-loaded T R t bytes limit)

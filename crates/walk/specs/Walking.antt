@@ -2,7 +2,7 @@
 -- the table, then kind, then answer byte, then limit. Assumes nothing.
 use mathlib.Core.Bool.{Bool, cond}
 use mathlib.Core.List.{List}
-use Prim.Native.Nat.{ℕ, zero, suc, _+_, _-_, _/_, min}
+use Prim.Native.Nat.{ℕ, zero, suc, _+_}
 use lib.Dec.{ltb, eqb}
 use lib.ListN.{length, getD}
 use Rattle.written.specs.Walks.{chosen, isYes}
@@ -57,7 +57,3 @@ walkFrom meets (suc left) k = byMet (λ j. oneMore (walkFrom meets left j)) (mee
 
 unfoldable pub walkOf : List ℕ → List ℕ → ℕ → List ℕ → ℕ → Walked
 walkOf T R t bytes limit = cond (treeThere T t) (walkFrom (meetAt R (treeFirst T t) (treeRecords T t) bytes) limit 0) (Refused WalkTable)
-
--- the records of a tree that stand in the table: the smaller of its count and the rows from its first on
-abbrev pub reachOf : List ℕ → ℕ → ℕ → ℕ
-reachOf R first count = min count (length R / 4 - first)

@@ -7,13 +7,14 @@ use rows::record_pdf;
 use rows::record_question;
 use rows::record_there;
 use rows::record_yes;
+use rows::records_in;
 use rows::tree_first;
 use rows::tree_records;
 use rows::tree_there;
 ghost use mathlib.Core.Path.{_≡_};
-ghost use Prim.Native.Nat.{_<_, _/_};
-ghost use lib.ListN.{length};
-ghost use Rattle.walk.specs.Walking.{lineAt, meetAt, reachOf, walkFrom, walkOf};
+ghost use Prim.Native.Nat.{_<_};
+ghost use Rattle.rows.specs.Rows.{recordRows};
+ghost use Rattle.walk.specs.Walking.{lineAt, meetAt, walkFrom, walkOf};
 
 // How a walk ends: at a PDF, after so many questions; or refused, by 24 or 25.
 pub enum Walked {
@@ -33,7 +34,7 @@ pub enum Met {
 
 // A line at row i: its question's byte leads to yes or no. Any byte but 0 is yes.
 fn ask(records: &[u64], i: u64, answers: &[u8]) -> Met
-    requires { ⌜ i < length (now records) / 4 ⌝ }
+    requires { ⌜ i < recordRows (now records) ⌝ }
     ensures { λ r. ⌜ r ≡ lineAt (now (records .entry)) (now (answers .entry)) i ⌝ }
 {
     let question = record_question(records, i);
@@ -66,27 +67,12 @@ fn meet(records: &[u64], first: u64, count: u64, k: u64, answers: &[u8]) -> Met
     }
 }
 
-// The most questions that a walk can ask without meeting a record twice: as many as its tree has records in the table.
-fn reach(records: &[u64], first: u64, count: u64) -> u64
-    ensures { λ r. ⌜ r ≡ reachOf (now (records .entry)) first count ⌝ }
-{
-    let rows = (records.len() / 4) as u64;
-    if rows <= first {
-        return 0;
-    }
-    if count <= rows - first {
-        count
-    } else {
-        rows - first
-    }
-}
-
-// The walk from a tree's first record on. A line met after as many questions as the tree has records was met before: the walk goes
-// round, and whatever the limit is, it is met.
+// The walk from a tree's first record on. A line met after as many questions as the tree has records in the table was met before: the
+// walk goes round, and whatever the limit is, it is met.
 fn follow(records: &[u64], first: u64, count: u64, answers: &[u8], limit: u64) -> Walked
     ensures { λ r. ⌜ r ≡ walkFrom (meetAt (now (records .entry)) first count (now (answers .entry))) limit 0 ⌝ }
 {
-    let most = reach(records, first, count);
+    let most = records_in(records, first, count);
     let mut k = 0;
     let mut asked = 0;
     loop {

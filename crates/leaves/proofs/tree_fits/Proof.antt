@@ -29,7 +29,7 @@ values-fit-requires c κs = search needs
 returns-2 : tie.Need-returns-2
 returns-2 c =
     let a = c .before .before .before .before .before .before .before .before .before .before .before .args in
-    no-values (a .questions .now) (a .trees .now) (a .records .now) (a .blocks .now) (a .values .now) (a .width) (a .t) (there (c .before .before .before .before)) (c .before .before .before .block-entries .ensures) (c .before .before .block-first .ensures) (sym (c .before .values-fit .ensures) ∙ not-true _ (c .if2 .taken))
+    no-values (a .questions .now) (a .trees .now) (a .records .now) (a .blocks .now) (a .values .now) (a .width) (a .t) (there (c .before .before .before .before)) (c .before .before .before .block-entries .ensures) (c .before .before .block-first .ensures) (c .before .values-fit .ensures) (not-true _ (c .if2 .taken))
 
 tree-first-requires : tie.Need-tree-first-requires
 tree-first-requires c κs = search needs
@@ -43,7 +43,7 @@ records-fit-requires c κs = search needs
 returns-3 : tie.Need-returns-3
 returns-3 c =
     let a = c .before .before .before .before .before .before .before .before .before .before .before .before .before .before .args in
-    by-records (a .questions .now) (a .trees .now) (a .records .now) (a .blocks .now) (a .values .now) (a .width) (a .t) (there (c .before .before .before .before .before .before .before)) (c .before .before .before .before .before .before .block-entries .ensures) (c .before .before .before .before .before .block-first .ensures) (sym (c .before .before .before .before .values-fit .ensures) ∙ not-false _ (c .before .before .before .if2 .left)) (c .before .before .tree-first .ensures) (c .before .tree-records .ensures) (c .records-fit .ensures)
+    by-records (a .questions .now) (a .trees .now) (a .records .now) (a .blocks .now) (a .values .now) (a .width) (a .t) (there (c .before .before .before .before .before .before .before)) (c .before .before .before .before .before .before .block-entries .ensures) (c .before .before .before .before .before .block-first .ensures) (c .before .before .before .before .values-fit .ensures) (not-false _ (c .before .before .before .if2 .left)) (c .before .before .tree-first .ensures) (c .before .tree-records .ensures) (c .records-fit .ensures)
 
 pub tree-fits-spec : {M : Type 1} → statement M
 tree-fits-spec =

@@ -4,7 +4,7 @@ use mathlib.Core.Path.{_≡_, sym, _∙_}
 use Prim.Native.Nat.{_-_, _≤_, min}
 use native.Mathlib.Omega.{arith}
 use borrow.Author.Needs.{needs}
-use Rattle.walk.specs.Walking.{meetAt, reachOf}
+use Rattle.walk.specs.Walking.{meetAt}
 use Rattle.walk.proofs.Following.{Following, following-none, following-leaf, following-wrong, following-limit, following-reach, following-on}
 use Rattle.walk.proofs.follow.Statement.{statement}
 use Rattle.walk.proofs.follow.Tie as tie
@@ -15,13 +15,13 @@ Inv-loop records first count answers limit most k₀ asked₀ k asked = Followin
 abbrev μ-loop : tie.MeasureT-loop
 μ-loop records first count answers limit most k₀ asked₀ k asked = most - asked
 
-reach-requires : tie.Need-reach-requires Inv-loop μ-loop
-reach-requires c κs = search needs
+records-in-requires : tie.Need-records-in-requires Inv-loop μ-loop
+records-in-requires c κs = search needs
 
 loop-holds : tie.Need-loop-holds Inv-loop μ-loop
 loop-holds c =
     let a = c .before .before .before .args in
-    following-none (a .records .now) (a .first) (a .count) (a .answers .now) (a .limit) (c .reach .ensures)
+    following-none (a .records .now) (a .first) (a .count) (a .answers .now) (a .limit) (c .records-in .ensures)
 
 meet-requires : tie.Need-meet-requires Inv-loop μ-loop
 meet-requires c κs = search needs
@@ -65,7 +65,7 @@ follow-spec =
     (tie.spec
     Inv-loop
     μ-loop
-    reach-requires
+    records-in-requires
     loop-holds
     meet-requires
     enum-known-number
