@@ -11,8 +11,9 @@ use Rattle.written.specs.Tables.{TreeRows}
 use Rattle.written.specs.Walks.{Ending, limit, nothing, Written, Outcome, refused, Loaded, LoadedTree, asLoaded, Answers}
 use Rattle.written.proofs.Walk.{demand₃, written-once}
 use Rattle.written.proofs.Model.{model-walks}
-use Rattle.rows.specs.Rows.{treeThere, treeFirst, treeRecords, treeTable, recordTable, HasTree}
+use Rattle.rows.specs.Rows.{treeThere, treeFirst, treeRecords, treeTable, recordTable, flat, HasTree}
 use Rattle.rows.proofs.Stand.{tree-there, standing-cut}
+use Rattle.rows.proofs.Fours.{fours-model, record-table, tree-table}
 use Rattle.walk.specs.declared.Walked.{Walked}
 use Rattle.walk.specs.declared.Walked.the-variants.{Pdf, Refused}
 use Rattle.walk.specs.Walking.{walkOf}
@@ -63,3 +64,10 @@ module _ {qs : List Question} {answer : ℕ → Bool} {bytes : List ℕ} (given 
   model-walk T R {i = i} rs h m {r} q =
       let d = model-walks given rs h m in
       (d .0, d .1, alike r (d .0) (loaded-walk T R i bytes m (d .2) ∙ ap outcomeOf (sym q)))
+
+  -- and of a model whose rows stand in the tables one behind the other
+  pub flat-walk : {ts : List Tree} {trees records : List Row} {i : ℕ} {t : Tree} → TreeRows qs 0 ts trees records → Nth ts i t → (m : ℕ) {r : Walked}
+      → r ≡ walkOf (flat trees) (flat records) i bytes m → (e : Ending) × Written qs answer (t .body) m e × (answerOf r ≡ endingAnswer e)
+  flat-walk {ts} {trees} {records} rs h m q =
+      let f = fours-model rs in
+      model-walk (flat trees) (flat records) (subst (λ (x : List Row). TreeRows qs 0 ts x (recordTable (flat records))) (sym (tree-table trees (f .0))) (subst (TreeRows qs 0 ts trees) (sym (record-table records (f .1))) rs)) h m q

@@ -5,3 +5,4 @@ pub mod Following
 pub mod Bound
 pub mod Loaded
 pub mod Demand
+pub mod Examples
