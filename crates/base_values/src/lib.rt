@@ -38,7 +38,7 @@ pub enum Pattern {
 }
 
 // Decimal digits, as far as they go; leading zeros without limit.
-pub fn unsigned(s: &[u8], at: usize) -> Unsigned
+pub fn parse_unsigned(s: &[u8], at: usize) -> Unsigned
     ensures { λ r. ⌜ r ≡ unsignedAt (now (s .entry)) at ⌝ }
 {
     if s.len() <= at {
@@ -126,13 +126,13 @@ fn negative(u: Unsigned) -> Signed
 }
 
 // Decimal digits, perhaps after -, that fit signed 64 bits; -0 is 0.
-pub fn signed(s: &[u8], at: usize) -> Signed
+pub fn parse_signed(s: &[u8], at: usize) -> Signed
     ensures { λ r. ⌜ r ≡ signedAt (now (s .entry)) at ⌝ }
 {
     if byte_at(s, at) == 45 {
-        negative(unsigned(s, at + 1))
+        negative(parse_unsigned(s, at + 1))
     } else {
-        positive(unsigned(s, at))
+        positive(parse_unsigned(s, at))
     }
 }
 
@@ -151,7 +151,7 @@ fn some_pattern(start: usize, end: usize, next: usize) -> Pattern
 }
 
 // A pattern: one or more bytes of the first four classes, bare or in ".
-pub fn pattern(s: &[u8], at: usize) -> Pattern
+pub fn parse_pattern(s: &[u8], at: usize) -> Pattern
     ensures { λ r. ⌜ r ≡ patternAt (now (s .entry)) at ⌝ }
 {
     if byte_at(s, at) == 34 {

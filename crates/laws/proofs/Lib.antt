@@ -3,3 +3,4 @@ pub mod Stops
 pub mod Cursor
 pub mod Tables
 pub mod Ranges
+pub mod Signed

@@ -54,3 +54,7 @@ byte-is s i h = rw (lt-ltb i (length s) h)
 
 pub byte-in : (s : List ℕ) (i : ℕ) {b : ℕ} → byteAt s i ≡ b → b < 256 → i < length s
 byte-in s i e h = elim (decLt i (length s)) [ yes l ↦ l | no n ↦ absurd (omega (arith, byte-out s i (omega arith))) ]
+
+-- the same of a byte that a function read
+pub read-in : (s : List ℕ) (i : ℕ) {r b : ℕ} → r ≡ byteAt s i → r ≡ b → b < 256 → i < length s
+read-in s i e q h = byte-in s i (sym e ∙ q) h
