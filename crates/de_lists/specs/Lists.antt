@@ -3,13 +3,14 @@ use mathlib.Core.Bool.{Bool, cond}
 use mathlib.Core.List.{List, [], _∷_, _++_, map}
 use Prim.Native.Nat.{ℕ, zero, suc, _+_}
 use lib.Dec.{ltb}
-use lib.ListN.{length, set}
+use lib.ListN.{length, set, getD}
 use Rattle.written.specs.Bytes as written
 use Rattle.written.specs.Bytes.{comma}
 use Rattle.written.specs.HeaderText as says
 use Rattle.error.specs.declared.Refusal.the-variants as refusal
 use Rattle.header.specs.Empty.{noSpan, noRange, span, range}
 use Rattle.header.specs.Lists.{filled, spanOf, rangeOf}
+use Rattle.header.specs.declared.Span.{Span}
 use Rattle.de.specs.Values.{cursor, delimiterAt}
 use Rattle.de.specs.Readings.{Reading, read, refused}
 use Rattle.de.specs.declared.Delimiter.{Delimiter}
@@ -64,6 +65,11 @@ spansWith x start n = record { items = cond (ltb (x .count) 32) (set (x .items) 
 
 unfoldable pub rangesWith : Ranges → ℕ → ℕ → Ranges
 rangesWith x a b = record { items = cond (ltb (x .count) 8) (set (x .items) (x .count) (range a b)) (x .items); count = x .count + 1 }
+
+-- the n items from i on
+unfoldable pub firsts : ℕ → List Span → ℕ → List Span
+firsts zero t i = []
+firsts (suc n) t i = getD t i noSpan ∷ firsts n t (i + 1)
 
 abbrev pub stringsIn : Reading (List written.Span) → StringList
 stringsIn (read l j) = record { outcome = outcome.Read (cursor j); list = spansOf l }
