@@ -111,3 +111,8 @@ unseen = false ∷ false ∷ false ∷ false ∷ false ∷ false ∷ false ∷ f
 -- each line has a byte of its own, so there are no more than bytes
 unfoldable pub linesAt : List Field → List ℕ → ℕ → Lines
 linesAt T s i = linesFrom (suc (length s)) T s unseen [] i
+
+-- what is kept of lines, one after the other
+unfoldable pub kept : {A : Type 0} → (A → Entry → A) → A → List Entry → A
+kept f a [] = a
+kept f a (x ∷ xs) = kept f (f a x) xs
