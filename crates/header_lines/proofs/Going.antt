@@ -1,6 +1,6 @@
 -- The lines of a section while they are read: what is left answers as the whole does. One law for each way out of a turn; and what a `Line` says of the
 -- line that it stands for. Assumes nothing.
-use mathlib.Core.Path.{_≡_, refl, sym, ap, _∙_}
+use mathlib.Core.Path.{_≡_, refl, sym, ap, _∙_, subst}
 use mathlib.Core.Bool.{Bool}
 use mathlib.Core.List.{List, [], _∷_, _++_}
 use Prim.Native.Nat.{ℕ, zero, suc, _+_, _-_, _≤_, _<_}
@@ -12,6 +12,9 @@ use Rattle.de.specs.Values.{cursor}
 use Rattle.de.specs.declared.Cursor.{Cursor}
 use Rattle.header_fields.specs.Fields.{fieldIndex}
 use Rattle.header_lines.specs.Lines.{Next, entry, end, wrong, lineAt, lineIn, marked, Lines, whole, faulty, onward, linesFrom, unseen, linesAt, kept}
+use Rattle.de_lists.specs.declared.Outcome.the-variants as outcome
+use Rattle.de_values.specs.Values.{valueOf}
+use Rattle.header_lines.specs.declared.Line.{Line}
 use Rattle.header_lines.specs.declared.Step.{Step}
 use Rattle.header_lines.specs.declared.Step.the-variants as step
 use Rattle.header_lines.proofs.Moves.{no, line-moves}
@@ -71,6 +74,23 @@ module _ (T : List Field) (s : List ℕ) (i₀ : ℕ) where
         let h = line-moves T m s at e in
         let k : suc (g .fuel - 1) ≡ g .fuel = omega (arith, g .enough, h .0) in
         (record { fuel = g .fuel - 1; enough = omega (arith, g .enough, h .1); same = rw k (turn (entry x j) e) }, omega (arith, h .0, h .1))
+
+-- a turn that reads a line
+pub record Turned (T : List Field) (s : List ℕ) (i₀ : ℕ) (at : ℕ) (m : List Bool) (xs : List Entry) (l : Line) (c : Cursor) : Type 0 where
+  pub line : Entry
+  pub field : l .field ≡ fieldIndex T (line .name)
+  pub value : l .value ≡ valueOf (outcome.Read c) (line .value)
+  pub going : Going T s i₀ (c .at) (marked (length T) m (l .field)) (xs ++ (line ∷ []))
+  pub less : length s - c .at < length s - at
+
+pub turned : (T : List Field) (s : List ℕ) (i₀ : ℕ) {at : ℕ} {m : List Bool} {xs : List Entry} {l : Line} {c : Cursor} → Going T s i₀ at m xs → l ≡ lineIn T (lineAt T m s at)
+    → l .step ≡ step.Read c → Turned T s i₀ at m xs l c
+turned T s i₀ {at} {m} {xs} {l} {c} g e f =
+    let i = entry-of T (lineAt T m s at) (ap (λ (x : Line). x .step) (sym e) ∙ f) in
+    let o = lines-on T s i₀ g (i .same) in
+    let h : l ≡ lineIn T (entry (i .line) (c .at)) = e ∙ ap (lineIn T) (i .same) in
+    let k : l .field ≡ fieldIndex T (i .line .name) = ap (λ (x : Line). x .field) h in
+    record { line = i .line; field = k; value = ap (λ (x : Line). x .value) h; going = subst (λ (n : ℕ). Going T s i₀ (c .at) (marked (length T) m n) (xs ++ (i .line ∷ []))) (sym k) (o .0); less = o .1 }
 
 -- ---- what is kept of them
 

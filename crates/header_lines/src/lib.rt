@@ -40,6 +40,12 @@ pub enum Step {
     Refused(Refusal),
 }
 
+// How a section, or a group, was judged.
+pub enum Verdict {
+    Accepted,
+    Refused(Refusal),
+}
+
 // The next line: the number of the field that its key names, and its value; zero where there is none.
 pub struct Line {
     pub step: Step,
