@@ -39,20 +39,20 @@ module _ (s : List ℕ) (x : Reading says.Value) where
 abbrev pub made : Step → ℕ → Value → Line
 made p k v = record { step = p; field = k; value = v }
 
-module _ (T : List Field) (m : List Bool) (s : List ℕ) (at : ℕ) (w : List ℕ) (k : ℕ) where
-  pub line-twice : stoodAt m (fieldIndex T w) ≡ true → lineIn T (keyedAt T m s at w k) ≡ made (step.Refused refusal.Field) 0 (blankOf (outcome.Refused refusal.Field))
+module _ (T : List Field) (m : List Bool) (at : ℕ) (w : List ℕ) (x : Reading says.Value) where
+  pub line-twice : stoodAt m (fieldIndex T w) ≡ true → lineIn T (keyedAt T m at w x) ≡ made (step.Refused refusal.Field) 0 (blankOf (outcome.Refused refusal.Field))
   unfolding keyedAt
   line-twice e = rw e
 
-  module _ (e : stoodAt m (fieldIndex T w) ≡ false) (u : Value) (h : u ≡ valueIn (lineValueAt s k (kindOf T w))) where
-    pub line-read : {c : Cursor} → u .outcome ≡ outcome.Read c → made (step.Read c) (fieldIndex T w) u ≡ lineIn T (keyedAt T m s at w k)
+  module _ (e : stoodAt m (fieldIndex T w) ≡ false) (u : Value) (h : u ≡ valueIn x) where
+    pub line-read : {c : Cursor} → u .outcome ≡ outcome.Read c → made (step.Read c) (fieldIndex T w) u ≡ lineIn T (keyedAt T m at w x)
     unfolding keyedAt
     line-read {c} o =
-        let i = read-of (lineValueAt s k (kindOf T w)) (ap (λ (v : Value). v .outcome) (sym h) ∙ o) in
+        let i = read-of x (ap (λ (v : Value). v .outcome) (sym h) ∙ o) in
         rw (e, i .same) (ap (made (step.Read c) (fieldIndex T w)) (h ∙ ap valueIn (i .same)))
 
-    pub line-wrong : {r : Refusal} → u .outcome ≡ outcome.Refused r → made (step.Refused r) 0 u ≡ lineIn T (keyedAt T m s at w k)
+    pub line-wrong : {r : Refusal} → u .outcome ≡ outcome.Refused r → made (step.Refused r) 0 u ≡ lineIn T (keyedAt T m at w x)
     unfolding keyedAt
     line-wrong {r} o =
-        let i = refused-of (lineValueAt s k (kindOf T w)) (ap (λ (v : Value). v .outcome) (sym h) ∙ o) in
+        let i = refused-of x (ap (λ (v : Value). v .outcome) (sym h) ∙ o) in
         rw (e, i) (ap (made (step.Refused r) 0) (h ∙ ap valueIn i))

@@ -83,7 +83,7 @@ line-moves T m s i {x} {j} e = go (keyAt s i) refl e
     keyed a w k true g = no cc
     keyed a w k false g = value a w k (lineValueAt s k (kindOf T w)) refl g
 
-    at : (a n : ℕ) (c : Cursor) → i ≤ c .at → keyedAt T m s a (part s a n) (c .at) ≡ entry x j → (i < length s) × (i < j)
+    at : (a n : ℕ) (c : Cursor) → i ≤ c .at → keyedAt T m a (part s a n) (lineValueAt s (c .at) (kindOf T (part s a n))) ≡ entry x j → (i < length s) × (i < j)
     at a n c h g = let o = keyed a (part s a n) (c .at) (stoodAt m (fieldIndex T (part s a n))) g in (omega (arith, o .0), omega (arith, o .1))
 
     go : (d : Key) → keyAt s i ≡ d → lineOf T m s d ≡ entry x j → (i < length s) × (i < j)

@@ -65,12 +65,12 @@ entryOf at w (refused r) = wrong r
 unfoldable pub stoodAt : List Bool → ℕ → Bool
 stoodAt m k = cond (ltb k 10) (getD m k false) false
 
--- the line with the key w, which starts at `at` and ends at k; m says which fields stood before
-unfoldable pub keyedAt : List Field → List Bool → List ℕ → ℕ → List ℕ → ℕ → Next
-keyedAt T m s at w k = cond (stoodAt m (fieldIndex T w)) (wrong refusal.Field) (entryOf at w (lineValueAt s k (kindOf T w)))
+-- the line with the key w, which starts at `at`, and the value x; m says which fields stood before, and a field that repeats is refused at its key
+unfoldable pub keyedAt : List Field → List Bool → ℕ → List ℕ → Reading Value → Next
+keyedAt T m at w x = cond (stoodAt m (fieldIndex T w)) (wrong refusal.Field) (entryOf at w x)
 
 abbrev pub lineOf : List Field → List Bool → List ℕ → Key → Next
-lineOf T m s (key.Read at n c) = keyedAt T m s at (part s at n) (c .at)
+lineOf T m s (key.Read at n c) = keyedAt T m at (part s at n) (lineValueAt s (c .at) (kindOf T (part s at n)))
 lineOf T m s key.End = end
 lineOf T m s (key.Refused r) = wrong r
 

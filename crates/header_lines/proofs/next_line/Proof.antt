@@ -25,7 +25,7 @@ table c = fieldsOf (c .before .before .before .before .before .before .before .a
 named : (c : tie.After-field-of) → c .field-of .result ≡ fieldIndex (table c) (key c)
 named c = c .field-of .ensures ∙ ap (fieldIndex (table c)) (c .before .part-of .ensures)
 
-at-key : (c : tie.After-field-of) → lineAt (table c) (c .before .before .before .before .before .before .before .args .seen) (c .before .before .before .before .before .before .before .args .s .now) (c .before .before .before .before .before .before .before .args .c .at) ≡ keyedAt (table c) (c .before .before .before .before .before .before .before .args .seen) (c .before .before .before .before .before .before .before .args .s .now) (c .before .before .before .start .given .0 .0) (key c) (c .before .before .before .start .given .0 .1 .1 .0 .at)
+at-key : (c : tie.After-field-of) → lineAt (table c) (c .before .before .before .before .before .before .before .args .seen) (c .before .before .before .before .before .before .before .args .s .now) (c .before .before .before .before .before .before .before .args .c .at) ≡ keyedAt (table c) (c .before .before .before .before .before .before .before .args .seen) (c .before .before .before .start .given .0 .0) (key c) (lineValueAt (c .before .before .before .before .before .before .before .args .s .now) (c .before .before .before .start .given .0 .1 .1 .0 .at) (kindOf (table c) (key c)))
 unfolding lineAt
 at-key c = ap (lineOf (table c) (c .before .before .before .before .before .before .before .args .seen) (c .before .before .before .before .before .before .before .args .s .now)) (sym (c .before .before .before .before .before .next-key .ensures) ∙ c .before .before .before .start .given .1)
 
@@ -69,7 +69,7 @@ blank-requires-3 : tie.Need-blank-requires-3
 blank-requires-3 c κs = search needs
 
 returns : tie.Need-returns
-returns c = ap (made _ 0) (c .blank3 .ensures) ∙ sym (ap (lineIn (table (c .before .before .before))) (at-key (c .before .before .before)) ∙ line-twice (table (c .before .before .before)) (c .before .before .before .before .before .before .before .before .before .before .args .seen) (c .before .before .before .before .before .before .before .before .before .before .args .s .now) _ (key (c .before .before .before)) _ (ap (stoodAt (c .before .before .before .before .before .before .before .before .before .before .args .seen)) (sym (named (c .before .before .before))) ∙ sym (c .before .before .stood .ensures) ∙ c .before .if1 .taken))
+returns c = ap (made _ 0) (c .blank3 .ensures) ∙ sym (ap (lineIn (table (c .before .before .before))) (at-key (c .before .before .before)) ∙ line-twice (table (c .before .before .before)) (c .before .before .before .before .before .before .before .before .before .before .args .seen) _ (key (c .before .before .before)) _ (ap (stoodAt (c .before .before .before .before .before .before .before .before .before .before .args .seen)) (sym (named (c .before .before .before))) ∙ sym (c .before .before .stood .ensures) ∙ c .before .if1 .taken))
 
 kind-of-requires : tie.Need-kind-of-requires
 kind-of-requires c κs = search needs
@@ -92,10 +92,10 @@ unfolding lineAt
 returns-3 c = rw (sym (c .before .before .before .before .next-key .ensures) ∙ c .before .before .refusal .given .1) (ap (made _ 0) (c .blank2 .ensures))
 
 returns-4 : tie.Need-returns-4
-returns-4 c = ap₂ (made _) (named (c .before .before .before .before .before .before .before)) refl ∙ line-read (table (c .before .before .before .before .before .before .before)) (c .before .before .before .before .before .before .before .before .before .before .before .before .before .before .args .seen) (c .before .before .before .before .before .before .before .before .before .before .before .before .before .before .args .s .now) _ (key (c .before .before .before .before .before .before .before)) _ (new (c .before .before .before .before .before)) _ (value (c .before .before .before)) (c .before .outcome .given .1) ∙ ap (lineIn (table (c .before .before .before .before .before .before .before))) (sym (at-key (c .before .before .before .before .before .before .before)))
+returns-4 c = ap₂ (made _) (named (c .before .before .before .before .before .before .before)) refl ∙ line-read (table (c .before .before .before .before .before .before .before)) (c .before .before .before .before .before .before .before .before .before .before .before .before .before .before .args .seen) _ (key (c .before .before .before .before .before .before .before)) _ (new (c .before .before .before .before .before)) _ (value (c .before .before .before)) (c .before .outcome .given .1) ∙ ap (lineIn (table (c .before .before .before .before .before .before .before))) (sym (at-key (c .before .before .before .before .before .before .before)))
 
 returns-5 : tie.Need-returns-5
-returns-5 c = line-wrong (table (c .before .before .before .before .before .before .before)) (c .before .before .before .before .before .before .before .before .before .before .before .before .before .before .args .seen) (c .before .before .before .before .before .before .before .before .before .before .before .before .before .before .args .s .now) _ (key (c .before .before .before .before .before .before .before)) _ (new (c .before .before .before .before .before)) _ (value (c .before .before .before)) (c .before .outcome2 .given .1) ∙ ap (lineIn (table (c .before .before .before .before .before .before .before))) (sym (at-key (c .before .before .before .before .before .before .before)))
+returns-5 c = line-wrong (table (c .before .before .before .before .before .before .before)) (c .before .before .before .before .before .before .before .before .before .before .before .before .before .before .args .seen) _ (key (c .before .before .before .before .before .before .before)) _ (new (c .before .before .before .before .before)) _ (value (c .before .before .before)) (c .before .outcome2 .given .1) ∙ ap (lineIn (table (c .before .before .before .before .before .before .before))) (sym (at-key (c .before .before .before .before .before .before .before)))
 
 pub next-line-spec : {M : Type 1} → statement M
 next-line-spec =
