@@ -26,7 +26,7 @@ unfoldable pub withPositions : Positions → PositionData → Positions
 withPositions x d = record { names = namesWith (x .names) (d .name); items = cond (ltb (x .names .count) 8) (set (x .items) (x .names .count) d) (x .items) }
 
 -- what stands outside an array
-abbrev nothing : PositionData
+abbrev pub nothing : PositionData
 nothing = record { name = noSpan; «stream_win» = []; «stream_win_count» = 0; «stream_pdf» = noRange; «stream_tree» = noRange; «gv_pdf» = noRange; «has_gv_pdf» = false; «gv_tree» = noRange; «has_gv_tree» = false }
 
 -- one of the first n has too many windows

@@ -26,7 +26,7 @@ unfoldable pub withStreams : Streams → StreamData → Streams
 withStreams x d = record { names = namesWith (x .names) (d .name); items = cond (ltb (x .names .count) 8) (set (x .items) (x .names .count) d) (x .items) }
 
 -- what stands outside an array
-abbrev nothing : StreamData
+abbrev pub nothing : StreamData
 nothing = record { name = noSpan; «vector_length» = 0; «num_windows» = 0; «is_msd» = false; «use_gv» = false; option = []; «option_count» = 0 }
 
 -- one of the first n has too many OPTION items
