@@ -1,53 +1,48 @@
+-- `header_positions::Positions::too_many` meets its contract. Assumes nothing.
+use borrow.Author.Needs.{needs}
+use Rattle.header_positions.proofs.Found.{many-here, many-on, many-past}
+use Rattle.header_positions.specs.Groups.{manyOver}
+use native.Mathlib.Omega.{arith}
+use mathlib.Core.Path.{_≡_, refl, sym, ap, ap₂, _∙_}
 use Rattle.header_positions.proofs.Positions.too_many.Statement.{statement}
 use Rattle.header_positions.proofs.Positions.too_many.Tie as tie
-use Rattle.header_positions.proofs.Positions.too_many.Reads as reads
-use Rattle.header_positions.proofs.Positions.too_many.Lts as lts
 
 abbrev Inv-loop : tie.InvT-loop
-Inv-loop n self k₀ k = ?
+Inv-loop n self k₀ k = manyOver (self .items) n ≡ manyOver (self .items) k
 
 abbrev μ-loop : tie.MeasureT-loop
-μ-loop n self k₀ k = ?
+μ-loop n self k₀ k = k
 
--- src/lib.rt:59:9
 loop-holds : tie.Need-loop-holds Inv-loop μ-loop
-loop-holds c = ?
+loop-holds c = refl
 
--- src/lib.rt:60:17
 sub-k : tie.Need-sub-k Inv-loop μ-loop
-sub-k c = ?
+sub-k c = search needs
 
--- src/lib.rt:62:28
 mul-item : tie.Need-mul-item Inv-loop μ-loop
-mul-item c = ?
+mul-item c = search needs
 
--- src/lib.rt:62:28
 element-copy-out-item : tie.Need-element-copy-out-item Inv-loop μ-loop
-element-copy-out-item c = ?
+element-copy-out-item c = search needs
 
--- src/lib.rt:64:21
 returns : tie.Need-returns Inv-loop μ-loop
-returns c = ?
+returns c = sym (c .before .before .before .before .before .loop .inv ∙ many-here _ _ (c .before .before .before .before .loop-test .taken) (c .before .before .before .if1 .taken) (c .if2 .taken))
 
--- src/lib.rt:59:9
 loop-less : tie.Need-loop-less Inv-loop μ-loop
-loop-less c = ?
+loop-less c = search needs
 
--- src/lib.rt:59:9
 loop-again : tie.Need-loop-again Inv-loop μ-loop
-loop-again c = ?
+loop-again c = c .before .before .before .before .before .loop .inv ∙ many-on _ _ (c .before .before .before .before .loop-test .taken) (c .before .before .before .if1 .taken) (c .if2 .left)
 
--- src/lib.rt:59:9
 loop-less-2 : tie.Need-loop-less-2 Inv-loop μ-loop
-loop-less-2 c = ?
+loop-less-2 c = search needs
 
--- src/lib.rt:59:9
 loop-again-2 : tie.Need-loop-again-2 Inv-loop μ-loop
-loop-again-2 c = ?
+loop-again-2 c = c .before .before .loop .inv ∙ many-past _ _ (c .before .loop-test .taken) (c .if1 .left)
 
--- src/lib.rt:55:5
 returns-2 : tie.Need-returns-2 Inv-loop μ-loop
-returns-2 c = ?
+unfolding manyOver
+returns-2 c = let e : c .before .loop .k ≡ 0 = omega arith in sym (c .before .loop .inv ∙ rw e)
 
 pub too-many-spec : {M : Type 1} → statement M
 too-many-spec =
