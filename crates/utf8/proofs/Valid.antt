@@ -1,4 +1,4 @@
--- `Valid` is the answer exactly where the bytes are characters, one after the other. Assumes nothing.
+-- `Valid` is the answer exactly where the bytes are characters, one after the other; `Bad p` exactly where the first bad sequence starts at p. Assumes nothing.
 use mathlib.Core.Path.{_≡_, refl, sym, ap, _∙_, subst}
 use mathlib.Core.Bool.{Bool, true, false, cond, _&&_}
 use mathlib.Core.List.{List, [], _∷_, _++_, List·Memᴰ, List·Memᴰ·head, List·Memᴰ·tail}
@@ -12,7 +12,8 @@ use lib.ListN.{length, take, drop, length-append, length-drop, take-append-drop}
 use lib.Seq.{drop-append-seam, take-add, drop-drop}
 use Rattle.utf8.specs.declared.Answer.{Answer}
 use Rattle.utf8.specs.declared.Answer.the-variants.{Valid, Bad}
-use Rattle.written.specs.Rfc3629.{Range, _⋯_, table, Fit, none, one, Char, row, Octets, end, more}
+use Rattle.written.specs.Rfc3629.{Range, _⋯_, table, Fit, none, one, Char, row, Octets, end, more, FirstBad}
+use Rattle.written.proofs.ApartFile.{octets-never, first-bad-one}
 use Rattle.utf8.specs.Widths.{starts, width, holds}
 use Rattle.utf8.specs.Check.{scan, checkOf}
 use Rattle.utf8.proofs.Rows.{inside, decides, all-at}
@@ -148,15 +149,9 @@ no-char : (s c t : List ℕ) → width table s ≡ 0 → Char c → s ≡ c ++ t
 no-char s [] t w (row m f) e = empty m f
 no-char s (b ∷ c) t w (row m f) e = omega (arith, ap (λ (l : List ℕ). width table l) e, width-of t m f, w)
 
--- p is the start of the first bad sequence: characters up to it, and none at it
-pub record FirstBad (s : List ℕ) (p : ℕ) : Type 0 where
-  pub inside : p < length s
-  pub before : Octets (take p s)
-  pub here : (c t : List ℕ) → Char c → drop p s ≡ c ++ t → ⊥
-
-pub bad : (s : List ℕ) (p : ℕ) → checkOf s ≡ Bad p → FirstBad s p
+first-bad : (s : List ℕ) (p : ℕ) → checkOf s ≡ Bad p → FirstBad s p
 unfolding checkOf
-bad s p e =
+first-bad s p e =
     let f = first (length s) 0 p s (le-refl (length s)) e in
     let q : f .far ≡ p = omega (arith, f .place) in
     record {
@@ -164,3 +159,11 @@ bad s p e =
       before = subst (λ (n : ℕ). Octets (take n s)) q (f .before);
       here = λ c t h g. no-char (drop p s) c t (subst (λ (n : ℕ). width table (drop n s) ≡ 0) q (f .nothing)) h g;
     }
+
+-- `Bad p` is the answer exactly where the first bad sequence starts at p
+pub bad : (s : List ℕ) (p : ℕ) → (checkOf s ≡ Bad p) ↔ FirstBad s p
+bad s p = (first-bad s p, λ f. back f (checkOf s) refl)
+  where
+    back : FirstBad s p → (a : Answer) → checkOf s ≡ a → checkOf s ≡ Bad p
+    back f Valid e = absurd (octets-never (valid s .0 e) f)
+    back f (Bad q) e = e ∙ ap Bad (first-bad-one (first-bad s q e) f)

@@ -7,7 +7,7 @@ use mathlib.Core.List.{List, [], _∷_, _++_, List·Memᴰ}
 use Prim.Native.Nat.{ℕ, _+_, _-_, _^_, _≤_, _<_}
 use lib.ListN.{length, getD, take, drop}
 use Rattle.written.specs.Bytes.{newline, quote, comma, dash, colon, digit, isNewline, oneOf, noneOf, At, Each, Ends, part, Span, decimal}
-use Rattle.written.specs.Rfc3629.{Char, Octets}
+use Rattle.written.specs.Rfc3629.{Octets, FirstBad}
 use Rattle.written.specs.Sections.{Parts, Sections}
 use Rattle.written.specs.HeaderText.{Text, Digits, Number, Led, Range, Pair, Many, Passed, Kind, a-string, a-number, a-bool, strings, a-pair, pairs, perhaps-a-pair, Field, kindOf, Entry, valuesOf, Distinct, Key, NextLine, Value, Reads, Section}
 use Rattle.written.specs.Groups.{Row, Group, alone, Entries}
@@ -127,15 +127,9 @@ pub data NoGroups (T : List Field) (s : List ℕ) : List Group → ℕ → ℕ �
 
 -- ---- a section: 2 first, then reading order, then 9 for missing fields, then the groups
 
--- the start of the first bad sequence: characters up to q, and none at q
-pub record NoUtf8 (u : List ℕ) (q : ℕ) : Type 0 where
-  pub inside : q < length u
-  pub before : Octets (take q u)
-  pub here : (c rest : List ℕ) → Char c → drop q u ≡ c ++ rest → ⊥
-
 -- T: the section's fields; G: those of its groups
 pub data Wrong (T G : List Field) (file : List ℕ) (x : Span) : ℕ → ℕ → Type 0 where
-  utf8 : {q : ℕ} → NoUtf8 (part file (x .start) (x .len)) q → Wrong T G file x 2 (x .start + q)
+  utf8 : {q : ℕ} → FirstBad (part file (x .start) (x .len)) q → Wrong T G file x 2 (x .start + q)
   lines : {n p : ℕ} → Octets (part file (x .start) (x .len)) → NoSection T (upTo file x) (x .start) n p → Wrong T G file x n p
   missing : {xs : List Entry} → Octets (part file (x .start) (x .len)) → Section T (upTo file x) (x .start) xs → Missing T xs → Wrong T G file x 9 0
   groups :

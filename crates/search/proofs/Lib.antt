@@ -1,0 +1,4 @@
+pub mod Halves
+pub mod Last
+pub mod First
+pub mod Ids
