@@ -6,7 +6,7 @@ use Prim.Native.Nat.{ℕ, zero, suc, _+_, _-_, _≤_, _<_}
 use native.Mathlib.Omega.{arith}
 use borrow.Author.Tests.{eqb-true, leb-false, le-leb, lt-leb}
 use lib.Dec.{eqb, leb}
-use lib.ListN.{length, getD, take, drop, length-take, length-drop}
+use lib.ListN.{length, getD}
 use Rattle.written.specs.Bytes.{newline, colon, bracket, unbracket, noneOf, same, byteAt, part}
 use Rattle.laws.specs.Runs.{stop}
 use Rattle.laws.proofs.Runs.{stop-from, byte-in}
@@ -39,10 +39,6 @@ split-whole w {b} {n} e = go (eqb (byteAt w (length w - 1)) unbracket) (stop (no
     go : (t : Bool) (k : ℕ) → cond t (splitAt (length w) k) split.Plain ≡ split.Bracketed b n → b + n + 2 ≡ length w
     go true k g = at k (leb (length w) (k + 1)) refl g
     go false k g = no cc
-
--- a part that has a byte ends inside
-pub part-in : (s : List ℕ) (a n : ℕ) → 0 < length (part s a n) → a + length (part s a n) ≤ length s
-part-in s a n h = omega (arith, length-take n (drop a s), length-drop a s)
 
 -- ---- rows
 

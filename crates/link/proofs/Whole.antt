@@ -162,9 +162,9 @@ module _ (w : List ℤ) (n leaves : ℕ) (rows₂ : List ℕ) (m : leaves ≡ le
       let la : length A ≡ 4 * n = length-records ls G (g ∙ ap (λ (k : ℕ). 2 * k) (sym count)) ∙ ap (λ (k : ℕ). 4 * k) count in
       let lb : length B ≡ 4 * leaves = length-leaf-rows (leavesOf w n) ∙ ap (λ (k : ℕ). 4 * k) (length-leaves w n ∙ sym m) in
       let at : (i : ℕ) → i < 2 * n → getD rows₄ (2 * n + 2 * 0 + i) 0 ≡ getD G i 0 = λ i h.
-        let z : 2 * n + 2 * 0 + i ≡ 2 * n + i = omega arith in
-        ap (λ (j : ℕ). getD rows₄ j 0) z ∙ ap (λ (l : List ℕ). getD l (2 * n + i) 0) b′ ∙ sets-under B rows₃ (4 * n) (2 * n + i) 0 (omega arith)
-        ∙ ap (λ (l : List ℕ). getD l (2 * n + i) 0) a′ ∙ sets-at G rows₂ (2 * n) i 0 (omega arith) (omega arith) in
+      let z : 2 * n + 2 * 0 + i ≡ 2 * n + i = omega arith in
+      ap (λ (j : ℕ). getD rows₄ j 0) z ∙ ap (λ (l : List ℕ). getD l (2 * n + i) 0) b′ ∙ sets-under B rows₃ (4 * n) (2 * n + i) 0 (omega arith)
+      ∙ ap (λ (l : List ℕ). getD l (2 * n + i) 0) a′ ∙ sets-at G rows₂ (2 * n) i 0 (omega arith) (omega arith) in
       c ∙ ap (sets rows₄ 0) (lines-records w rows₄ (2 * n) n 0 G g at)
       ∙ ap (λ (l : List ℕ). sets l 0 A) (b′ ∙ ap (λ (k : ℕ). sets rows₃ k B) (sym la))
       ∙ sets-whole A B rows₃ (omega arith)

@@ -1,7 +1,8 @@
 -- `groups::row_at` meets its contract. Assumes nothing.
 use Rattle.written.specs.Bytes.{part}
 use Rattle.laws.proofs.Runs.{read-in}
-use Rattle.groups.proofs.Rows.{split-whole, part-in}
+use Rattle.header_lines.proofs.Parts.{part-in}
+use Rattle.groups.proofs.Rows.{split-whole}
 use Rattle.groups.specs.Rows.{rowAt, keyRow, splitOf}
 use lib.ListN.{length}
 use Prim.Native.Nat.{ℕ, _+_, _≤_, _<_}

@@ -58,10 +58,11 @@ returns-2 : tie.Need-returns-2
 returns-2 c =
     let a = c .before .before .before .before .before .before .before .before .before .before .before .args in
     let o = c .before .before .before .before .before .before .before .before .before .in-order .ensures in
-    let n = length-count 0 (a .n) in
-    (sym (c .before .before .before .before .before .before .before .before .if1 .left) ∙ o,
-    picked o (λ t. never t (c .before .before .before .before .before .before .before .before .if1 .left))
-    (λ f. sorted-part (keyOf (λ e. idKey (idAt (a .work .now) e))) (a .rows .now) 0 (a .n) (countFrom 0 (a .n)) (omega (arith, c .before .before .before .before .before .before .before .before .before .before .before .pre)) (omega arith) (c .before .before .before .before .before .before .number-lines .ensures) (c .before .before .sort-ids .ensures)))
+    let n = length-count 0 (a .n) in (
+      sym (c .before .before .before .before .before .before .before .before .if1 .left) ∙ o,
+      picked o (λ t. never t (c .before .before .before .before .before .before .before .before .if1 .left))
+          (λ f. sorted-part (keyOf (λ e. idKey (idAt (a .work .now) e))) (a .rows .now) 0 (a .n) (countFrom 0 (a .n)) (omega (arith, c .before .before .before .before .before .before .before .before .before .before .before .pre)) (omega arith) (c .before .before .before .before .before .before .number-lines .ensures) (c .before .before .sort-ids .ensures)),
+    )
 
 pub index-lines-spec : {M : Type 1} → statement M
 index-lines-spec =
