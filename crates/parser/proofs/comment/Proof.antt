@@ -12,15 +12,15 @@ use Rattle.parser.proofs.comment.Tie as tie
 
 returns : tie.Need-returns
 unfolding commentPart
-returns c = rw (not-true _ (c .if1 .taken))
+returns c = rw (not-true (c .before .before .before .before .args .header .global .«has_comment») (c .if1 .taken))
 
 returns-2 : tie.Need-returns-2
 unfolding commentPart
-returns-2 c = rw (not-false _ (c .before .if1 .left), lt-ltb _ _ (c .if2 .taken))
+returns-2 c = rw (not-false (c .before .before .before .before .before .args .header .global .«has_comment») (c .before .if1 .left), lt-ltb _ _ (c .if2 .taken))
 
 returns-3 : tie.Need-returns-3
 unfolding commentPart
-returns-3 c = rw (not-false _ (c .before .before .if1 .left), le-ltb _ _ (c .before .if2 .left), lt-ltb _ _ (c .if3 .taken))
+returns-3 c = rw (not-false (c .before .before .before .before .before .before .args .header .global .«has_comment») (c .before .before .if1 .left), le-ltb _ _ (c .before .if2 .left), lt-ltb _ _ (c .if3 .taken))
 
 add-end : tie.Need-add-end
 add-end c = search needs
@@ -38,7 +38,7 @@ returns-4 : tie.Need-returns-4
 unfolding commentPart
 returns-4 c =
     let x = c .before .before .before .before .before .before .before .args .header .global .comment in
-    rw (not-false _ (c .before .before .before .if1 .left), le-ltb _ _ (c .before .before .if2 .left), le-ltb _ _ (c .before .if3 .left))
+    rw (not-false (c .before .before .before .before .before .before .before .args .header .global .«has_comment») (c .before .before .before .if1 .left), le-ltb _ _ (c .before .before .if2 .left), le-ltb _ _ (c .before .if3 .left))
     (ap (λ (k : ℕ). take k (drop (x .start) (c .before .before .before .before .before .before .before .args .file .now))) (add-sub-cancel-left (x .start) (x .len)))
 
 pub comment-spec : {M : Type 1} → statement M
