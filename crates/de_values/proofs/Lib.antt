@@ -1,2 +1,3 @@
 pub mod Stands
 pub mod Moves
+pub mod Sound
