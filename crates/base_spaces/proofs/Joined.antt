@@ -1,8 +1,8 @@
 -- The answers of this crate and `written`'s grammar of tree text are the same: what stands there is answered, what is answered stands there. Assumes nothing.
 use mathlib.Core.Path.{_≡_, refl, sym, ap, _∙_, subst}
 use mathlib.Core.Bool.{Bool, true, false, cond}
-use mathlib.Core.List.{List, [], _∷_}
-use Prim.Native.Nat.{ℕ, suc, _+_, _-_, _≤_, _<_}
+use mathlib.Core.List.{List}
+use Prim.Native.Nat.{ℕ, _+_, _-_, _≤_, _<_}
 use native.Mathlib.Numerals.{add-one}
 use native.Mathlib.Omega.{arith}
 use borrow.Author.Tests.{lt-ltb, ltb-true, eq-eqb, eqb-true}
@@ -11,12 +11,11 @@ use Rattle.written.specs.Bytes.{blank, spaceOrTab, inName, byteAt, newline, unb
 use lib.ListN.{length}
 use native.Mathlib.Decide.{decLt}
 use Rattle.written.proofs.Once.{Before, before, word-first, run-le}
-use Rattle.written.specs.TreeText.{Word, Byte, end, byte, Run, stop as stops, more, Run₁, Parting, LineParting, parting}
+use Rattle.written.specs.TreeText.{Byte, end, byte, Run, stop as stops, more, Run₁, Parting, LineParting, parting}
 use Rattle.laws.specs.Runs.{stop}
 use Rattle.laws.proofs.Runs.{byte-in, byte-out}
 use Rattle.laws.proofs.Stops.{run-stop, run-is, run₁-stop, run₁-is}
 use Rattle.base_spaces.specs.Spaces.{nameOf, nameAt, pastByte, newlineAt, thenAt, partingAt, linePartingAt, closeAt}
-use Rattle.base_spaces.specs.declared.Name.{Name}
 use Rattle.base_spaces.specs.declared.Name.the-variants.{Found, NoName}
 use Rattle.base_spaces.specs.declared.Place.{Place}
 use Rattle.base_spaces.specs.declared.Place.the-variants.{At, Nowhere}

@@ -71,9 +71,9 @@ module _ (s : List ℕ) (at behind pairs : ℕ) (values₀ : List ℕ) (first : 
         within = omega arith;
         long = ap length e ∙ length-sets values (first + 2 * k) (m ∷ v ∷ []) ∙ p .long;
         stored =
-          rw (a, b, c, e₁)
-          (sets-append values (first + 2 * k) two (pairsAt s (at + 4 * k + 4) (behind + 4 * k + 4) (pairs - (k + 1)))
-          ∙ sym (ap (λ (n : ℕ). sets values (first + 2 * k) (pairsAt s (at + 4 * k) (behind + 4 * k) n)) d) ∙ p .stored);
+            rw (a, b, c, e₁)
+            (sets-append values (first + 2 * k) two (pairsAt s (at + 4 * k + 4) (behind + 4 * k + 4) (pairs - (k + 1)))
+            ∙ sym (ap (λ (n : ℕ). sets values (first + 2 * k) (pairsAt s (at + 4 * k) (behind + 4 * k) n)) d) ∙ p .stored);
       }
 
   pub pair-done : (values : List ℕ) (k : ℕ) → Pairing values k → pairs ≤ k → values ≡ sets values₀ first (pairsAt s at behind pairs)
@@ -136,8 +136,8 @@ module _ (s : List ℕ) (at w entries : ℕ) (values₀ : List ℕ) where
           room = omega (arith, parts, p .room);
           reads = omega (arith, parts, p .reads);
           stored =
-            ap (λ (n : ℕ). sets values₁ (first + n) rest) (sym (entry-width s i w)) ∙ ap (λ (l : List ℕ). sets l (first + length E) rest) e
-            ∙ sets-append values first E rest ∙ ap (sets values first) (sym (values-on s i w left h)) ∙ p .stored;
+              ap (λ (n : ℕ). sets values₁ (first + n) rest) (sym (entry-width s i w)) ∙ ap (λ (l : List ℕ). sets l (first + length E) rest) e
+              ∙ sets-append values first E rest ∙ ap (sets values first) (sym (values-on s i w left h)) ∙ p .stored;
         }
 
   pub store-done : (values : List ℕ) (left i first : ℕ) → Storing values left i first → left ≤ 0 → values ≡ sets values₀ 0 (valuesAt s at w entries)
@@ -187,9 +187,9 @@ module _ (s : List ℕ) (at trees w : ℕ) (blocks₀ : List ℕ) where
           long = ap length q ∙ length-sets blocks (2 * k) (first ∷ e ∷ []) ∙ p .long;
           sum = omega (arith, row-parts, p .sum);
           stored =
-            ap₂ (λ l n. sets l n (blockRows w (first + e * w) rest)) q a ∙ sets-append blocks (2 * k) (first ∷ e ∷ []) (blockRows w (first + e * w) rest)
-            ∙ ap (λ (x : ℕ). sets blocks (2 * k) (first ∷ x ∷ blockRows w (first + x * w) rest)) ee
-            ∙ sym (ap (λ (l : List ℕ). sets blocks (2 * k) (blockRows w first l)) (words-on s at trees k h)) ∙ p .stored;
+              ap₂ (λ l n. sets l n (blockRows w (first + e * w) rest)) q a ∙ sets-append blocks (2 * k) (first ∷ e ∷ []) (blockRows w (first + e * w) rest)
+              ∙ ap (λ (x : ℕ). sets blocks (2 * k) (first ∷ x ∷ blockRows w (first + x * w) rest)) ee
+              ∙ sym (ap (λ (l : List ℕ). sets blocks (2 * k) (blockRows w first l)) (words-on s at trees k h)) ∙ p .stored;
         }
 
   pub table-done : (blocks : List ℕ) (k first : ℕ) → Tabling blocks k first → trees ≤ k → blocks ≡ sets blocks₀ 0 (blockRows w 0 (wordsAt s at trees))

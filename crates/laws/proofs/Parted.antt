@@ -1,11 +1,11 @@
 -- Items that `written` has parted, and items that are read by steps: where each step reads what stands there, what is read is what is parted, both ways. Assumes nothing.
-use mathlib.Core.Path.{_≡_, refl, sym, ap, ap₂, _∙_, subst}
+use mathlib.Core.Path.{_≡_, refl, ap, ap₂, _∙_, subst}
 use mathlib.Core.List.{List, [], _∷_, zipWith}
 use Prim.Native.Nat.{ℕ, zero, suc, _≤_, _<_}
 use native.Mathlib.Omega.{arith}
 use Rattle.written.specs.TreeText.{Parted, last as only, next as then}
 use Rattle.written.proofs.Once.{head}
-use Rattle.laws.specs.Steps.{Ending, doneAt, brokenAt, Step, next, last, broken, Reading, readOf, readFrom, read}
+use Rattle.laws.specs.Steps.{doneAt, Step, next, last, broken, Reading, readOf, readFrom, read}
 use Rattle.laws.proofs.Steps.{Onward, read-is}
 
 module _ {A B C : Type 0} where

@@ -1,10 +1,9 @@
 -- Items that are read by steps: where each step goes up and stays inside the text, what is read from a place on is what its step reads. Assumes nothing.
 use mathlib.Core.Path.{_≡_, refl, ap}
-use mathlib.Core.List.{List, [], _∷_}
 use Prim.Native.Nat.{ℕ, zero, suc, _+_, _≤_, _<_}
 use native.Mathlib.Omega.{arith}
 use Rattle.laws.specs.Totals.{total}
-use Rattle.laws.specs.Steps.{Ending, doneAt, brokenAt, Step, next, last, broken, Reading, readOf, readFrom, read}
+use Rattle.laws.specs.Steps.{doneAt, Step, next, last, broken, Reading, readOf, readFrom, read}
 
 module _ {A : Type 0} where
   -- a step that goes on goes up, and not past n

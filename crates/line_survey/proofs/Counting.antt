@@ -2,7 +2,7 @@
 use mathlib.Core.Path.{_≡_, refl, sym, ap, ap₂, _∙_}
 use mathlib.Core.Bool.{Bool, true, false, cond}
 use mathlib.Core.List.{List, [], _∷_}
-use Prim.Native.Nat.{ℕ, suc, _+_, _≤_, _<_}
+use Prim.Native.Nat.{ℕ, suc, _+_, _≤_}
 use native.Mathlib.Omega.{arith}
 use lib.ListN.{length}
 use Rattle.written.specs.Bytes.{Span}
@@ -10,7 +10,7 @@ use Rattle.written.specs.Said as says
 use Rattle.written.specs.TreeText.{LineAt, line}
 use Rattle.written.proofs.Once.{run₁-lt}
 use Rattle.written.proofs.Decide.{number-le, reference-le, line-parting-lt}
-use Rattle.laws.specs.Steps.{Ending, doneAt, brokenAt, Step, next, last, broken, Reading, readOf, read}
+use Rattle.laws.specs.Steps.{Ending, doneAt, brokenAt, Step, next, last, broken, Reading, readOf}
 use Rattle.laws.specs.Totals.{total}
 use Rattle.laws.proofs.Steps.{read-is, weighed}
 use Rattle.laws.proofs.Parted.{onward}
@@ -61,6 +61,16 @@ module _ (s : List ℕ) where
 
   stepped : (i : ℕ) {a : LineStep} → a ≡ lineStepAt s i → step s i ≡ lineStep i a
   stepped i e = ap (lineStep i) (sym e)
+
+  -- the lines that are read from a place on, by what stands there
+  pub items-next : (i : ℕ) {l : Line} {j : ℕ} → answer.Next l j ≡ lineStepAt s i → linesAt s i .items ≡ l ∷ linesAt s j .items
+  items-next i e = ap (λ (r : Reading Line). r .items) (lines-are i ∙ ap (readOf (linesAt s)) (stepped i e))
+
+  pub items-last : (i : ℕ) {l : Line} {j : ℕ} → answer.Last l j ≡ lineStepAt s i → linesAt s i .items ≡ l ∷ []
+  items-last i e = ap (λ (r : Reading Line). r .items) (lines-are i ∙ ap (readOf (linesAt s)) (stepped i e))
+
+  pub items-broken : (i : ℕ) → answer.Broken ≡ lineStepAt s i → linesAt s i .items ≡ []
+  items-broken i e = ap (λ (r : Reading Line). r .items) (lines-are i ∙ ap (readOf (linesAt s)) (stepped i e))
 
   -- ---- lines and references are fewer than bytes
 

@@ -2,21 +2,20 @@
 -- is answered, what is answered stands there. Assumes nothing.
 use mathlib.Core.Path.{_≡_, refl, sym, ap, ap₂, _∙_, subst}
 use mathlib.Core.Bool.{Bool, true, false, cond}
-use mathlib.Core.List.{List, [], _∷_, zipWith}
-use Prim.Native.Nat.{ℕ, suc, _+_, _-_, _≤_, _<_}
+use mathlib.Core.List.{List}
+use Prim.Native.Nat.{ℕ, _+_, _-_, _≤_}
 use native.Mathlib.Omega.{arith}
-use borrow.Author.Tests.{lt-ltb, ltb-true}
-use lib.Dec.{ltb}
+use borrow.Author.Tests.{lt-ltb}
 use lib.ListN.{length}
-use Rattle.written.specs.Bytes.{comma, brace, blank, spaceOrTab, inName, byteAt, between, Span, spanning}
+use Rattle.written.specs.Bytes.{comma, brace, blank, spaceOrTab, byteAt, between, Span, spanning}
 use Rattle.written.specs.Said.{Question, QuestionPlace}
 use Rattle.written.specs.TreeText.{Parted, Word, Byte, byte, end, QS, Run, stop as stops, more, Run₁, Comma, parting, Parting, PatternAt, QuestionAt, question}
-use Rattle.written.proofs.Once.{Before, before, word-first, first, run-once, parting-end}
+use Rattle.written.proofs.Once.{Before, before, word-first, parting-end}
 use Rattle.written.proofs.Decide.{pattern-le, comma-lt, question-le, parting-lt}
 use Rattle.laws.specs.Runs.{stop}
-use Rattle.laws.specs.Steps.{Ending, doneAt, brokenAt, Step, next, last, broken, Reading, read}
+use Rattle.laws.specs.Steps.{Ending, doneAt, brokenAt, Step, next, last, broken}
 use Rattle.laws.proofs.Parted.{Stood, Reads, Read, parted-read, read-parted, laid-only}
-use Rattle.laws.proofs.Stops.{run-stop, run-is, run₁-stop, run₁-is}
+use Rattle.laws.proofs.Stops.{run-stop, run-is, run₁-stop}
 use Rattle.base_spaces.specs.Spaces.{pastByte, thenByte, nameAt, closeAt, partingAt}
 use Rattle.base_spaces.specs.declared.Name.{Name}
 use Rattle.base_spaces.specs.declared.Name.the-variants as name
@@ -30,8 +29,7 @@ use Rattle.base_values.proofs.Joined.{found-pattern, pattern-found}
 use Rattle.question.specs.Questions.{pastQs, blankAt, startsQuestion, headOpened, headNamed, headStarted, headAt, patternClosed, patternParted, afterPattern, patternFound, patternStepAt, itemParted, afterQuestion, patternStep, patternsAt, questionFollowed, questionRead, questionHeaded, questionStepAt}
 use Rattle.question.specs.declared.QuestionHead.{QuestionHead}
 use Rattle.question.specs.declared.QuestionHead.the-variants.{Named, NoQuestion}
-use Rattle.question.specs.declared.PatternStep.{PatternStep}
-use Rattle.question.specs.declared.PatternStep.the-variants.{Next, Last, Broken}
+use Rattle.question.specs.declared.PatternStep.the-variants.{Next}
 use Rattle.question.specs.declared.Item.{Item}
 use Rattle.question.specs.declared.Item.the-variants as item
 

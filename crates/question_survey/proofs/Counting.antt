@@ -1,6 +1,6 @@
 -- The laws of counting patterns and questions: a turn of a loop counts one more of those that are read, and goes up. Assumes nothing.
-use mathlib.Core.Path.{_≡_, refl, sym, ap, ap₂, _∙_, subst}
-use mathlib.Core.List.{List, [], _∷_}
+use mathlib.Core.Path.{_≡_, refl, sym, ap, ap₂, _∙_}
+use mathlib.Core.List.{List}
 use Prim.Native.Nat.{ℕ, suc, _+_, _≤_, _<_}
 use native.Mathlib.Omega.{arith}
 use lib.ListN.{length}
@@ -9,10 +9,9 @@ use Rattle.written.specs.Said.{Question, QuestionPlace}
 use Rattle.written.specs.TreeText.{Parted, last as only, next as then, Comma, PatternAt, bare, quoted, byte, end, QuestionAt, question}
 use Rattle.written.proofs.Once.{run₁-lt, run-le}
 use Rattle.written.proofs.Decide.{pattern-le, comma-lt, parting-lt}
-use Rattle.laws.specs.Steps.{Ending, doneAt, brokenAt, Step, next, last, broken, Reading, readOf, read}
+use Rattle.laws.specs.Steps.{Ending, doneAt, brokenAt, Step, next, last, broken, Reading, readOf}
 use Rattle.laws.specs.Totals.{total}
 use Rattle.laws.proofs.Runs.{byte-in}
-use Rattle.laws.proofs.Steps.{read-is}
 use Rattle.laws.proofs.Parted.{onward}
 use Rattle.base_spaces.proofs.Joined.{closed-lt, closed-inside}
 use Rattle.question.specs.Questions.{headAt, patternStepAt, patternStep, patternsAt, afterQuestion, questionFollowed, questionRead, questionHeaded, questionStepAt}
@@ -22,19 +21,15 @@ use Rattle.question.specs.declared.Item.{Item}
 use Rattle.question.specs.declared.Item.the-variants as item
 use Rattle.question.specs.declared.PatternStep.{PatternStep}
 use Rattle.question.specs.declared.PatternStep.the-variants as pattern
+use Rattle.question.proofs.Filling.{patterns-are, headed, questions-from, questions-are}
 use Rattle.question.proofs.Joined.{pattern-step, pattern-reads, question-reads}
 use Rattle.question_survey.specs.Counts.{patternsEnded, patternsCounted, patternCount, questionSurveyed, questionsEnded, questionsCounted}
 use Rattle.question_survey.specs.declared.Patterns.the-variants as patterns
-use Rattle.question_survey.specs.declared.QuestionSurvey.{QuestionSurvey}
 use Rattle.question_survey.specs.declared.QuestionSurvey.the-variants as survey
 use Rattle.question_survey.specs.declared.Questions.the-variants as questions
 
 module _ (s : List ℕ) where
   -- ---- patterns
-
-  patterns-are : (i : ℕ) → patternsAt s i ≡ readOf (patternsAt s) (pattern-step s i)
-  unfolding patternsAt
-  patterns-are i = read-is (pattern-step s) (length s) (onward (pattern-reads s)) i
 
   -- the step of a pattern's answer
   stepped : (i : ℕ) {a : PatternStep} → a ≡ patternStepAt s i → pattern-step s i ≡ patternStep i a
@@ -61,17 +56,17 @@ module _ (s : List ℕ) where
       record {
         same =
             ap (λ (x : ℕ). patternsEnded x (patternsAt s j .ending)) m
-            ∙ sym (ap (patternsCounted n) (patterns-are i ∙ ap (readOf (patternsAt s)) (stepped i e))) ∙ c .same;
+            ∙ sym (ap (patternsCounted n) (patterns-are s i ∙ ap (readOf (patternsAt s)) (stepped i e))) ∙ c .same;
         few = omega (arith, c .few, u .0);
       }
 
   pub counted-last : {at i n b k j : ℕ} → Counting at i n → pattern.Last b k j ≡ patternStepAt s i → patterns.Counted (n + 1) j ≡ patternsCounted 0 (patternsAt s at)
   unfolding patternsCounted
-  counted-last {i = i} {n = n} c e = sym (ap (patternsCounted n) (patterns-are i ∙ ap (readOf (patternsAt s)) (stepped i e))) ∙ c .same
+  counted-last {i = i} {n = n} c e = sym (ap (patternsCounted n) (patterns-are s i ∙ ap (readOf (patternsAt s)) (stepped i e))) ∙ c .same
 
   pub counted-broken : {at i n : ℕ} → Counting at i n → pattern.Broken ≡ patternStepAt s i → patterns.Broken ≡ patternsCounted 0 (patternsAt s at)
   unfolding patternsCounted
-  counted-broken {i = i} {n = n} c e = sym (ap (patternsCounted n) (patterns-are i ∙ ap (readOf (patternsAt s)) (stepped i e))) ∙ c .same
+  counted-broken {i = i} {n = n} c e = sym (ap (patternsCounted n) (patterns-are s i ∙ ap (readOf (patternsAt s)) (stepped i e))) ∙ c .same
 
   -- ---- one question
 
@@ -92,13 +87,9 @@ module _ (s : List ℕ) where
       go (brokenAt x) q h = (x, q)
 
   module _ (i : ℕ) {b n f : ℕ} (h : head.Named b n f ≡ headAt s i) where
-    headed : questionStepAt s i ≡ questionRead s i (record { start = b; len = n }) (patternsAt s f .items) (patternsAt s f .ending)
-    unfolding questionStepAt
-    headed = ap (questionHeaded s i) (sym h)
-
     module _ {k e : ℕ} (d : patterns.Counted k e ≡ patternsCounted 0 (patternsAt s f)) where
       followed : questionStepAt s i ≡ questionFollowed (record { name = record { start = b; len = n }; patterns = patternsAt s f .items }) (afterQuestion s e)
-      followed = headed ∙ ap (questionRead s i (record { start = b; len = n }) (patternsAt s f .items)) (counted-done (patternsAt s f) k e d .0)
+      followed = headed s i h ∙ ap (questionRead s i (record { start = b; len = n }) (patternsAt s f .items)) (counted-done (patternsAt s f) k e d .0)
 
       long : length (patternsAt s f .items) ≡ k
       long = counted-done (patternsAt s f) k e d .1
@@ -114,19 +105,13 @@ module _ (s : List ℕ) where
           ∙ sym (ap questionSurveyed (followed ∙ ap (questionFollowed (record { name = record { start = b; len = n }; patterns = patternsAt s f .items })) (sym a)))
 
     pub asked-broken : patterns.Broken ≡ patternsCounted 0 (patternsAt s f) → survey.Broken ≡ questionSurveyed (questionStepAt s i)
-    asked-broken d = sym (ap questionSurveyed (headed ∙ ap (questionRead s i (record { start = b; len = n }) (patternsAt s f .items)) (counted-not (patternsAt s f) d .1)))
+    asked-broken d = sym (ap questionSurveyed (headed s i h ∙ ap (questionRead s i (record { start = b; len = n }) (patternsAt s f .items)) (counted-not (patternsAt s f) d .1)))
 
   pub asked-none : (i : ℕ) → head.NoQuestion ≡ headAt s i → survey.Broken ≡ questionSurveyed (questionStepAt s i)
   unfolding questionStepAt
   asked-none i h = ap (λ t. questionSurveyed (questionHeaded s i t)) h
 
   -- ---- all questions
-
-  abbrev questions-from : ℕ → Reading QuestionPlace
-  questions-from = read (questionStepAt s) (length s)
-
-  questions-are : (i : ℕ) → questions-from i ≡ readOf questions-from (questionStepAt s i)
-  questions-are i = read-is (questionStepAt s) (length s) (onward (question-reads s)) i
 
   -- patterns take a byte each at least
   pattern-lt : {i j : ℕ} {x : List ℕ} {w : Span} → PatternAt s i j x w → i < j
@@ -197,7 +182,7 @@ module _ (s : List ℕ) where
   final-in i k j h = let r = surveyed-last i k j h in omega (arith, step-last i j (r .0) (r .1), r .2)
 
   pub record Surveying (at i n m : ℕ) : Type 0 where
-    pub same : questionsCounted n m (questions-from i) ≡ questionsCounted 0 0 (questions-from at)
+    pub same : questionsCounted n m (questions-from s i) ≡ questionsCounted 0 0 (questions-from s at)
     pub few : n ≤ i
     pub few-patterns : m ≤ i
 
@@ -206,23 +191,23 @@ module _ (s : List ℕ) where
   surveyed-more {i = i} {n = n} {m = m} {k = k} {j = j} c h =
       let r = surveyed-next i k j h in
       let u = more-in i k j h in
-      let p : n + 1 + length (questions-from j .items) ≡ n + suc (length (questions-from j .items)) = omega arith in
-      let q : m + k + total patternCount (questions-from j .items) ≡ m + (patternCount (r .0) + total patternCount (questions-from j .items)) = omega (arith, r .2) in
+      let p : n + 1 + length (questions-from s j .items) ≡ n + suc (length (questions-from s j .items)) = omega arith in
+      let q : m + k + total patternCount (questions-from s j .items) ≡ m + (patternCount (r .0) + total patternCount (questions-from s j .items)) = omega (arith, r .2) in
       record {
         same =
-            ap₂ (λ x y. questionsEnded x y (questions-from j .ending)) p q
-            ∙ sym (ap (questionsCounted n m) (questions-are i ∙ ap (readOf questions-from) (r .1))) ∙ c .same;
+            ap₂ (λ x y. questionsEnded x y (questions-from s j .ending)) p q
+            ∙ sym (ap (questionsCounted n m) (questions-are s i ∙ ap (readOf (questions-from s)) (r .1))) ∙ c .same;
         few = omega (arith, c .few, u .0);
         few-patterns = omega (arith, c .few-patterns, u .2);
       }
 
-  pub surveyed-end : {at i n m k j : ℕ} → Surveying at i n m → survey.Last k j ≡ questionSurveyed (questionStepAt s i) → questions.Counted (n + 1) (m + k) j ≡ questionsCounted 0 0 (questions-from at)
+  pub surveyed-end : {at i n m k j : ℕ} → Surveying at i n m → survey.Last k j ≡ questionSurveyed (questionStepAt s i) → questions.Counted (n + 1) (m + k) j ≡ questionsCounted 0 0 (questions-from s at)
   unfolding questionsCounted total
   surveyed-end {i = i} {n = n} {m = m} {k = k} {j = j} c h =
       let r = surveyed-last i k j h in
       let q : m + k ≡ m + (patternCount (r .0) + 0) = omega (arith, r .2) in
-      ap (λ (x : ℕ). questions.Counted (n + 1) x j) q ∙ sym (ap (questionsCounted n m) (questions-are i ∙ ap (readOf questions-from) (r .1))) ∙ c .same
+      ap (λ (x : ℕ). questions.Counted (n + 1) x j) q ∙ sym (ap (questionsCounted n m) (questions-are s i ∙ ap (readOf (questions-from s)) (r .1))) ∙ c .same
 
-  pub surveyed-none : {at i n m : ℕ} → Surveying at i n m → survey.Broken ≡ questionSurveyed (questionStepAt s i) → questions.Broken i ≡ questionsCounted 0 0 (questions-from at)
+  pub surveyed-none : {at i n m : ℕ} → Surveying at i n m → survey.Broken ≡ questionSurveyed (questionStepAt s i) → questions.Broken i ≡ questionsCounted 0 0 (questions-from s at)
   unfolding questionsCounted
-  surveyed-none {i = i} {n = n} {m = m} c h = sym (ap (questionsCounted n m) (questions-are i ∙ ap (readOf questions-from) (surveyed-broken i h))) ∙ c .same
+  surveyed-none {i = i} {n = n} {m = m} c h = sym (ap (questionsCounted n m) (questions-are s i ∙ ap (readOf (questions-from s)) (surveyed-broken i h))) ∙ c .same

@@ -1,5 +1,4 @@
 -- What the surveys of this crate answer, of the patterns and questions that are read. Assumes nothing.
-use mathlib.Core.List.{List}
 use Prim.Native.Nat.{ℕ, _+_}
 use lib.ListN.{length}
 use Rattle.written.specs.Bytes.{Span}

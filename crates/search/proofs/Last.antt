@@ -123,3 +123,18 @@ module _ (f : ℕ → ℕ) (t : List ℕ) (x : Index f t) (small : length t < 2 
         let k = f-rises (s .0) (r - 1) (omega (arith, s .1)) (omega (arith, p .within)) in
         let u = leb-true (f (getD t (r - 1) 0)) T (p .front (r - 1) (omega arith)) in
         d (omega (arith, ap f (s .2)))))
+
+-- what is found is below n
+pub last-inside : (p : ℕ → Bool) (n e : ℕ) → lastBelow p n ≡ At e → e < n
+unfolding lastBelow
+last-inside p zero e h = let u : _≡_ {A = ℕ} 0 1 = cc in absurd (omega arith)
+last-inside p (suc n) e h = go (p n) h (last-inside p n e)
+  where
+    go : (b : Bool) → cond b (At n) (lastBelow p n) ≡ At e → (lastBelow p n ≡ At e → e < n) → e < suc n
+    go true q r = let s : n ≡ e = cc in omega arith
+    go false q r = omega (arith, r q)
+
+pub last-ext-below : (p q : ℕ → Bool) (n : ℕ) → ((m : ℕ) → m < n → p m ≡ q m) → lastBelow p n ≡ lastBelow q n
+unfolding lastBelow
+last-ext-below p q zero e = refl
+last-ext-below p q (suc n) e = rw (e n (omega arith), last-ext-below p q n (λ m h. e m (omega arith)))

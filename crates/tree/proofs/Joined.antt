@@ -1,43 +1,40 @@
 -- The trees that this crate answers and those of `written`'s grammar are the same, one by one and as a text's list: what stands there is answered,
 -- what is answered stands there. Assumes nothing.
-use mathlib.Core.Path.{_≡_, refl, sym, ap, ap₂, _∙_, subst}
+use mathlib.Core.Path.{_≡_, refl, sym, ap, _∙_, subst}
 use mathlib.Core.Bool.{Bool, true, false, cond}
-use mathlib.Core.List.{List, [], _∷_, zipWith}
-use Prim.Native.Nat.{ℕ, suc, _+_, _-_, _≤_, _<_}
+use mathlib.Core.List.{List, [], zipWith}
+use Prim.Native.Nat.{ℕ, _-_, _<_}
 use native.Mathlib.Omega.{arith}
 use borrow.Author.Tests.{lt-ltb, eq-eqb, ne-eqb, eqb-true}
 use lib.Dec.{ltb, eqb}
 use lib.IntN.{ℤ}
 use lib.ListN.{length}
-use Rattle.written.specs.Bytes.{bracket, unbracket, brace, unbrace, blank, byteAt, Span}
+use Rattle.written.specs.Bytes.{bracket, unbracket, brace, unbrace, blank, Span}
 use Rattle.written.specs.Said as says
 use Rattle.written.specs.TreeText.{Parted, Word, Byte, byte, end, star, Run, Parting, Number, Reference, LineParting, LineAt, BodyAt, one, none, lines, TreeAt, tree, TreesAt, trees}
 use Rattle.written.proofs.Once.{before, word-first, head, reference-not, line-not, trees-fixed, at-end, tree-first, run-once}
 use Rattle.written.proofs.Decide.{tree-le, parting-lt}
 use Rattle.laws.specs.Runs.{stop}
-use Rattle.laws.specs.Steps.{Ending, doneAt, brokenAt, Step, next, last, broken, Reading, read}
+use Rattle.laws.specs.Steps.{Ending, doneAt, brokenAt, Step, next, last, broken, read}
 use Rattle.laws.proofs.Runs.{byte-in}
-use Rattle.laws.proofs.Parted.{Stood, Reads, Read, parted-read, read-parted}
+use Rattle.laws.proofs.Parted.{Stood, Reads, parted-read, read-parted}
 use Rattle.laws.proofs.Stops.{run-stop, run-is}
 use Rattle.base_spaces.specs.Spaces.{pastByte, thenByte, closeAt, partingAt}
 use Rattle.base_spaces.specs.declared.Place.{Place}
 use Rattle.base_spaces.specs.declared.Place.the-variants.{At, Nowhere}
-use Rattle.base_spaces.proofs.Joined.{no-blank, clash, byte-past, past-byte, parting-found, found-parting, Closed, close-found, found-close, parting-inside}
+use Rattle.base_spaces.proofs.Joined.{no-blank, clash, byte-past, past-byte, parting-found, found-parting, close-found, found-close, parting-inside}
 use Rattle.base_values.specs.Answers.{signedAt}
 use Rattle.base_values.specs.declared.Signed.{Signed}
 use Rattle.base_values.specs.declared.Signed.the-variants as signed
 use Rattle.base_values.proofs.Joined.{number-signed, signed-number}
-use Rattle.tree_reference.specs.References.{indexOf, referenceAt}
-use Rattle.tree_reference.specs.declared.TreeIndex.{TreeIndex}
+use Rattle.tree_reference.specs.References.{referenceAt}
 use Rattle.tree_reference.specs.declared.Reference.{Reference as Answer}
 use Rattle.tree_reference.specs.declared.Reference.the-variants as reference
-use Rattle.tree_reference.proofs.Joined.{Stands, reference-found, found-reference}
-use Rattle.tree_line.specs.Lines.{lineOf, linesAt}
-use Rattle.tree_line.specs.declared.Line.{Line}
+use Rattle.tree_reference.proofs.Joined.{reference-found, found-reference}
+use Rattle.tree_line.specs.Lines.{linesAt}
 use Rattle.tree_line.proofs.Joined.{lines-read, read-lines}
 use Rattle.tree.specs.Trees.{Body, lone, braces, Tree, bodyOf, treeOf, pastStar, numberClosed, numberRead, numberAt, stateOpened, stateStarred, stateAt, loneRead, bracesRead, bodyRead, bodyAt, headRead, headAt, treeParted, afterTree, treeFollowed, treeRead, treeHeaded, treeStepAt, treesAt}
-use Rattle.tree.specs.declared.TreeHead.{TreeHead}
-use Rattle.tree.specs.declared.TreeHead.the-variants.{Lone, Empty, Lines, NoTree}
+use Rattle.tree.specs.declared.TreeHead.the-variants.{Lines}
 use Rattle.tree.specs.declared.TreeStep.{TreeStep}
 use Rattle.tree.specs.declared.TreeStep.the-variants.{Next, End, Broken}
 

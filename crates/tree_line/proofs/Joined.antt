@@ -2,23 +2,22 @@
 -- what is answered stands there. Assumes nothing.
 use mathlib.Core.Path.{_≡_, refl, sym, ap, ap₂, _∙_, subst}
 use mathlib.Core.Bool.{Bool, true, false, cond}
-use mathlib.Core.List.{List, [], _∷_, zipWith}
-use Prim.Native.Nat.{ℕ, suc, _+_, _-_, _≤_, _<_}
+use mathlib.Core.List.{List, zipWith}
+use Prim.Native.Nat.{ℕ, _-_}
 use native.Mathlib.Omega.{arith}
 use borrow.Author.Tests.{lt-ltb, ltb-true}
 use lib.Dec.{ltb}
-use lib.IntN.{ℤ}
 use lib.ListN.{length}
-use Rattle.written.specs.Bytes.{blank, inName, byteAt, between, unbrace, Span, spanning}
+use Rattle.written.specs.Bytes.{blank, between, Span, spanning}
 use Rattle.written.specs.Said.{Ref}
 use Rattle.written.specs.Said as said
-use Rattle.written.specs.TreeText.{Parted, Byte, Run, Run₁, Number, Reference, LineParting, LineAt, line}
+use Rattle.written.specs.TreeText.{Parted, Run₁, Reference, LineParting, LineAt, line}
 use Rattle.written.proofs.Once.{lines-fixed}
 use Rattle.written.proofs.Decide.{line-le, line-parting-lt}
 use Rattle.laws.specs.Runs.{stop}
-use Rattle.laws.specs.Steps.{doneAt, Step, next, last, broken, Reading, read}
+use Rattle.laws.specs.Steps.{doneAt, Step, next, last, broken}
 use Rattle.laws.proofs.Parted.{Stood, Reads, Read, parted-read, read-parted}
-use Rattle.laws.proofs.Stops.{run-is, run₁-stop, run₁-is}
+use Rattle.laws.proofs.Stops.{run₁-stop, run₁-is}
 use Rattle.base_spaces.specs.Spaces.{nameAt, closeAt, linePartingAt}
 use Rattle.base_spaces.specs.declared.Name.{Name}
 use Rattle.base_spaces.specs.declared.Name.the-variants as name
@@ -40,8 +39,6 @@ use Rattle.tree_line.specs.declared.Branches.{Branches}
 use Rattle.tree_line.specs.declared.Branches.the-variants as branches
 use Rattle.tree_line.specs.declared.ReadLine.{ReadLine}
 use Rattle.tree_line.specs.declared.ReadLine.the-variants.{Found, NoLine}
-use Rattle.tree_line.specs.declared.LineStep.{LineStep}
-use Rattle.tree_line.specs.declared.LineStep.the-variants.{Next, Last, Broken}
 
 module _ (s : List ℕ) where
   -- ---- the two references

@@ -1,19 +1,19 @@
 -- The references that this crate answers and those of `written`'s grammar are the same: what stands there is answered, what is answered stands there,
 -- and where nothing is answered nothing stands. Assumes nothing.
-use mathlib.Core.Path.{_≡_, refl, sym, ap, ap₂, _∙_, subst}
+use mathlib.Core.Path.{_≡_, refl, sym, ap, _∙_, subst}
 use mathlib.Core.Bool.{Bool, true, false, cond, _||_}
-use mathlib.Core.List.{List, [], _∷_}
+use mathlib.Core.List.{List}
 use mathlib.Core.Logic.{_⊎_, inl, inr}
-use Prim.Native.Nat.{ℕ, zero, suc, _+_, _-_, _^_, _≤_, _<_}
+use Prim.Native.Nat.{ℕ, zero, suc, _-_, _≤_, _<_}
 use native.Mathlib.Decide.{decLt, ℕ-discrete}
 use native.Mathlib.Omega.{arith}
-use borrow.Author.Tests.{lt-ltb, ltb-true, le-leb, lt-leb, eqb-true}
-use lib.Dec.{ltb, leb}
+use borrow.Author.Tests.{lt-ltb, ltb-true}
+use lib.Dec.{ltb}
 use lib.IntN.{ℤ, pos}
 use Rattle.written.specs.Bytes.{quote, digit, letter, inWord, byteAt}
 use Rattle.written.specs.Said.{Ref, node, pdf}
-use Rattle.written.specs.TreeText.{Byte, byte, end, Run, stop as stops, more, Run₁, some, Digits, digits, Number, plus, minus, Bare, number, word, Reference, bare, quoted}
-use Rattle.written.proofs.Once.{run-le, run₁-lt, run₁-at, digits-lt, digits-at, word-first, number-not, first}
+use Rattle.written.specs.TreeText.{Byte, Run, stop as stops, more, Run₁, some, Digits, digits, Number, plus, minus, Bare, number, word, Reference, bare, quoted}
+use Rattle.written.proofs.Once.{digits-lt, digits-at, word-first, number-not, first}
 use Rattle.laws.specs.Runs.{stop}
 use Rattle.laws.proofs.Runs.{stop-from}
 use Rattle.laws.proofs.Stops.{run-is, run₁-stop, run₁-is}

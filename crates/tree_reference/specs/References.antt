@@ -1,5 +1,5 @@
 -- What the readers of this crate answer, on the list of bytes and the place; and what a reference of `written` is in code. Assumes nothing.
-use mathlib.Core.Bool.{Bool, true, false, cond}
+use mathlib.Core.Bool.{Bool, false, cond}
 use mathlib.Core.List.{List}
 use Prim.Native.Nat.{ℕ, zero, suc}
 use lib.Dec.{ltb, leb}

@@ -1,40 +1,33 @@
 -- The laws of surveying trees: what one tree needs; a turn of the loop counts one more of those that are read, and goes up. Assumes nothing.
-use mathlib.Core.Path.{_≡_, refl, sym, ap, ap₂, _∙_}
-use mathlib.Core.Bool.{Bool, true, false, cond, _||_}
-use mathlib.Core.List.{List, [], _∷_, zipWith}
+use mathlib.Core.Path.{_≡_, refl, sym, ap, _∙_}
+use mathlib.Core.Bool.{Bool, false, _||_}
+use mathlib.Core.List.{List, [], zipWith}
 use Prim.Native.Nat.{ℕ, suc, _+_, _≤_, _<_}
 use native.Mathlib.Omega.{arith}
-use lib.IntN.{ℤ, pos, negsuc}
 use lib.ListN.{length}
 use Rattle.written.specs.Bytes.{Span}
 use Rattle.written.specs.Said as says
 use Rattle.written.specs.TreeText.{byte, end, BodyAt, one, none, lines, TreeAt, tree}
 use Rattle.written.proofs.Once.{run-le}
 use Rattle.written.proofs.Decide.{number-le, reference-le, parting-lt}
-use Rattle.laws.specs.Steps.{Ending, doneAt, brokenAt, Step, next, last, broken, Reading, readOf, read}
+use Rattle.laws.specs.Steps.{Ending, doneAt, brokenAt, Step, next, last, broken, Reading, readOf}
 use Rattle.laws.specs.Totals.{total, larger, largest, anyOf}
-use Rattle.laws.proofs.Steps.{read-is}
 use Rattle.laws.proofs.Parted.{onward}
-use Rattle.base_spaces.proofs.Joined.{Closed, closed-lt}
+use Rattle.base_spaces.proofs.Joined.{Closed}
 use Rattle.tree_line.specs.Lines.{lineOf, linesAt}
 use Rattle.tree_line.specs.declared.Line.{Line}
 use Rattle.tree_line.proofs.Joined.{lines-read}
 use Rattle.line_survey.specs.Counts.{linePdfs, recordsOf, surveyEnded as linesEnded, linesSurveyed}
-use Rattle.line_survey.specs.declared.LineSurvey.{LineSurvey}
-use Rattle.line_survey.specs.declared.LineSurvey.the-variants as lined
 use Rattle.line_survey.proofs.Counting.{lines-size, records-few}
-use Rattle.tree.specs.Trees.{Body, lone, braces, Tree, bodyOf, treeOf, headAt, afterTree, treeFollowed, treeRead, treeHeaded, treeStepAt, treesAt}
+use Rattle.tree.specs.Trees.{lone, braces, Tree, bodyOf, treeOf, headAt, afterTree, treeFollowed, treeRead, treeHeaded, treeStepAt, treesAt}
 use Rattle.tree.specs.declared.TreeHead.{TreeHead}
 use Rattle.tree.specs.declared.TreeHead.the-variants as head
-use Rattle.tree.specs.declared.TreeStep.{TreeStep}
 use Rattle.tree.specs.declared.TreeStep.the-variants as after
+use Rattle.tree.proofs.Filling.{trees-are}
 use Rattle.tree.proofs.Joined.{reads}
-use Rattle.tree_survey.specs.Survey.{negative, bodyRecords, bodyLines, treeNegative, treeRecords, treeLines, linesCounted, headCounted, treeSurveyed, treesEnded, treesCounted}
-use Rattle.tree_survey.specs.declared.TreeCount.{TreeCount}
+use Rattle.tree_survey.specs.Survey.{negative, bodyRecords, treeNegative, treeRecords, treeLines, linesCounted, headCounted, treeSurveyed, treesEnded, treesCounted}
 use Rattle.tree_survey.specs.declared.TreeCount.the-variants as count
-use Rattle.tree_survey.specs.declared.TreeSurvey.{TreeSurvey}
 use Rattle.tree_survey.specs.declared.TreeSurvey.the-variants as surveyed
-use Rattle.tree_survey.specs.declared.Trees.{Trees}
 use Rattle.tree_survey.specs.declared.Trees.the-variants as all
 
 module _ (s : List ℕ) where
@@ -139,10 +132,6 @@ module _ (s : List ℕ) where
 
   -- ---- all trees
 
-  trees-are : (i : ℕ) → treesAt s i ≡ readOf (treesAt s) (treeStepAt s i)
-  unfolding treesAt
-  trees-are i = read-is (treeStepAt s) (length s) (onward (reads s)) i
-
   -- the tree at i that was surveyed
   record Seen (i : ℕ) (b : Bool) (m n : ℕ) (Step-is : Tree → Type 0) : Type 0 where
     it : Tree
@@ -208,7 +197,7 @@ module _ (s : List ℕ) where
       record {
         same =
             (λ z. treesEnded (anyOf treeNegative (v z) (treesAt s j .items)) (x z) (y z) (largest treeLines (w z) (treesAt s j .items)) (treesAt s j .ending))
-            ∙ sym (ap (treesCounted b n m k) (trees-are i ∙ ap (readOf (treesAt s)) (t .steps))) ∙ d .same;
+            ∙ sym (ap (treesCounted b n m k) (trees-are s i ∙ ap (readOf (treesAt s)) (t .steps))) ∙ d .same;
         few = omega (arith, d .few, u .0);
         few-records = omega (arith, d .few-records, u .2);
       }
@@ -221,8 +210,8 @@ module _ (s : List ℕ) where
       let y : m + r ≡ m + (treeRecords (t .it) + 0) = omega (arith, t .records) in
       let v : b′ ≡ b || treeNegative (t .it) = p ∙ ap (b ||_) (sym (t .below)) in
       let w : k′ ≡ larger k (treeLines (t .it)) = q ∙ ap (larger k) (sym (t .lines)) in
-      (λ z. all.Counted (v z) (n + 1) (y z) (w z)) ∙ sym (ap (treesCounted b n m k) (trees-are i ∙ ap (readOf (treesAt s)) (t .steps .1))) ∙ d .same
+      (λ z. all.Counted (v z) (n + 1) (y z) (w z)) ∙ sym (ap (treesCounted b n m k) (trees-are s i ∙ ap (readOf (treesAt s)) (t .steps .1))) ∙ d .same
 
   pub surveyed-none : {at i : ℕ} {b : Bool} {n m k j : ℕ} → Surveying at i b n m k → surveyed.Broken j ≡ treeSurveyed (treeStepAt s i) → all.Broken j ≡ treesCounted false 0 0 0 (treesAt s at)
   unfolding treesCounted
-  surveyed-none {i = i} {b = b} {n = n} {m = m} {k = k} {j = j} d h = sym (ap (treesCounted b n m k) (trees-are i ∙ ap (readOf (treesAt s)) (seen-broken i j h))) ∙ d .same
+  surveyed-none {i = i} {b = b} {n = n} {m = m} {k = k} {j = j} d h = sym (ap (treesCounted b n m k) (trees-are s i ∙ ap (readOf (treesAt s)) (seen-broken i j h))) ∙ d .same

@@ -1,28 +1,27 @@
 -- What is read of a text and what `written`'s grammar has it say are the same, both ways: (b) and (c) of tree text. Assumes nothing.
-use mathlib.Core.Path.{_≡_, refl, sym, ap, ap₂, _∙_, subst}
+use mathlib.Core.Path.{_≡_, refl, sym, ap, _∙_}
 use mathlib.Core.Bool.{Bool, true, false, cond}
-use mathlib.Core.List.{List, [], _∷_, zipWith}
-use Prim.Native.Nat.{ℕ, zero, suc, _+_}
+use mathlib.Core.List.{List, [], zipWith}
+use Prim.Native.Nat.{ℕ}
 use native.Mathlib.Omega.{arith}
 use lib.ListN.{length}
-use Rattle.written.specs.Bytes.{blank, byteAt}
+use Rattle.written.specs.Bytes.{blank}
 use Rattle.written.specs.Said as says
-use Rattle.written.specs.TreeText.{Parted, Run, stop as stops, more, Parting, QuestionAt, TreesAt, Says, without, with-questions}
-use Rattle.written.proofs.Once.{Before, before, head, trees-before, says-once}
+use Rattle.written.specs.TreeText.{Parted, stop as stops, more, Parting, QuestionAt, TreesAt, Says, without, with-questions}
+use Rattle.written.proofs.Once.{Before, before, head, trees-before}
 use Rattle.laws.specs.Runs.{stop}
-use Rattle.laws.specs.Steps.{Ending, doneAt, brokenAt, Reading, read}
+use Rattle.laws.specs.Steps.{Ending, doneAt, brokenAt}
 use Rattle.laws.proofs.Parted.{parted-read, read-parted, laid-only}
 use Rattle.laws.proofs.Stops.{run-is}
 use Rattle.base_spaces.proofs.Joined.{no-blank}
-use Rattle.question.specs.Questions.{startsQuestion, itemAt, questionStepAt, questionsFrom, questionsAt}
+use Rattle.question.specs.Questions.{startsQuestion, itemAt, questionsFrom, questionsAt}
 use Rattle.question.specs.declared.Item.the-variants as item
 use Rattle.question.proofs.Joined.{question-starts, starts-qs, question-reads, tree-over, over-blanks}
-use Rattle.tree.specs.Trees.{treeOf, treesAt}
+use Rattle.tree.specs.Trees.{treeOf}
 use Rattle.tree.proofs.Joined.{trees-read, read-trees}
 use Rattle.laws.specs.Totals.{anyOf}
-use Rattle.tree_survey.specs.Survey.{Text, textRead, textAt, treeNegative, surveyEnded, surveyOf, surveyAt}
+use Rattle.tree_survey.specs.Survey.{textRead, textAt, treeNegative, surveyEnded, surveyOf, surveyAt}
 use Rattle.tree_survey.specs.Said.{textOf}
-use Rattle.tree_survey.specs.declared.Survey.{Survey}
 use Rattle.tree_survey.specs.declared.Survey.the-variants.{Counted, Broken, Negative}
 
 module _ (s : List ℕ) where

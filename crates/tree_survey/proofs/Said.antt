@@ -1,29 +1,28 @@
 -- The survey of a text is that of what it says, whatever its layout; and what its counts are in the words of `written`. Assumes nothing.
-use mathlib.Core.Path.{_≡_, refl, sym, ap, ap₂, _∙_, subst}
+use mathlib.Core.Path.{_≡_, refl, sym, ap, ap₂, _∙_}
 use mathlib.Core.Bool.{Bool, true, false, cond, _||_}
 use mathlib.Core.List.{List, [], _∷_, _++_, zipWith}
 use mathlib.Core.Logic.{_⊎_, inl, inr}
-use Prim.Native.Nat.{ℕ, zero, suc, _+_}
+use Prim.Native.Nat.{ℕ, suc, _+_}
 use native.Mathlib.Omega.{arith}
 use lib.IntN.{ℤ, pos, negsuc}
 use lib.ListN.{length, length-append}
 use Rattle.written.specs.Bytes.{Span}
 use Rattle.written.specs.Said as says
-use Rattle.written.specs.TreeText.{Parted, last as only, next as then, Comma, PatternAt, LineParting, LineAt, BodyAt, one, none, lines, TreeAt, tree, QuestionAt, question, TreesAt, trees, Says, without, with-questions}
+use Rattle.written.specs.TreeText.{Parted, last as only, next as then, LineParting, LineAt, BodyAt, one, none, lines, TreeAt, tree, QuestionAt, question, TreesAt, trees, Says, without, with-questions}
 use Rattle.written.specs.Linking.{Nth, here, there, Single, alone, alike, NotSingle, pdfOf, pdfs}
 use Rattle.written.specs.Tables as tables
 use Rattle.laws.specs.Totals.{total, larger, largest, anyOf}
 use Rattle.laws.proofs.Wholes.{eq-eqZ, eqZ-true}
 use Rattle.tree_reference.specs.References.{indexOf, sameIndex, pdfCount}
-use Rattle.tree_reference.specs.declared.TreeIndex.the-variants.{Node, Pdf}
 use Rattle.question_survey.specs.Counts.{patternCount}
 use Rattle.tree_line.specs.Lines.{lineOf}
 use Rattle.line_survey.specs.Counts.{linePdfs, recordsOf}
 use Rattle.tree.specs.Trees.{bodyOf, treeOf}
 use Rattle.tree_survey.specs.Survey.{negative, bodyRecords, bodyLines, treeNegative, treeRecords, treeLines, surveyOf, surveyAt}
-use Rattle.tree_survey.specs.Said.{textOf, saidPatterns, saidRecords, saidBodyRecords, saidBodyLines, saidNegative, saidTreeRecords, saidTreeLines, saidSurvey}
+use Rattle.tree_survey.specs.Said.{saidPatterns, saidRecords, saidBodyRecords, saidBodyLines, saidNegative, saidTreeRecords, saidTreeLines, saidSurvey}
 use Rattle.tree_survey.specs.declared.Survey.the-variants.{Counted, Broken, Negative}
-use Rattle.tree_survey.proofs.Joined.{survey-says, Spoken, whole-says}
+use Rattle.tree_survey.proofs.Joined.{survey-says, whole-says}
 
 -- ---- items that are parted: as many are said as are laid, and numbers of what is said are numbers of what is read
 

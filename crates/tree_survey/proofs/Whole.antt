@@ -12,9 +12,8 @@ use Rattle.question.specs.Questions.{questionsAt}
 use Rattle.question_survey.specs.Counts.{patternCount, questionsEnded, questionsCounted}
 use Rattle.question_survey.specs.declared.Questions.the-variants as questions
 use Rattle.tree.specs.Trees.{Tree, treesAt}
-use Rattle.tree_survey.specs.Survey.{Text, textRead, textAt, treeNegative, treeRecords, treeLines, treesEnded, treesCounted, surveyEnded, surveyOf, surveyAt}
+use Rattle.tree_survey.specs.Survey.{textRead, textAt, treeNegative, treeRecords, treeLines, treesEnded, treesCounted, surveyEnded, surveyOf, surveyAt}
 use Rattle.tree_survey.specs.declared.Trees.the-variants as trees
-use Rattle.tree_survey.specs.declared.Survey.{Survey}
 use Rattle.tree_survey.specs.declared.Survey.the-variants.{Counted, Broken, Negative}
 
 -- what a count of questions that succeeded says

@@ -1,5 +1,5 @@
 -- `base_spaces::name_between`: three runs, one after the other. Assumes nothing.
-use mathlib.Core.Path.{_≡_, refl, sym, ap, _∙_}
+use mathlib.Core.Path.{_≡_, _∙_}
 use mathlib.Core.List.{List}
 use Prim.Native.Nat.{ℕ}
 use Rattle.written.specs.Bytes.{blank, inName}

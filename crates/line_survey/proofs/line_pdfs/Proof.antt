@@ -1,5 +1,4 @@
 -- `line_survey::line_pdfs`: two counts of one at most. Assumes nothing.
-use mathlib.Core.Path.{_≡_, refl, sym, ap, ap₂, _∙_}
 use native.Mathlib.Omega.{arith}
 use Rattle.line_survey.proofs.Counting.{pdf-few}
 use borrow.Author.Needs.{needs}

@@ -1,5 +1,5 @@
 -- `line_survey::line_records`: by whether the references are equal. Assumes nothing.
-use mathlib.Core.Path.{_≡_, refl, sym, ap, ap₂, _∙_}
+use mathlib.Core.Path.{sym, ap, _∙_}
 use Prim.Native.Nat.{_+_}
 use native.Mathlib.Omega.{arith}
 use Rattle.line_survey.proofs.Counting.{line-few}

@@ -1,5 +1,5 @@
 -- `line_survey::survey_lines`: the first line, and those after it. Assumes nothing.
-use mathlib.Core.Path.{_≡_, refl, sym, ap, ap₂, _∙_}
+use mathlib.Core.Path.{sym, _∙_}
 use native.Mathlib.Omega.{arith}
 use borrow.Author.Needs.{needs}
 use Rattle.line_survey.proofs.Counting.{line-few, room, surveyed-more, surveyed-stopped, surveyed-one, surveyed-none}

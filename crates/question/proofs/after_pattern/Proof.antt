@@ -1,5 +1,5 @@
 -- `question::after_pattern`: each way out is an arm of `patternParted` or of `patternClosed`. Assumes nothing.
-use mathlib.Core.Path.{_≡_, refl, sym, ap, ap₂, _∙_}
+use mathlib.Core.Path.{_≡_, sym, ap, _∙_}
 use Prim.Native.Nat.{ℕ}
 use Rattle.question.specs.Questions.{patternClosed, patternParted, afterPattern}
 use Rattle.question.specs.declared.PatternStep.the-variants.{Next}

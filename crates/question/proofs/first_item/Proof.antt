@@ -1,6 +1,6 @@
 -- `question::first_item`: by whether a question starts. Assumes nothing.
-use mathlib.Core.Path.{_≡_, refl, sym, ap, ap₂, _∙_}
-use Rattle.question.specs.Questions.{startsQuestion, itemAt}
+use mathlib.Core.Path.{sym, ap, _∙_}
+use Rattle.question.specs.Questions.{itemAt}
 use Rattle.question.specs.declared.Item.the-variants.{Tree}
 use borrow.Author.Needs.{needs}
 use Rattle.question.proofs.first_item.Statement.{statement}

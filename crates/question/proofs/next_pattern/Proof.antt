@@ -1,5 +1,5 @@
 -- `question::next_pattern`: each arm is an arm of `patternFound`. Assumes nothing.
-use mathlib.Core.Path.{_≡_, refl, sym, ap, ap₂, _∙_}
+use mathlib.Core.Path.{sym, ap, _∙_}
 use Rattle.question.specs.Questions.{patternFound, patternStepAt}
 use borrow.Author.Needs.{needs}
 use Rattle.question.proofs.next_pattern.Statement.{statement}

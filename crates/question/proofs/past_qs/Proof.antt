@@ -1,5 +1,5 @@
 -- `question::past_qs`: two bytes, one after the other. Assumes nothing.
-use mathlib.Core.Path.{_≡_, refl, sym, ap, ap₂, _∙_}
+use mathlib.Core.Path.{sym, ap, _∙_}
 use Rattle.base_spaces.specs.Spaces.{thenByte}
 use Rattle.question.specs.Questions.{pastQs}
 use borrow.Author.Needs.{needs}

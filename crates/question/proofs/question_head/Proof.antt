@@ -1,5 +1,5 @@
 -- `question::question_head`: each way out is an arm of `headStarted`, `headNamed` or `headOpened`. Assumes nothing.
-use mathlib.Core.Path.{_≡_, refl, sym, ap, ap₂, _∙_}
+use mathlib.Core.Path.{_≡_, sym, ap, _∙_}
 use Prim.Native.Nat.{ℕ}
 use Rattle.question.specs.Questions.{headOpened, headNamed, headStarted, headAt}
 use Rattle.question.specs.declared.QuestionHead.the-variants.{Named}

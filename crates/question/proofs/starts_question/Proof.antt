@@ -1,5 +1,5 @@
 -- `question::starts_question`: a blank past `QS`. Assumes nothing.
-use mathlib.Core.Path.{_≡_, refl, sym, ap, ap₂, _∙_}
+use mathlib.Core.Path.{sym, ap, _∙_}
 use lib.Dec.{ltb}
 use Rattle.question.specs.Questions.{blankAt, startsQuestion}
 use borrow.Author.Needs.{needs}

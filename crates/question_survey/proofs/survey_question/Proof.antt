@@ -1,5 +1,5 @@
 -- `question_survey::survey_question`: each way out is a step of the question. Assumes nothing.
-use mathlib.Core.Path.{_≡_, refl, sym, ap, ap₂, _∙_}
+use mathlib.Core.Path.{sym, _∙_}
 use Rattle.question_survey.proofs.Counting.{asked-next, asked-last, asked-broken, asked-none}
 use borrow.Author.Needs.{needs}
 use Rattle.question_survey.proofs.survey_question.Statement.{statement}

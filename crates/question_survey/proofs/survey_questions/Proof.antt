@@ -1,5 +1,5 @@
 -- `question_survey::survey_questions`: by what the text begins with. Assumes nothing.
-use mathlib.Core.Path.{_≡_, refl, sym, ap, ap₂, _∙_}
+use mathlib.Core.Path.{sym, ap, _∙_}
 use Rattle.laws.specs.Totals.{total}
 use Rattle.question.specs.Questions.{questionsFrom, questionsAt}
 use Rattle.question_survey.specs.Counts.{questionsCounted}

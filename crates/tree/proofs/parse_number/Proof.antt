@@ -1,5 +1,5 @@
 -- `tree::parse_number`: each way out is an arm of `numberRead` or of `numberClosed`. Assumes nothing.
-use mathlib.Core.Path.{_≡_, refl, sym, ap, ap₂, _∙_}
+use mathlib.Core.Path.{sym, ap, ap₂, _∙_}
 use Rattle.laws.proofs.Signed.{back}
 use Rattle.base_values.specs.declared.Signed.the-variants.{Number}
 use Rattle.tree.specs.Trees.{numberClosed, numberRead, numberAt}

@@ -1,5 +1,5 @@
 -- `tree::parse_state`: each way out is an arm of `stateStarred` or of `stateOpened`. Assumes nothing.
-use mathlib.Core.Path.{_≡_, refl, sym, ap, ap₂, _∙_}
+use mathlib.Core.Path.{sym, ap, _∙_}
 use Rattle.written.specs.Bytes.{bracket}
 use Rattle.base_spaces.specs.Spaces.{pastByte}
 use Rattle.tree.specs.Trees.{stateOpened, stateStarred, stateAt}

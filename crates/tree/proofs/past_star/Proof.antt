@@ -1,5 +1,5 @@
 -- `tree::past_star`: three bytes, one after the other. Assumes nothing.
-use mathlib.Core.Path.{_≡_, refl, sym, ap, ap₂, _∙_}
+use mathlib.Core.Path.{sym, ap, _∙_}
 use Rattle.written.specs.Bytes.{unbrace}
 use Rattle.base_spaces.specs.Spaces.{thenByte}
 use Rattle.tree.specs.Trees.{pastStar}

@@ -1,5 +1,5 @@
 -- `tree::tree_head`: each arm is an arm of `headRead`. Assumes nothing.
-use mathlib.Core.Path.{_≡_, refl, sym, ap, ap₂, _∙_}
+use mathlib.Core.Path.{sym, ap, _∙_}
 use Rattle.laws.proofs.Signed.{back}
 use Rattle.tree.specs.Trees.{bodyAt, headRead, headAt}
 use borrow.Author.Needs.{needs}

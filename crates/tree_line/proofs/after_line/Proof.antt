@@ -1,5 +1,5 @@
 -- `tree_line::after_line`: each arm is an arm of `lineClosed` or of `lineParted`. Assumes nothing.
-use mathlib.Core.Path.{_≡_, refl, sym, ap, ap₂, _∙_}
+use mathlib.Core.Path.{sym, ap, _∙_}
 use Rattle.tree_line.specs.Lines.{lineParted, lineClosed, afterLine}
 use borrow.Author.Needs.{needs}
 use Rattle.tree_line.proofs.after_line.Statement.{statement}

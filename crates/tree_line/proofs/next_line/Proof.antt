@@ -1,5 +1,5 @@
 -- `tree_line::next_line`: each arm is an arm of `lineFound`. Assumes nothing.
-use mathlib.Core.Path.{_≡_, refl, sym, ap, ap₂, _∙_}
+use mathlib.Core.Path.{sym, ap, _∙_}
 use Rattle.tree_line.specs.Lines.{lineFound, lineStepAt}
 use borrow.Author.Needs.{needs}
 use Rattle.tree_line.proofs.next_line.Statement.{statement}

@@ -1,5 +1,5 @@
 -- `tree_line::parse_branches`: each arm is an arm of `noRead`. Assumes nothing.
-use mathlib.Core.Path.{_≡_, refl, sym, ap, ap₂, _∙_}
+use mathlib.Core.Path.{sym, ap, _∙_}
 use Rattle.tree_line.specs.Lines.{noRead, branchesAt}
 use borrow.Author.Needs.{needs}
 use Rattle.tree_line.proofs.parse_branches.Statement.{statement}

@@ -1,5 +1,5 @@
 -- `tree_line::parse_line`: each way out is an arm of `lineNumbered`, `lineNamed` or `lineBranched`. Assumes nothing.
-use mathlib.Core.Path.{_≡_, refl, sym, ap, ap₂, _∙_}
+use mathlib.Core.Path.{_≡_, sym, ap, _∙_}
 use Prim.Native.Nat.{ℕ}
 use lib.IntN.{ℤ}
 use Rattle.laws.proofs.Signed.{back}

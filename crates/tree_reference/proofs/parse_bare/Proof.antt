@@ -1,7 +1,7 @@
 -- `tree_reference::parse_bare`: each arm is an arm of `bareRead`. Assumes nothing.
-use mathlib.Core.Path.{_≡_, refl, sym, ap, ap₂, _∙_}
+use mathlib.Core.Path.{refl, sym, ap, ap₂, _∙_}
 use Rattle.laws.proofs.Signed.{back}
-use Rattle.tree_reference.specs.References.{bareRead, bareAt, pdfAt}
+use Rattle.tree_reference.specs.References.{bareRead, bareAt}
 use Rattle.tree_reference.specs.declared.TreeIndex.the-variants.{Node}
 use Rattle.tree_reference.specs.declared.Reference.the-variants.{Found}
 use borrow.Author.Needs.{needs}

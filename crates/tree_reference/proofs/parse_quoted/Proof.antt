@@ -1,5 +1,5 @@
 -- `tree_reference::parse_quoted`: each arm is an arm of `quotedRead` or of `closed`. Assumes nothing.
-use mathlib.Core.Path.{_≡_, sym, ap, _∙_}
+use mathlib.Core.Path.{sym, ap, _∙_}
 use Rattle.tree_reference.specs.References.{closed, quotedRead, quotedAt}
 use borrow.Author.Needs.{needs}
 use Rattle.tree_reference.proofs.parse_quoted.Statement.{statement}

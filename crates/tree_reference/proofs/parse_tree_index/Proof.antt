@@ -1,5 +1,5 @@
 -- `tree_reference::parse_tree_index`: each arm is an arm of `opened`. Assumes nothing.
-use mathlib.Core.Path.{_≡_, sym, ap, _∙_}
+use mathlib.Core.Path.{sym, ap, _∙_}
 use Rattle.tree_reference.specs.References.{opened, referenceAt}
 use borrow.Author.Needs.{needs}
 use Rattle.tree_reference.proofs.parse_tree_index.Statement.{statement}

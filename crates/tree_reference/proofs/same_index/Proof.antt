@@ -1,5 +1,5 @@
 -- `tree_reference::same_index`: each arm is an arm of `sameIndex`. Assumes nothing.
-use mathlib.Core.Path.{_≡_, refl, sym, ap, ap₂, _∙_}
+use mathlib.Core.Path.{sym, ap₂, _∙_}
 use Rattle.laws.proofs.Wholes.{same-bits}
 use Rattle.tree_reference.specs.References.{sameIndex}
 use borrow.Author.Needs.{needs}

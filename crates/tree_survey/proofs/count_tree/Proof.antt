@@ -1,5 +1,5 @@
 -- `tree_survey::count_tree`: each arm is an arm of `headCounted` or of `linesCounted`. Assumes nothing.
-use mathlib.Core.Path.{_≡_, refl, sym, ap, ap₂, _∙_}
+use mathlib.Core.Path.{_≡_, sym, ap, _∙_}
 use mathlib.Core.Bool.{Bool}
 use Prim.Native.Nat.{ℕ}
 use Rattle.laws.proofs.Signed.{back}

@@ -1,5 +1,5 @@
 -- `tree_survey::survey_text`: each way out is an arm of `surveyOf`. Assumes nothing.
-use mathlib.Core.Path.{_≡_, refl, sym, ap, ap₂, _∙_}
+use mathlib.Core.Path.{sym, _∙_}
 use Rattle.tree_survey.proofs.Whole.{no-questions, no-trees, a-negative, counted}
 use borrow.Author.Needs.{needs}
 use Rattle.tree_survey.proofs.survey_text.Statement.{statement}

@@ -1,5 +1,5 @@
 -- `tree_survey::survey_tree`: each way out is a step of the tree. Assumes nothing.
-use mathlib.Core.Path.{_≡_, refl, sym, ap, ap₂, _∙_}
+use mathlib.Core.Path.{sym, _∙_}
 use Rattle.tree_survey.proofs.Counting.{followed-next, followed-end, followed-other, followed-none}
 use borrow.Author.Needs.{needs}
 use Rattle.tree_survey.proofs.survey_tree.Statement.{statement}

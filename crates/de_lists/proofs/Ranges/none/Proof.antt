@@ -1,0 +1,13 @@
+-- `de_lists::Ranges::none` meets its contract. Assumes nothing.
+use Rattle.header.specs.Lists.{filled}
+use Rattle.de_lists.specs.Lists.{rangesOf}
+use mathlib.Core.Path.{_≡_, refl, sym, ap, ap₂, _∙_}
+use Rattle.de_lists.proofs.Ranges.none.Statement.{statement}
+use Rattle.de_lists.proofs.Ranges.none.Tie as tie
+
+returns : tie.Need-returns
+unfolding rangesOf filled
+returns c = refl
+
+pub none-spec : {M : Type 1} → statement M
+none-spec = tie.close (tie.spec returns)

@@ -1,0 +1,61 @@
+-- What the lines of [GLOBAL] make of `Global`. Assumes nothing.
+use mathlib.Core.Bool.{Bool, true, false, cond}
+use mathlib.Core.List.{List}
+use Prim.Native.Nat.{ℕ}
+use lib.Dec.{eqb, ltb}
+use Rattle.written.specs.HeaderText.{Entry}
+use Rattle.written.specs.Record.{global-fields}
+use Rattle.error.specs.declared.Refusal.{Refusal}
+use Rattle.error.specs.declared.Refusal.the-variants as refusal
+use Rattle.header.specs.Empty.{emptyGlobal}
+use Rattle.header.specs.declared.Global.{Global}
+use Rattle.de.specs.Values.{cursor}
+use Rattle.de_lists.specs.Lists.{firsts}
+use Rattle.de_lists.specs.declared.Outcome.the-variants as outcome
+use Rattle.de_values.specs.Values.{valueOf}
+use Rattle.de_values.specs.declared.Value.{Value}
+use Rattle.header_fields.specs.Fields.{fieldIndex, anyMissing}
+use Rattle.header_lines.specs.Lines.{Lines, whole, faulty, kept}
+use Rattle.header_lines.specs.declared.Verdict.{Verdict}
+use Rattle.header_lines.specs.declared.Verdict.the-variants as verdict
+use Rattle.header_global.specs.declared.GlobalRead.{GlobalRead}
+
+-- the value v in the field of the number k
+unfoldable pub stored : Global → ℕ → Value → Global
+stored g k v =
+    record {
+      «hts_voice_version» = cond (eqb k 0) (v .span) (g .«hts_voice_version»);
+      «sampling_frequency» = cond (eqb k 1) (v .number) (g .«sampling_frequency»);
+      «frame_period» = cond (eqb k 2) (v .number) (g .«frame_period»);
+      «num_states» = cond (eqb k 3) (v .number) (g .«num_states»);
+      «num_streams» = cond (eqb k 4) (v .number) (g .«num_streams»);
+      «stream_type» = cond (eqb k 5) (firsts 8 (v .spans .items) 0) (g .«stream_type»);
+      «stream_type_count» = cond (eqb k 5) (v .spans .count) (g .«stream_type_count»);
+      «fullcontext_format» = cond (eqb k 6) (v .span) (g .«fullcontext_format»);
+      «fullcontext_version» = cond (eqb k 7) (v .span) (g .«fullcontext_version»);
+      «gv_off_context» = cond (eqb k 8) (v .spans .items) (g .«gv_off_context»);
+      «gv_off_context_count» = cond (eqb k 8) (v .spans .count) (g .«gv_off_context_count»);
+      comment = cond (eqb k 9) (v .span) (g .comment);
+      «has_comment» = cond (eqb k 9) (true) (g .«has_comment»);
+    }
+
+-- a line's value in its field
+unfoldable pub withLine : Global → Entry → Global
+withLine g x = stored g (fieldIndex global-fields (x .name)) (valueOf (outcome.Read (cursor 0)) (x .value))
+
+abbrev pub made : Verdict → Global → GlobalRead
+made v g = record { verdict = v; global = g }
+
+abbrev pub refusedWith : Refusal → GlobalRead
+refusedWith r = made (verdict.Refused r) emptyGlobal
+
+-- a field is missing (9); a count passes its limit (12)
+unfoldable pub judged : List Bool → Global → GlobalRead
+judged m g =
+    cond (anyMissing m 8) (refusedWith refusal.Field)
+    (cond (ltb 8 (g .«stream_type_count»)) (refusedWith refusal.Limit)
+    (cond (ltb 32 (g .«gv_off_context_count»)) (refusedWith refusal.Limit) (made verdict.Accepted g)))
+
+abbrev pub globalIn : Lines → GlobalRead
+globalIn (whole m xs) = judged m (kept withLine emptyGlobal xs)
+globalIn (faulty r) = refusedWith r

@@ -1,0 +1,90 @@
+-- What the rows of a group make of `PositionData`. Assumes nothing.
+use mathlib.Core.Bool.{Bool, true, false, cond}
+use mathlib.Core.List.{List}
+use Prim.Native.Nat.{ℕ}
+use lib.Dec.{eqb}
+use Rattle.written.specs.Bytes.{same}
+use Rattle.written.specs.HeaderText.{Entry}
+use Rattle.written.specs.Record.{position-group}
+use Rattle.error.specs.declared.Refusal.{Refusal}
+use Rattle.error.specs.declared.Refusal.the-variants as refusal
+use Rattle.header.specs.Empty.{emptyPosition}
+use Rattle.header.specs.declared.Span.{Span}
+use Rattle.header.specs.declared.PositionData.{PositionData}
+use Rattle.de.specs.Values.{cursor}
+use Rattle.de_lists.specs.Lists.{firsts}
+use Rattle.de_lists.specs.declared.Outcome.the-variants as outcome
+use Rattle.de_values.specs.Values.{valueOf}
+use Rattle.de_values.specs.declared.Value.{Value}
+use Rattle.header_fields.specs.Fields.{fieldIndex, anyMissing}
+use Rattle.header_lines.specs.Lines.{Next, entry, end, wrong, marked, unseen}
+use Rattle.header_lines.specs.declared.Verdict.{Verdict}
+use Rattle.header_lines.specs.declared.Verdict.the-variants as verdict
+use Rattle.groups.specs.Rows.{bytesOf, rowLineAt, Going, on, stop-with}
+use Rattle.groups.specs.declared.Row.{Row}
+use Rattle.header_position.specs.declared.Group.{Group}
+use Rattle.header_position.specs.declared.Taken.{Taken}
+use Rattle.header_position.specs.declared.GroupRead.{GroupRead}
+
+-- the value v in the field of the number k
+unfoldable pub stored : PositionData → ℕ → Value → PositionData
+stored d k v =
+    record {
+      name = d .name;
+      «stream_win» = cond (eqb k 0) (v .ranges .items) (d .«stream_win»);
+      «stream_win_count» = cond (eqb k 0) (v .ranges .count) (d .«stream_win_count»);
+      «stream_pdf» = cond (eqb k 1) (v .range) (d .«stream_pdf»);
+      «stream_tree» = cond (eqb k 2) (v .range) (d .«stream_tree»);
+      «gv_pdf» = cond (eqb k 3) (v .range) (d .«gv_pdf»);
+      «has_gv_pdf» = cond (eqb k 3) (v .flag) (d .«has_gv_pdf»);
+      «gv_tree» = cond (eqb k 4) (v .range) (d .«gv_tree»);
+      «has_gv_tree» = cond (eqb k 4) (v .flag) (d .«has_gv_tree»);
+    }
+
+-- a line's value in its field
+unfoldable pub withLine : PositionData → Entry → PositionData
+withLine d x = stored d (fieldIndex position-group (x .name)) (valueOf (outcome.Read (cursor 0)) (x .value))
+
+-- a group of that name with no row yet
+abbrev pub emptyOf : Span → PositionData
+emptyOf x =
+    record {
+      name = x;
+      «stream_win» = emptyPosition .«stream_win»;
+      «stream_win_count» = emptyPosition .«stream_win_count»;
+      «stream_pdf» = emptyPosition .«stream_pdf»;
+      «stream_tree» = emptyPosition .«stream_tree»;
+      «gv_pdf» = emptyPosition .«gv_pdf»;
+      «has_gv_pdf» = emptyPosition .«has_gv_pdf»;
+      «gv_tree» = emptyPosition .«gv_tree»;
+      «has_gv_tree» = emptyPosition .«has_gv_tree»;
+    }
+
+unfoldable pub named : Span → Group
+named x = record { seen = unseen; item = emptyOf x }
+
+-- the group with a line
+abbrev pub afterLine : Group → Next → Going Group
+afterLine g (entry x j) = on (record { seen = marked 5 (g .seen) (fieldIndex position-group (x .name)); item = withLine (g .item) x })
+afterLine g end = on g
+afterLine g (wrong r) = stop-with r
+
+-- the group, whose name is w, with a row of the section
+unfoldable pub withRow : List ℕ → List ℕ → Group → Row → Going Group
+withRow s w g r = cond (same (bytesOf s (r .name)) w) (afterLine g (rowLineAt position-group (g .seen) s r)) (on g)
+
+-- how it stands in `Taken`; g is the group before
+abbrev pub takenIn : Group → Going Group → Taken
+takenIn g (on h) = record { verdict = verdict.Accepted; group = h }
+takenIn g (stop-with r) = record { verdict = verdict.Refused r; group = g }
+
+abbrev pub made : Verdict → PositionData → GroupRead
+made v d = record { verdict = v; item = d }
+
+-- a field is missing (9)
+unfoldable pub judged : Group → GroupRead
+judged g = cond (anyMissing (g .seen) 3) (made (verdict.Refused refusal.Field) emptyPosition) (made verdict.Accepted (g .item))
+
+abbrev pub groupIn : Going Group → GroupRead
+groupIn (on g) = judged g
+groupIn (stop-with r) = made (verdict.Refused r) emptyPosition

@@ -1,0 +1,64 @@
+-- What the rows of [POSITION] make of its groups. Assumes nothing.
+use mathlib.Core.Bool.{Bool, true, false, cond}
+use mathlib.Core.List.{List, []}
+use Prim.Native.Nat.{ℕ, zero, suc}
+use lib.Dec.{ltb}
+use lib.ListN.{getD, set, replicate}
+use Rattle.error.specs.declared.Refusal.{Refusal}
+use Rattle.error.specs.declared.Refusal.the-variants as refusal
+use Rattle.header.specs.Empty.{emptyPosition, noSpan, noRange}
+use Rattle.header.specs.declared.Span.{Span}
+use Rattle.header.specs.declared.PositionData.{PositionData}
+use Rattle.header_lines.specs.declared.Verdict.{Verdict}
+use Rattle.header_lines.specs.declared.Verdict.the-variants as verdict
+use Rattle.groups.specs.Rows.{bytesOf, rowsAt, Going, on, stop-with, over, noNames, namesWith, knownIn}
+use Rattle.groups.specs.declared.Row.{Row}
+use Rattle.header_position.specs.Group.{named, withRow, groupIn}
+use Rattle.header_position.specs.declared.GroupRead.{GroupRead}
+use Rattle.header_positions.specs.declared.Positions.{Positions}
+use Rattle.header_positions.specs.declared.GroupsRead.{GroupsRead}
+
+unfoldable pub noPositions : Positions
+noPositions = record { names = noNames; items = replicate 8 emptyPosition }
+
+-- one more
+unfoldable pub withPositions : Positions → PositionData → Positions
+withPositions x d = record { names = namesWith (x .names) (d .name); items = cond (ltb (x .names .count) 8) (set (x .items) (x .names .count) d) (x .items) }
+
+-- what stands outside an array
+abbrev pub nothing : PositionData
+nothing = record { name = noSpan; «stream_win» = []; «stream_win_count» = 0; «stream_pdf» = noRange; «stream_tree» = noRange; «gv_pdf» = noRange; «has_gv_pdf» = false; «gv_tree» = noRange; «has_gv_tree» = false }
+
+-- one of the first n has too many windows
+unfoldable pub manyOver : List PositionData → ℕ → Bool
+manyOver t zero = false
+manyOver t (suc n) = cond (ltb n 8) (cond (ltb 8 (getD t n nothing .«stream_win_count»)) true (manyOver t n)) (manyOver t n)
+
+-- what the group of a name says, in the section that starts at i
+abbrev pub groupOf : List ℕ → ℕ → Span → GroupRead
+groupOf s i x = groupIn (over (withRow s (bytesOf s x)) (named x) (rowsAt s i))
+
+abbrev pub afterGroup : Positions → Verdict → PositionData → Going Positions
+afterGroup x verdict.Accepted d = on (withPositions x d)
+afterGroup x (verdict.Refused r) d = stop-with r
+
+-- the groups with that of a row, unless it is known
+unfoldable pub withGroup : List ℕ → ℕ → Positions → Row → Going Positions
+withGroup s i x r =
+    cond (knownIn s (x .names .items) (x .names .count) (bytesOf s (r .name))) (on x) (afterGroup x (groupOf s i (r .name) .verdict) (groupOf s i (r .name) .item))
+
+abbrev pub made : Verdict → Positions → GroupsRead
+made v x = record { verdict = v; positions = x }
+
+-- how it stands in `GroupsRead`; x are the groups before
+abbrev pub foundIn : Positions → Going Positions → GroupsRead
+foundIn x (on y) = made verdict.Accepted y
+foundIn x (stop-with r) = made (verdict.Refused r) x
+
+-- a count passes its limit (12)
+unfoldable pub judged : Positions → GroupsRead
+judged x = cond (ltb 8 (x .names .count)) (made (verdict.Refused refusal.Limit) noPositions) (cond (manyOver (x .items) 8) (made (verdict.Refused refusal.Limit) noPositions) (made verdict.Accepted x))
+
+abbrev pub groupsIn : Going Positions → GroupsRead
+groupsIn (on x) = judged x
+groupsIn (stop-with r) = made (verdict.Refused r) noPositions

@@ -1,0 +1,103 @@
+-- `header_stream::read_group` meets its contract. The invariant: what is left of the rows gives the answer. Assumes nothing.
+use borrow.Author.Needs.{needs}
+use Rattle.header_stream.specs.declared.Group.{Group}
+use Rattle.header_stream.proofs.Stored.{taken-on, taken-stop}
+use Rattle.header_stream.specs.Group.{named, withRow, groupIn, judged}
+use Rattle.groups.proofs.Rows.{Left, left-all, left-none, Next, left-row, left-other, over-on, over-stop, over-none}
+use Rattle.groups.specs.declared.Row.{Row}
+use Rattle.groups.specs.Rows.{rowsAt, over, stop-with, on, bytesOf}
+use lib.ListN.{length}
+use mathlib.Core.List.{List, [], _∷_}
+use Prim.Native.Nat.{_-_}
+use mathlib.Core.Path.{_≡_, refl, sym, ap, ap₂, _∙_}
+use Rattle.header_stream.proofs.read_group.Statement.{statement}
+use Rattle.header_stream.proofs.read_group.Tie as tie
+
+abbrev Inv-loop : tie.InvT-loop
+Inv-loop s start name at₀ group₀ at group = (rows : List Row) × (over (withRow s (bytesOf s name)) (named name) (rowsAt s start) ≡ over (withRow s (bytesOf s name)) group rows) × Left s (at .at) rows
+
+abbrev μ-loop : tie.MeasureT-loop
+μ-loop s start name at₀ group₀ at group = length s - at .at
+
+-- the row that was found, and what is left
+found : (c : tie.After-known-told Inv-loop μ-loop) → Next (c .before .before .before .before .before .before .before .args .s .now) (c .before .before .before .before .loop .inv .2) (c .before .row .given .0 .0)
+found c = left-row _ (c .before .before .before .before .loop .inv .2) (sym (c .before .before .before .row-at .ensures) ∙ c .before .row .given .1)
+
+-- the answer, with the row split off
+split : (c : tie.After-known-told Inv-loop μ-loop) → over (withRow (c .before .before .before .before .before .before .before .args .s .now) (bytesOf (c .before .before .before .before .before .before .before .args .s .now) (c .before .before .before .before .before .before .before .args .name))) (named (c .before .before .before .before .before .before .before .args .name)) (rowsAt (c .before .before .before .before .before .before .before .args .s .now) (c .before .before .before .before .before .before .before .args .start)) ≡ over (withRow (c .before .before .before .before .before .before .before .args .s .now) (bytesOf (c .before .before .before .before .before .before .before .args .s .now) (c .before .before .before .before .before .before .before .args .name))) (c .before .before .before .before .loop .group) (c .before .row .given .0 .0 ∷ found c .rest)
+split c = c .before .before .before .before .loop .inv .1 ∙ ap (over _ _) (found c .split-off)
+
+first-requires : tie.Need-first-requires Inv-loop μ-loop
+first-requires c κs = search needs
+
+loop-holds : tie.Need-loop-holds Inv-loop μ-loop
+loop-holds c = (_, ap (λ (g : Group). over (withRow (c .before .before .args .s .now) (bytesOf (c .before .before .args .s .now) (c .before .before .args .name))) g (rowsAt (c .before .before .args .s .now) (c .before .before .args .start))) (sym (c .first .ensures)), left-all _ _)
+
+row-at-requires : tie.Need-row-at-requires Inv-loop μ-loop
+row-at-requires c κs = search needs
+
+enum-known-row : tie.Need-enum-known-row Inv-loop μ-loop
+enum-known-row c = search needs
+
+take-row-requires : tie.Need-take-row-requires Inv-loop μ-loop
+take-row-requires c κs = search needs
+
+enum-told : tie.Need-enum-told Inv-loop μ-loop
+enum-told c = search needs
+
+loop-less : tie.Need-loop-less Inv-loop μ-loop
+loop-less c = found (c .before .before .before .before) .less
+
+loop-again : tie.Need-loop-again Inv-loop μ-loop
+loop-again c = (found (c .before .before .before .before) .rest, split (c .before .before .before .before) ∙ over-on _ _ _ _ (taken-on _ _ (c .before .before .before .take-row .ensures) (c .before .enum-told .given .1)), found (c .before .before .before .before) .left)
+
+enum-known-verdict : tie.Need-enum-known-verdict Inv-loop μ-loop
+enum-known-verdict c = search needs
+
+refused-requires : tie.Need-refused-requires Inv-loop μ-loop
+refused-requires c κs = search needs
+
+returns : tie.Need-returns Inv-loop μ-loop
+returns c = c .refused .ensures ∙ ap groupIn (sym (split (c .before .before .before .before .before) ∙ over-stop _ _ _ _ (taken-stop _ _ (c .before .before .before .before .take-row .ensures) (c .before .before .verdict .given .1))))
+
+enum-known-next : tie.Need-enum-known-next Inv-loop μ-loop
+enum-known-next c = search needs
+
+loop-less-2 : tie.Need-loop-less-2 Inv-loop μ-loop
+loop-less-2 c = left-other _ (c .before .before .before .before .loop .inv .2) (sym (c .before .before .before .row-at .ensures) ∙ c .before .next .given .1) .1
+
+loop-again-2 : tie.Need-loop-again-2 Inv-loop μ-loop
+loop-again-2 c = (c .before .before .before .before .loop .inv .0, c .before .before .before .before .loop .inv .1, left-other _ (c .before .before .before .before .loop .inv .2) (sym (c .before .before .before .row-at .ensures) ∙ c .before .next .given .1) .0)
+
+enum-told-2 : tie.Need-enum-told-2 Inv-loop μ-loop
+enum-told-2 c = search needs
+
+judge-requires : tie.Need-judge-requires Inv-loop μ-loop
+judge-requires c κs = search needs
+
+returns-2 : tie.Need-returns-2 Inv-loop μ-loop
+returns-2 c = c .judge .ensures ∙ ap groupIn (sym (c .before .before .before .before .loop .inv .1 ∙ ap (over (withRow (c .before .before .before .before .before .before .before .args .s .now) (bytesOf (c .before .before .before .before .before .before .before .args .s .now) (c .before .before .before .before .before .before .before .args .name))) (c .before .before .before .before .loop .group)) (left-none _ (c .before .before .before .before .loop .inv .2) (sym (c .before .before .before .row-at .ensures) ∙ c .before .enum-told2 .given .1)) ∙ over-none (withRow (c .before .before .before .before .before .before .before .args .s .now) (bytesOf (c .before .before .before .before .before .before .before .args .s .now) (c .before .before .before .before .before .before .before .args .name))) (c .before .before .before .before .loop .group)))
+
+pub read-group-spec : {M : Type 1} → statement M
+read-group-spec =
+    tie.close
+    (tie.spec
+    Inv-loop
+    μ-loop
+    first-requires
+    loop-holds
+    row-at-requires
+    enum-known-row
+    take-row-requires
+    enum-told
+    loop-less
+    loop-again
+    enum-known-verdict
+    refused-requires
+    returns
+    enum-known-next
+    loop-less-2
+    loop-again-2
+    enum-told-2
+    judge-requires
+    returns-2)

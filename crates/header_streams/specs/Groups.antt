@@ -1,0 +1,64 @@
+-- What the rows of [STREAM] make of its groups. Assumes nothing.
+use mathlib.Core.Bool.{Bool, true, false, cond}
+use mathlib.Core.List.{List, []}
+use Prim.Native.Nat.{ℕ, zero, suc}
+use lib.Dec.{ltb}
+use lib.ListN.{getD, set, replicate}
+use Rattle.error.specs.declared.Refusal.{Refusal}
+use Rattle.error.specs.declared.Refusal.the-variants as refusal
+use Rattle.header.specs.Empty.{emptyStream, noSpan}
+use Rattle.header.specs.declared.Span.{Span}
+use Rattle.header.specs.declared.StreamData.{StreamData}
+use Rattle.header_lines.specs.declared.Verdict.{Verdict}
+use Rattle.header_lines.specs.declared.Verdict.the-variants as verdict
+use Rattle.groups.specs.Rows.{bytesOf, rowsAt, Going, on, stop-with, over, noNames, namesWith, knownIn}
+use Rattle.groups.specs.declared.Row.{Row}
+use Rattle.header_stream.specs.Group.{named, withRow, groupIn}
+use Rattle.header_stream.specs.declared.GroupRead.{GroupRead}
+use Rattle.header_streams.specs.declared.Streams.{Streams}
+use Rattle.header_streams.specs.declared.GroupsRead.{GroupsRead}
+
+unfoldable pub noStreams : Streams
+noStreams = record { names = noNames; items = replicate 8 emptyStream }
+
+-- one more
+unfoldable pub withStreams : Streams → StreamData → Streams
+withStreams x d = record { names = namesWith (x .names) (d .name); items = cond (ltb (x .names .count) 8) (set (x .items) (x .names .count) d) (x .items) }
+
+-- what stands outside an array
+abbrev pub nothing : StreamData
+nothing = record { name = noSpan; «vector_length» = 0; «num_windows» = 0; «is_msd» = false; «use_gv» = false; option = []; «option_count» = 0 }
+
+-- one of the first n has too many OPTION items
+unfoldable pub manyOver : List StreamData → ℕ → Bool
+manyOver t zero = false
+manyOver t (suc n) = cond (ltb n 8) (cond (ltb 16 (getD t n nothing .«option_count»)) true (manyOver t n)) (manyOver t n)
+
+-- what the group of a name says, in the section that starts at i
+abbrev pub groupOf : List ℕ → ℕ → Span → GroupRead
+groupOf s i x = groupIn (over (withRow s (bytesOf s x)) (named x) (rowsAt s i))
+
+abbrev pub afterGroup : Streams → Verdict → StreamData → Going Streams
+afterGroup x verdict.Accepted d = on (withStreams x d)
+afterGroup x (verdict.Refused r) d = stop-with r
+
+-- the groups with that of a row, unless it is known
+unfoldable pub withGroup : List ℕ → ℕ → Streams → Row → Going Streams
+withGroup s i x r =
+    cond (knownIn s (x .names .items) (x .names .count) (bytesOf s (r .name))) (on x) (afterGroup x (groupOf s i (r .name) .verdict) (groupOf s i (r .name) .item))
+
+abbrev pub made : Verdict → Streams → GroupsRead
+made v x = record { verdict = v; streams = x }
+
+-- how it stands in `GroupsRead`; x are the groups before
+abbrev pub foundIn : Streams → Going Streams → GroupsRead
+foundIn x (on y) = made verdict.Accepted y
+foundIn x (stop-with r) = made (verdict.Refused r) x
+
+-- a count passes its limit (12)
+unfoldable pub judged : Streams → GroupsRead
+judged x = cond (ltb 8 (x .names .count)) (made (verdict.Refused refusal.Limit) noStreams) (cond (manyOver (x .items) 8) (made (verdict.Refused refusal.Limit) noStreams) (made verdict.Accepted x))
+
+abbrev pub groupsIn : Going Streams → GroupsRead
+groupsIn (on x) = judged x
+groupsIn (stop-with r) = made (verdict.Refused r) noStreams

@@ -1,0 +1,12 @@
+-- `header_ungrouped::Durations::none` meets its contract. Assumes nothing.
+use Rattle.header_ungrouped.specs.Ungrouped.{noDurations}
+use mathlib.Core.Path.{_≡_, refl, sym, ap, ap₂, _∙_}
+use Rattle.header_ungrouped.proofs.Durations.none.Statement.{statement}
+use Rattle.header_ungrouped.proofs.Durations.none.Tie as tie
+
+returns : tie.Need-returns
+unfolding noDurations
+returns c = refl
+
+pub none-spec : {M : Type 1} → statement M
+none-spec = tie.close (tie.spec returns)

@@ -1,0 +1,127 @@
+// After model/mod.rs, `convert_tree`: the records of one tree of the text, into its part of the record table (01, 'Linking and tables').
+// A lone reference, or one braced line with equal references, is a bare leaf if it is a PDF. Assumes nothing.
+use link::Link;
+use link::link_tree;
+use link_refs::natural;
+use model_lines::fill_lines;
+use tables::put4;
+use tree_line::Line;
+use tree_line::LineStep;
+use tree_line::next_line;
+use tree_reference::TreeIndex;
+use tree_reference::same_index;
+ghost use mathlib.Core.Path.{_≡_};
+ghost use mathlib.Core.List.{[], _∷_};
+ghost use Prim.Native.Nat.{_+_, _*_, _≤_, _<_, _^_};
+ghost use lib.ListN.{length};
+ghost use lib.Seq.{sets};
+ghost use Rattle.order.specs.Keys.{nameKey, nameAt};
+ghost use Rattle.search.specs.Index.{Index};
+ghost use Rattle.tree_line.specs.Lines.{linesAt};
+ghost use Rattle.line_survey.specs.Counts.{recordsOf};
+ghost use Rattle.link_refs.specs.Lines.{linesFrom, pdfsOf};
+ghost use Rattle.model_lines.specs.Words.{lineWords};
+ghost use Rattle.model_tree.specs.Bodies.{leafResult, linkResult, linesResult, singleOf};
+
+// How a tree ends: with so many records, and the lines of its row; or refused, at a line.
+pub enum Filled {
+    Done { records: usize, lines: usize },
+    NodeRef(usize),
+    QuestionRef(usize),
+    LoneNode,
+}
+
+// The one record of a tree that is one reference, from `first` on.
+pub fn fill_leaf(records: &mut [u64], first: usize, index: TreeIndex) -> Filled
+    requires { ⌜ first + 4 ≤ length (now records) ⌝ }
+    ensures { λ r. ⌜ (r ≡ leafResult index .ends) × (now (records .exit) ≡ sets (now (records .entry)) first (leafResult index .rows)) ⌝ }
+{
+    match index {
+        TreeIndex::Pdf(number) => {
+            put4(records, first, 1, natural(number), 0, 0);
+            Filled::Done {
+                records: 1,
+                lines: 0,
+            }
+        }
+        TreeIndex::Node(_) => Filled::LoneNode,
+    }
+}
+
+// Whether a tree of so many lines is one reference.
+pub enum Single {
+    One(TreeIndex),
+    Several,
+}
+
+fn single_of(s: &[u8], at: usize, lines: usize) -> Single
+    requires { ⌜ lines ≡ length (linesAt (now s) at .items) ⌝ }
+    ensures { λ r. ⌜ r ≡ singleOf (linesAt (now (s .entry)) at .items) ⌝ }
+{
+    if lines != 1 {
+        return Single::Several;
+    }
+    match next_line(s, at) {
+        LineStep::Next { line, next: _ } => one_of(line),
+        LineStep::Last { line, next: _ } => one_of(line),
+        LineStep::Broken => Single::Several,
+    }
+}
+
+fn one_of(line: Line) -> Single
+    ensures { λ r. ⌜ r ≡ singleOf (line ∷ []) ⌝ }
+{
+    let no = line.no;
+    let yes = line.yes;
+    if same_index(no, yes) {
+        Single::One(yes)
+    } else {
+        Single::Several
+    }
+}
+
+// The records of so many lines in the work, from `first` on.
+fn link_lines(
+    work: &[i64],
+    lines: usize,
+    needed: usize,
+    records: &mut [u64],
+    first: usize,
+) -> Filled
+    requires { ⌜ (6 * lines ≤ length (now work)) × (needed ≡ lines + length (pdfsOf (linesFrom (now work) 0 lines))) × (first + 4 * needed ≤ length (now records)) ⌝ }
+    ensures { λ r. ⌜ (r ≡ linkResult (now (work .entry)) lines needed .ends) × (now (records .exit) ≡ sets (now (records .entry)) first (linkResult (now (work .entry)) lines needed .rows)) ⌝ }
+{
+    let end = first + 4 * needed;
+    match link_tree(work, lines, needed - lines, &mut records[first..end]) {
+        Link::Done => Filled::Done {
+            records: needed,
+            lines,
+        },
+        Link::NodeRef(line) => Filled::NodeRef(line),
+        Link::QuestionRef(line) => Filled::QuestionRef(line),
+    }
+}
+
+// The records of a tree in braces, from `first` on; its lines stand in the work afterwards.
+pub fn fill_braces(
+    s: &[u8],
+    at: usize,
+    lines: usize,
+    needed: usize,
+    questions: &[u64],
+    index: &[u64],
+    records: &mut [u64],
+    first: usize,
+    work: &mut [i64],
+) -> Filled
+    requires { ⌜ Index (λ e. nameKey (nameAt (now s) (now questions) e)) (now index) × (length (now index) < 2 ^ 62) ⌝ }
+    requires { ⌜ (lines ≡ length (linesAt (now s) at .items)) × (0 < lines) × (needed ≡ recordsOf (linesAt (now s) at .items)) ⌝ }
+    requires { ⌜ (first + 4 * needed ≤ length (now records)) × (6 * lines ≤ length (now work)) ⌝ }
+    ensures { λ r. ⌜ (r ≡ linesResult (now (s .entry)) (now (questions .entry)) (length (now (index .entry))) (linesAt (now (s .entry)) at .items) .ends) × (now (records .exit) ≡ sets (now (records .entry)) first (linesResult (now (s .entry)) (now (questions .entry)) (length (now (index .entry))) (linesAt (now (s .entry)) at .items) .rows)) × (now (work .exit) ≡ sets (now (work .entry)) 0 (lineWords (now (s .entry)) (now (questions .entry)) (length (now (index .entry))) (linesAt (now (s .entry)) at .items))) ⌝ }
+{
+    fill_lines(s, at, questions, index, work);
+    match single_of(s, at, lines) {
+        Single::One(reference) => fill_leaf(records, first, reference),
+        Single::Several => link_lines(work, lines, needed, records, first),
+    }
+}

@@ -1,0 +1,19 @@
+-- `parser::no_position` meets its contract. Assumes nothing.
+use Rattle.parser.specs.Open.{noPositionsFor, madePosition}
+use mathlib.Core.Path.{_≡_, refl, sym, ap, ap₂, _∙_}
+use borrow.Author.Needs.{needs}
+use Rattle.parser.proofs.no_position.Statement.{statement}
+use Rattle.parser.proofs.no_position.Tie as tie
+
+none-requires : tie.Need-none-requires
+none-requires c κs = search needs
+
+none-requires-2 : tie.Need-none-requires-2
+none-requires-2 c κs = search needs
+
+returns : tie.Need-returns
+unfolding noPositionsFor
+returns c = ap₂ (madePosition _) (c .before .none .ensures) (c .none2 .ensures)
+
+pub no-position-spec : {M : Type 1} → statement M
+no-position-spec = tie.close (tie.spec none-requires none-requires-2 returns)

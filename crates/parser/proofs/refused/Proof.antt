@@ -1,0 +1,16 @@
+-- `parser::refused` meets its contract. Assumes nothing.
+use Rattle.parser.specs.Open.{refusedWith, made}
+use mathlib.Core.Path.{_≡_, refl, sym, ap, ap₂, _∙_}
+use borrow.Author.Needs.{needs}
+use Rattle.parser.proofs.refused.Statement.{statement}
+use Rattle.parser.proofs.refused.Tie as tie
+
+none-requires : tie.Need-none-requires
+none-requires c κs = search needs
+
+returns : tie.Need-returns
+unfolding refusedWith
+returns c = ap (made _) (c .none .ensures)
+
+pub refused-spec : {M : Type 1} → statement M
+refused-spec = tie.close (tie.spec none-requires returns)
