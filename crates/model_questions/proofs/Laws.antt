@@ -1,27 +1,23 @@
--- Rows stored one after the other: what is left, stored, gives the table with all of them. Assumes nothing.
+-- One question, read; and question rows stored one after the other: what is left, stored, gives the table with all of them. Assumes nothing.
 use mathlib.Core.Path.{_≡_, refl, sym, ap, _∙_, subst}
-use mathlib.Core.List.{List, [], _∷_, _++_, append-nil}
-use Prim.Native.Nat.{ℕ, zero, suc, _+_, _*_, _≤_, _<_}
+use mathlib.Core.List.{List, [], _∷_}
+use Prim.Native.Nat.{ℕ, _+_, _*_, _≤_, _<_}
 use native.Mathlib.Omega.{arith}
 use lib.ListN.{length}
 use lib.Seq.{sets, length-sets}
-use Rattle.written.specs.Bytes.{Span}
 use Rattle.written.specs.Said.{QuestionPlace}
 use Rattle.laws.specs.Steps.{Ending, doneAt, brokenAt, Reading}
-use Rattle.laws.specs.Totals.{total}
 use Rattle.laws.proofs.Tables.{sets-append}
-use Rattle.question.specs.Questions.{headAt, patternStepAt, itemAt, afterQuestion, patternsAt, questionStepAt, questionsAt}
+use Rattle.question.specs.Questions.{headAt, itemAt, afterQuestion, patternsAt, questionsAt}
 use Rattle.question.specs.declared.QuestionHead.{QuestionHead}
 use Rattle.question.specs.declared.QuestionHead.the-variants as head
 use Rattle.question.specs.declared.Item.{Item}
 use Rattle.question.specs.declared.Item.the-variants as item
-use Rattle.question.specs.declared.PatternStep.the-variants as pattern
-use Rattle.question.proofs.Filling.{span, patterns-next, patterns-last, patterns-broken, questions-from, questions-next, questions-last, questions-stopped, questions-broken, begins-question, begins-tree}
-use Rattle.question_survey.specs.Counts.{patternsEnded, patternsCounted, patternCount, questionSurveyed}
+use Rattle.question.proofs.Filling.{span, questions-from, questions-next, questions-last, questions-stopped, questions-broken, begins-question, begins-tree}
+use Rattle.question_survey.specs.Counts.{patternsEnded, patternsCounted}
 use Rattle.question_survey.specs.declared.Patterns.the-variants as patterns
-use Rattle.question_survey.specs.declared.QuestionSurvey.the-variants as survey
 use Rattle.question_survey.proofs.Counting.{asked-next, asked-last, more-in, final-in}
-use Rattle.model_questions.specs.Words.{spanWords, patternWords, questionWords, rowFollowed, rowCounted, rowHeaded, rowAt}
+use Rattle.model_questions.specs.Words.{questionWords, rowFollowed, rowCounted, rowHeaded, rowAt}
 use Rattle.model_questions.specs.declared.QuestionRow.{QuestionRow}
 use Rattle.model_questions.specs.declared.QuestionRow.the-variants as row
 

@@ -1,7 +1,7 @@
 -- Pattern rows stored one after the other: what is left, stored, gives the table with all of them. Assumes nothing.
 use mathlib.Core.Path.{_≡_, refl, sym, ap, _∙_}
-use mathlib.Core.List.{List, [], _∷_, _++_, append-nil}
-use Prim.Native.Nat.{ℕ, zero, suc, _+_, _*_, _≤_, _<_}
+use mathlib.Core.List.{List, [], _∷_, append-nil}
+use Prim.Native.Nat.{ℕ, _+_, _*_, _≤_}
 use native.Mathlib.Omega.{arith}
 use lib.ListN.{length}
 use lib.Seq.{sets, length-sets}
@@ -16,7 +16,7 @@ use Rattle.question.specs.declared.PatternStep.the-variants as pattern
 use Rattle.question.proofs.Filling.{span, patterns-next, patterns-last, patterns-broken, questions-from}
 use Rattle.question_survey.specs.Counts.{patternCount}
 use Rattle.model_questions.specs.Words.{spanWords, patternWords}
-use Rattle.model_questions.proofs.Laws.{place, Went, Ended, first-items, no-items}
+use Rattle.model_questions.proofs.Laws.{Went, Ended, first-items, no-items}
 
 pub span-length : (ws : List Span) → length (spanWords ws) ≡ 2 * length ws
 unfolding spanWords
