@@ -70,7 +70,7 @@ fn question_row(s: &[u8], at: usize) -> QuestionRow
 }
 
 // The question rows from the first question's place on.
-fn fill_from(s: &[u8], at: usize, questions: &mut [u64])
+fn fill_questions_from(s: &[u8], at: usize, questions: &mut [u64])
     requires { ⌜ 4 * length (read (questionStepAt (now s)) (length (now s)) at .items) ≤ length (now questions) ⌝ }
     ensures { λ r. ⌜ now (questions .exit) ≡ sets (now (questions .entry)) 0 (questionWords 0 (read (questionStepAt (now (s .entry))) (length (now (s .entry))) at .items)) ⌝ }
 {
@@ -127,7 +127,7 @@ pub fn fill_questions(s: &[u8], at: usize, questions: &mut [u64])
     ensures { λ r. ⌜ now (questions .exit) ≡ sets (now (questions .entry)) 0 (questionWords 0 (questionsAt (now (s .entry)) at .items)) ⌝ }
 {
     match first_item(s, at) {
-        Item::Question(first) => fill_from(s, first, questions),
+        Item::Question(first) => fill_questions_from(s, first, questions),
         Item::Tree(_) => {}
     }
 }

@@ -11,8 +11,8 @@ first-item-requires c κs = search needs
 enum-known-first : tie.Need-enum-known-first
 enum-known-first c = search needs
 
-fill-from-requires : tie.Need-fill-from-requires
-fill-from-requires c κs = first-room _ _ (sym (c .before .before .first .given .1) ∙ c .before .before .before .before .first-item .ensures) (c .before .before .before .before .before .before .before .pre)
+fill-questions-from-requires : tie.Need-fill-questions-from-requires
+fill-questions-from-requires c κs = first-room _ _ (sym (c .before .before .first .given .1) ∙ c .before .before .before .before .first-item .ensures) (c .before .before .before .before .before .before .before .pre)
 
 enum-told : tie.Need-enum-told
 enum-told c = search needs
@@ -21,7 +21,7 @@ same-length : tie.Need-same-length
 same-length c = search needs
 
 returns : tie.Need-returns
-returns c = first-asked _ _ (sym (c .before .before .before .before .before .first .given .1) ∙ c .before .before .before .before .before .before .before .first-item .ensures) _ _ (c .before .before .fill-from .ensures)
+returns c = first-asked _ _ (sym (c .before .before .before .before .before .first .given .1) ∙ c .before .before .before .before .before .before .before .first-item .ensures) _ _ (c .before .before .fill-questions-from .ensures)
 
 returns-2 : tie.Need-returns-2
 returns-2 c = none-asked _ _ (sym (c .enum-told .given .1) ∙ c .before .before .first-item .ensures) _
@@ -32,7 +32,7 @@ fill-questions-spec =
     (tie.spec
     first-item-requires
     enum-known-first
-    fill-from-requires
+    fill-questions-from-requires
     enum-told
     same-length
     returns

@@ -1,12 +1,12 @@
--- `model_questions::fill_from`: what is left, stored, gives the table with all of them. Assumes nothing.
+-- `model_questions::fill_questions_from`: what is left, stored, gives the table with all of them. Assumes nothing.
 use mathlib.Core.Path.{sym, _∙_}
 use Prim.Native.Nat.{_-_}
 use native.Mathlib.Omega.{arith}
 use lib.ListN.{length}
 use borrow.Author.Needs.{needs}
 use Rattle.model_questions.proofs.Laws.{told-of, Asking, asking-none, next-room, asking-more, last-room, asking-last, asking-broken}
-use Rattle.model_questions.proofs.fill_from.Statement.{statement}
-use Rattle.model_questions.proofs.fill_from.Tie as tie
+use Rattle.model_questions.proofs.fill_questions_from.Statement.{statement}
+use Rattle.model_questions.proofs.fill_questions_from.Tie as tie
 
 abbrev Inv-loop : tie.InvT-loop
 Inv-loop s at questions₀ i₀ word₀ pattern₀ questions i word pattern = Asking s at questions₀ questions i word pattern
@@ -59,8 +59,8 @@ same-length-2 c = c .before .before .before .loop .inv .long
 returns-2 : tie.Need-returns-2 Inv-loop μ-loop
 returns-2 c = asking-broken _ _ _ _ _ _ _ (c .before .before .before .loop .inv) (told-of _ _ (sym (c .enum-told .given .1) ∙ c .before .before .question-row .ensures))
 
-pub fill-from-spec : {M : Type 1} → statement M
-fill-from-spec =
+pub fill-questions-from-spec : {M : Type 1} → statement M
+fill-questions-from-spec =
     tie.close
     (tie.spec
     Inv-loop
