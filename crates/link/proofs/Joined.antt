@@ -1,0 +1,206 @@
+-- Linking as the work has it is `written`'s linking: where it is done, the rows are the records of the tree; where it is refused, so is the tree, with that number and line. Assumes nothing.
+use mathlib.Core.Path.{_≡_, refl, sym, ap, ap₂, _∙_, subst}
+use mathlib.Core.Logic.{_⊎_, inl, inr}
+use mathlib.Core.Bool.{Bool, true, false, cond}
+use mathlib.Core.List.{List, [], _∷_, _++_, map, Forall₂, Forall₂·nil, Forall₂·cons}
+use Prim.Native.Nat.{ℕ, zero, suc, _+_, _-_, _*_, _/_, _^_, _≤_, _<_}
+use native.Mathlib.Omega.{arith}
+use native.Mathlib.Decide.{decLt}
+use borrow.Author.Tests.{eqb-true, eq-eqb, lt-ltb}
+use lib.Dec.{ltb, eqb}
+use lib.IntN.{ℤ, pos, negsuc}
+use lib.Signed.{mag}
+use lib.ListN.{length, getD}
+use Rattle.written.specs.Said.{Ref, node, pdf, Line, Body, braces, Question}
+use Rattle.written.specs.Linking as L
+use Rattle.written.specs.Linking.{Nth, here, there, Last, First, LastLine, LastQuestion, NotSingle, Row, branch, leaf, LineRow, row, times, Ascending, ToFirst, to-line, to-first, Records, Declared, borne, a-pdf, Asked, asked, Fault, yes-undeclared, no-undeclared, not-asked, Refused}
+use Rattle.order.specs.Keys.{idKey, idAt, keyOf}
+use Rattle.sorting.specs.Sorted.{sorted}
+use Rattle.search.specs.Found.{lastBelow, firstFrom, sameZ}
+use Rattle.search.specs.declared.Found.{Found}
+use Rattle.search.specs.declared.Found.the-variants.{At, Nothing}
+use Rattle.search.proofs.Ids.{same-id, id-small}
+use Rattle.link_refs.specs.Lines.{WorkLine, lineIn, linesFrom, refAt, pdfOf, pdfsOf}
+use Rattle.link_refs.specs.Targets.{moved, targetOf}
+use Rattle.link_rows.specs.Rows.{leafRows}
+use Rattle.link.specs.Steps.{stepQuestion, stepNo, stepYes, stepOf, first, outcome, goalsOf, goals}
+use Rattle.link.specs.Linked.{leavesOf, stepIn, recordRows, linkOutcome, linkedRows}
+use Rattle.link.specs.declared.Link.{Link}
+use Rattle.link.specs.declared.Link.the-variants.{Done, NodeRef, QuestionRef}
+use Rattle.link.specs.declared.Step.{Step}
+use Rattle.link.specs.declared.Step.the-variants.{Goes, NoNode, NoQuestion}
+
+-- ---- what a search found
+
+decide : (m n : ℕ) → (m < n) ⊎ (n ≤ m)
+decide m n = go (decLt m n)
+  where
+    go : Dec (m < n) → (m < n) ⊎ (n ≤ m)
+    go (yes l) = inl l
+    go (no l) = inr (omega (arith, l))
+
+last-found : (p : ℕ → Bool) (n k : ℕ) → lastBelow p n ≡ At k → (k < n) × (p k ≡ true) × ((m : ℕ) → k < m → m < n → p m ≡ false)
+unfolding lastBelow
+last-found p zero k e = let u : _≡_ {A = ℕ} 0 1 = cc in absurd (omega arith)
+last-found p (suc n) k e = go (p n) refl e (last-found p n k)
+  where
+    go : (b : Bool) → p n ≡ b → cond b (At n) (lastBelow p n) ≡ At k → (lastBelow p n ≡ At k → (k < n) × (p k ≡ true) × ((m : ℕ) → k < m → m < n → p m ≡ false))
+        → (k < suc n) × (p k ≡ true) × ((m : ℕ) → k < m → m < suc n → p m ≡ false)
+    go true q e r = let z : n ≡ k = cc in (omega arith, ap p (sym z) ∙ q, λ m a b. absurd (omega arith))
+    go false q e r = (omega (arith, r e .0), r e .1, λ m a b. pick m (decide m n) a b)
+      where
+        pick : (m : ℕ) → (m < n) ⊎ (n ≤ m) → k < m → m < suc n → p m ≡ false
+        pick m (inl l) a b = r e .2 m a l
+        pick m (inr l) a b = let z : m ≡ n = omega arith in ap p z ∙ q
+
+last-missing : (p : ℕ → Bool) (n : ℕ) → lastBelow p n ≡ Nothing → (m : ℕ) → m < n → p m ≡ false
+unfolding lastBelow
+last-missing p zero e m h = absurd (omega arith)
+last-missing p (suc n) e m h = go (p n) refl e (λ q. last-missing p n q m)
+  where
+    go : (b : Bool) → p n ≡ b → cond b (At n) (lastBelow p n) ≡ Nothing → (lastBelow p n ≡ Nothing → m < n → p m ≡ false) → p m ≡ false
+    go true q e r = let u : _≡_ {A = ℕ} 0 1 = cc in absurd (omega arith)
+    go false q e r = pick (decide m n)
+      where
+        pick : (m < n) ⊎ (n ≤ m) → p m ≡ false
+        pick (inl l) = r e l
+        pick (inr l) = let z : m ≡ n = omega arith in ap p z ∙ q
+
+-- ---- the first leaf of a number
+
+abbrev FirstOf : ℕ → ℕ → List ℕ → ℕ → Type 0
+FirstOf v k l r = (j : ℕ) × (r ≡ k + j) × First (λ m. m ≡ v) l j
+
+first-found : (v k : ℕ) (l : List ℕ) (r : ℕ) → firstFrom (λ e. eqb e v) k l ≡ At r → FirstOf v k l r
+unfolding firstFrom
+first-found v k [] r e = let u : _≡_ {A = ℕ} 0 1 = cc in absurd (omega arith)
+first-found v k (x ∷ l) r e = go (eqb x v) refl e (first-found v (suc k) l r)
+  where
+    earlier : eqb x v ≡ false → (j : ℕ) → First (λ m. m ≡ v) l j → (m : ℕ) (y : ℕ) → m < suc j → Nth (x ∷ l) m y → ¬ (y ≡ v)
+    earlier q j f zero y h here z = let u : _≡_ {A = Bool} true false = sym (eq-eqb x v z) ∙ q in let t : _≡_ {A = ℕ} 0 1 = cc in absurd (omega arith)
+    earlier q j f (suc m) y h (there s) z = f .before m y (omega arith) s z
+
+    go : (b : Bool) → eqb x v ≡ b → cond b (At k) (firstFrom (λ e. eqb e v) (suc k) l) ≡ At r → (firstFrom (λ e. eqb e v) (suc k) l ≡ At r → FirstOf v (suc k) l r) → FirstOf v k (x ∷ l) r
+    go true q e i = let z : k ≡ r = cc in (0, omega arith, record { at = x; stands = here; true-of = eqb-true x v q; before = λ m y h s. absurd (omega arith) })
+    go false q e i =
+        let f = i e in
+        (suc (f .0), omega (arith, f .1), record { at = f .2 .at; stands = there (f .2 .stands); true-of = f .2 .true-of; before = earlier q (f .0) (f .2) })
+
+first-missing : (v k : ℕ) (l : List ℕ) → firstFrom (λ e. eqb e v) k l ≡ Nothing → times v l ≡ 0
+unfolding firstFrom times
+first-missing v k [] e = refl
+first-missing v k (x ∷ l) e = go (eqb x v) refl e (first-missing v (suc k) l)
+  where
+    go : (b : Bool) → eqb x v ≡ b → cond b (At k) (firstFrom (λ e. eqb e v) (suc k) l) ≡ Nothing → (firstFrom (λ e. eqb e v) (suc k) l ≡ Nothing → times v l ≡ 0) → cond b 1 0 + times v l ≡ 0
+    go true q e i = let u : _≡_ {A = ℕ} 0 1 = cc in absurd (omega arith)
+    go false q e i = omega (arith, i e)
+
+-- ---- lines of the work and lines of the text
+
+-- a name as the work has it: one more than the row of the last question of that name, or 0 where no question has it
+pub data AskedAs (qs : List Question) (name : List ℕ) : ℕ → Type 0 where
+  some : {q : ℕ} → LastQuestion qs name q → AskedAs qs name (suc q)
+  none : ¬ Asked qs name → AskedAs qs name 0
+
+pub record Says (qs : List Question) (w : WorkLine) (l : Line) : Type 0 where
+  pub id : w .id ≡ l .id
+  pub yes : w .yes ≡ l .yes
+  pub no : w .no ≡ l .no
+  pub question : AskedAs qs (l .question) (w .question)
+
+nth-inside : {A : Type 0} {k : ℕ} {x : A} {xs : List A} → Nth xs k x → k < length xs
+nth-inside here = omega arith
+nth-inside (there s) = let h = nth-inside s in omega arith
+
+as-many : {qs : List Question} {ws : List WorkLine} {ls : List Line} → Forall₂ (Says qs) ws ls → length ws ≡ length ls
+as-many Forall₂·nil = refl
+as-many (Forall₂·cons s f) = ap suc (as-many f)
+
+lines-many : (w : List ℤ) (j n : ℕ) → length (linesFrom w j n) ≡ n
+unfolding linesFrom
+lines-many w j zero = refl
+lines-many w j (suc n) = ap suc (lines-many w (suc j) n)
+
+module _ (qs : List Question) (w : List ℤ) where
+  -- line k of the work says line k of the text
+  line-nth : (j n k : ℕ) (ls : List Line) → k < n → Forall₂ (Says qs) (linesFrom w j n) ls → (l : Line) × Nth ls k l × Says qs (lineIn w (j + k)) l
+  unfolding linesFrom
+  line-nth j zero k ls h f = absurd (omega arith)
+  line-nth j (suc n) zero (l ∷ ls) h (Forall₂·cons s f) = let e : j ≡ j + 0 = omega arith in (l, here, subst (λ (i : ℕ). Says qs (lineIn w i) l) e s)
+  line-nth j (suc n) (suc k) (l ∷ ls) h (Forall₂·cons s f) =
+      let r = line-nth (suc j) n k ls (omega arith) f in
+      let e : suc j + k ≡ j + suc k = omega arith in
+      (r .0, there (r .1), subst (λ (i : ℕ). Says qs (lineIn w i) (r .0)) e (r .2))
+
+  nth-line : (j n k : ℕ) (ls : List Line) (l : Line) → Forall₂ (Says qs) (linesFrom w j n) ls → Nth ls k l → (k < n) × Says qs (lineIn w (j + k)) l
+  unfolding linesFrom
+  nth-line j zero k ls l f t = absurd (omega (arith, as-many f, nth-inside t))
+  nth-line j (suc n) zero (l ∷ ls) _ (Forall₂·cons s f) here = let e : j ≡ j + 0 = omega arith in (omega arith, subst (λ (i : ℕ). Says qs (lineIn w i) l) e s)
+  nth-line j (suc n) (suc k) (m ∷ ls) l (Forall₂·cons s f) (there t) =
+      let r = nth-line (suc j) n k ls l f t in
+      let e : suc j + k ≡ j + suc k = omega arith in
+      (omega (arith, r .0), subst (λ (i : ℕ). Says qs (lineIn w i) l) e (r .1))
+
+  module _ (n : ℕ) (room : 6 * n ≤ length w) (small : (i : ℕ) → mag (getD w i (pos 0)) < 2 ^ 63) (ls : List Line) (said : Forall₂ (Says qs) (linesFrom w 0 n) ls) where
+    id-is : (e : ℕ) → e < n → idAt w e ≡ getD w (6 * e) (pos 0)
+    unfolding idAt
+    id-is e h = rw (lt-ltb e (length w / 6) (omega arith))
+
+    same-zs : (a b : ℤ) → sameZ a b ≡ true → a ≡ b
+    same-zs (pos a) (pos b) q = ap pos (eqb-true a b q)
+    same-zs (negsuc a) (negsuc b) q = ap negsuc (eqb-true a b q)
+    same-zs (pos a) (negsuc b) q = let u : _≡_ {A = ℕ} 0 1 = cc in absurd (omega arith)
+    same-zs (negsuc a) (pos b) q = let u : _≡_ {A = ℕ} 0 1 = cc in absurd (omega arith)
+
+    same-refl : (a : ℤ) → sameZ a a ≡ true
+    same-refl (pos a) = eq-eqb a a refl
+    same-refl (negsuc a) = eq-eqb a a refl
+
+    -- a test on ids
+    test : ℤ → ℕ → Bool
+    test x e = eqb (idKey (idAt w e)) (idKey x)
+
+    line-is : (x : ℤ) → mag x < 2 ^ 63 → (k : ℕ) → lastBelow (λ e. eqb (idKey (idAt w e)) (idKey x)) n ≡ At k → LastLine ls x k
+    line-is x sx k e =
+        let f = last-found (λ e. eqb (idKey (idAt w e)) (idKey x)) n k e in
+        let r = line-nth 0 n k ls (f .0) said in
+        let z : 0 + k ≡ k = omega arith in
+        let here-is : getD w (6 * k) (pos 0) ≡ r .0 .id = ap (λ (i : ℕ). getD w (6 * i) (pos 0)) (sym z) ∙ r .2 .id in
+        let true-one : sameZ (idAt w k) x ≡ true = same-id (idAt w k) x (id-small w small k) sx ∙ f .1 in
+        record {
+          at = r .0;
+          stands = r .1;
+          true-of = sym here-is ∙ sym (id-is k (f .0)) ∙ same-zs (idAt w k) x true-one;
+          after = λ m l h s q.
+              let b = nth-line 0 n m ls l said s in
+              let y : 0 + m ≡ m = omega arith in
+              let i : idAt w m ≡ x = id-is m (b .0) ∙ ap (λ (i : ℕ). getD w (6 * i) (pos 0)) (sym y) ∙ b .1 .id ∙ q in
+              let u : _≡_ {A = Bool} true false = sym (eq-eqb (idKey (idAt w m)) (idKey x) (ap idKey i)) ∙ f .2 m h (b .0) in
+              let t : _≡_ {A = ℕ} 0 1 = cc in omega arith;
+        }
+
+    line-missing : (x : ℤ) → lastBelow (λ e. eqb (idKey (idAt w e)) (idKey x)) n ≡ Nothing → ¬ Declared ls (node x)
+    line-missing x e (borne {k = m} {l = l} s q) =
+        let b = nth-line 0 n m ls l said s in
+        let y : 0 + m ≡ m = omega arith in
+        let i : idAt w m ≡ x = id-is m (b .0) ∙ ap (λ (i : ℕ). getD w (6 * i) (pos 0)) (sym y) ∙ b .1 .id ∙ q in
+        let u : _≡_ {A = Bool} true false = sym (eq-eqb (idKey (idAt w m)) (idKey x) (ap idKey i)) ∙ last-missing (λ e. eqb (idKey (idAt w e)) (idKey x)) n e m (b .0) in
+        let t : _≡_ {A = ℕ} 0 1 = cc in omega arith
+
+    -- ---- references
+
+    leaves : List ℕ
+    leaves = leavesOf w n
+
+    goes : (r : Ref) → ((x : ℤ) → r ≡ node x → mag x < 2 ^ 63) → (k : ℕ) → targetOf w n (leavesOf w n) r ≡ At k → ToFirst ls (leavesOf w n) r k
+    unfolding targetOf
+    goes (node x) h k e = to-line (line-is x (h x refl) k e)
+    goes (pdf v) h k e = go (firstFrom (λ e. eqb e v) 0 (leavesOf w n)) refl e
+      where
+        go : (f : Found) → firstFrom (λ e. eqb e v) 0 (leavesOf w n) ≡ f → moved n f ≡ At k → ToFirst ls (leavesOf w n) (pdf v) k
+        go (At r) q e =
+            let f = first-found v 0 (leavesOf w n) r q in
+            let z : n + r ≡ k = cc in
+            let c : length ls + f .0 ≡ k = omega (arith, f .1, as-many said, lines-many w 0 n) in
+            subst (λ (i : ℕ). ToFirst ls (leavesOf w n) (pdf v) i) c (to-first (f .2))
+        go Nothing q e = let u : _≡_ {A = ℕ} 0 1 = cc in absurd (omega arith)
