@@ -1,7 +1,7 @@
 // Replays walks and leaf checks over stored tables (judge/README.md, `tables`). The input is numbers: how many cases, and of each 0, trees,
 // records and walks, or 1, questions, trees, records, blocks, values, width and the answer, 1 for yes. A table is its length and its
 // numbers; a walk is tree, answer bytes and limit, and then number, PDF number and questions asked.
-// Assumes that the input fits 65,536 bytes, a table 256 numbers, the answer bytes 64; what doesn't differs.
+// Assumes that the input fits 65,536 bytes, a table 256 numbers and the answer bytes 64; what doesn't fit differs.
 use base::Test;
 use base::run_end;
 use base_values::Unsigned;
