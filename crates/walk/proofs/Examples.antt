@@ -5,7 +5,7 @@ use mathlib.Core.Bool.{false}
 use mathlib.Core.List.{List, [], _∷_}
 use Prim.Native.Nat.{ℕ}
 use Rattle.written.specs.Said.{Question}
-use Rattle.written.specs.Linking.{Nth, here, there, Row}
+use Rattle.written.specs.Linking.{here, there, Row}
 use Rattle.written.specs.Walks.{Ending, Answers}
 use Rattle.written.proofs.Walk.{no-row}
 use Rattle.written.proofs.Link.{records-linked}
