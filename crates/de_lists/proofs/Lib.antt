@@ -1,3 +1,4 @@
 pub mod Going
 pub mod Moves
 pub mod Sound
+pub mod Firsts

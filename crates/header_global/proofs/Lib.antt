@@ -1,1 +1,3 @@
 pub mod Stored
+pub mod Says
+pub mod Sound

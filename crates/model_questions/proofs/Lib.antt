@@ -1,0 +1,4 @@
+pub mod Laws
+pub mod Patterns
+pub mod Rows
+pub mod Decoded

@@ -1,0 +1,146 @@
+-- Pattern rows stored one after the other: what is left, stored, gives the table with all of them. Assumes nothing.
+use mathlib.Core.Path.{_≡_, refl, sym, ap, _∙_}
+use mathlib.Core.List.{List, [], _∷_, append-nil}
+use Prim.Native.Nat.{ℕ, _+_, _*_, _≤_}
+use native.Mathlib.Omega.{arith}
+use lib.ListN.{length}
+use lib.Seq.{sets, length-sets}
+use Rattle.written.specs.Bytes.{Span}
+use Rattle.written.specs.Said.{QuestionPlace}
+use Rattle.laws.specs.Steps.{Reading}
+use Rattle.laws.specs.Totals.{total}
+use Rattle.laws.proofs.Tables.{sets-append}
+use Rattle.question.specs.Questions.{patternStepAt, itemAt, patternsAt, questionsAt}
+use Rattle.question.specs.declared.Item.the-variants as item
+use Rattle.question.specs.declared.PatternStep.the-variants as pattern
+use Rattle.question.proofs.Filling.{span, patterns-next, patterns-last, patterns-broken, questions-from}
+use Rattle.question_survey.specs.Counts.{patternCount}
+use Rattle.model_questions.specs.Words.{spanWords, patternWords}
+use Rattle.model_questions.proofs.Laws.{Went, Ended, first-items, no-items}
+
+pub span-length : (ws : List Span) → length (spanWords ws) ≡ 2 * length ws
+unfolding spanWords
+span-length [] = refl
+span-length (w ∷ ws) = omega (arith, span-length ws)
+
+module _ (s : List ℕ) where
+  abbrev spans : ℕ → List Span
+  spans i = patternsAt s i .items
+
+  -- ---- the patterns of one question
+
+  module _ (at from : ℕ) (table₀ : List ℕ) where
+    pub record Matching (table : List ℕ) (i word : ℕ) : Type 0 where
+      pub long : length table ≡ length table₀
+      pub room : word + 2 * length (patternsAt s i .items) ≤ length table₀
+      pub stored : sets table word (spanWords (patternsAt s i .items)) ≡ sets table₀ from (spanWords (patternsAt s at .items))
+
+    pub matching-none : from + 2 * length (patternsAt s at .items) ≤ length table₀ → Matching table₀ at from
+    matching-none h = record { long = refl; room = h; stored = refl }
+
+    module _ (table : List ℕ) (i word : ℕ) (p : Matching table i word) where
+      module _ {b n j : ℕ} (e : pattern.Next b n j ≡ patternStepAt s i) where
+        more : spans i ≡ span b n ∷ spans j
+        more = ap (λ (r : Reading Span). r .items) (patterns-next s i e)
+
+        pub next-fits : word + 2 ≤ length table
+        next-fits = omega (arith, p .room, p .long, ap length more)
+
+        pub matching-more : (table₁ : List ℕ) → table₁ ≡ sets table word (b ∷ n ∷ []) → Matching table₁ j (word + 2)
+        unfolding spanWords
+        matching-more table₁ u =
+            record {
+              long = ap length u ∙ length-sets table word (b ∷ n ∷ []) ∙ p .long;
+              room = omega (arith, p .room, ap length more);
+              stored =
+                  ap (λ (t : List ℕ). sets t (word + 2) (spanWords (spans j))) u ∙ sets-append table word (b ∷ n ∷ []) (spanWords (spans j))
+                  ∙ sym (ap (λ (ws : List Span). sets table word (spanWords ws)) more) ∙ p .stored;
+            }
+
+      module _ {b n j : ℕ} (e : pattern.Last b n j ≡ patternStepAt s i) where
+        only : spans i ≡ span b n ∷ []
+        only = ap (λ (r : Reading Span). r .items) (patterns-last s i e)
+
+        pub last-fits : word + 2 ≤ length table
+        last-fits = omega (arith, p .room, p .long, ap length only)
+
+        pub matching-last : (table₁ : List ℕ) → table₁ ≡ sets table word (b ∷ n ∷ []) → table₁ ≡ sets table₀ from (spanWords (patternsAt s at .items))
+        unfolding spanWords
+        matching-last table₁ u = u ∙ sym (ap (λ (ws : List Span). sets table word (spanWords ws)) only) ∙ p .stored
+
+      pub matching-broken : pattern.Broken ≡ patternStepAt s i → table ≡ sets table₀ from (spanWords (patternsAt s at .items))
+      unfolding spanWords
+      matching-broken e = sym (ap (λ (r : Reading Span). sets table word (spanWords (r .items))) (patterns-broken s i e)) ∙ p .stored
+
+  -- ---- the patterns of all questions
+
+  module _ (at : ℕ) (table₀ : List ℕ) where
+    abbrev pub words : ℕ → List ℕ
+    words i = patternWords (questions-from s i .items)
+
+    abbrev patterns-of : ℕ → ℕ
+    patterns-of i = total patternCount (questions-from s i .items)
+
+    pub record Listing (table : List ℕ) (i word : ℕ) : Type 0 where
+      pub long : length table ≡ length table₀
+      pub room : word + 2 * total patternCount (questions-from s i .items) ≤ length table₀
+      pub stored : sets table word (words i) ≡ sets table₀ 0 (words at)
+
+    pub listing-none : 2 * total patternCount (questions-from s at .items) ≤ length table₀ → Listing table₀ at 0
+    listing-none h = record { long = refl; room = omega arith; stored = refl }
+
+    module _ (table : List ℕ) (i word : ℕ) (p : Listing table i word) where
+      module _ {b n f m j : ℕ} (w : Went s i b n f m j) where
+        weight : patterns-of i ≡ length (spans f) + patterns-of j
+        unfolding total
+        weight = ap (total patternCount) (w .items)
+
+        pub next-room : word + 2 * length (patternsAt s f .items) ≤ length table
+        next-room = omega (arith, p .room, p .long, weight)
+
+        pub next-word : word + 2 * m ≤ length table
+        next-word = omega (arith, next-room, w .count)
+
+        pub listing-more : (table₁ : List ℕ) → table₁ ≡ sets table word (spanWords (patternsAt s f .items)) → Listing table₁ j (word + 2 * m)
+        unfolding patternWords
+        listing-more table₁ u =
+            let e : word + 2 * m ≡ word + length (spanWords (spans f)) = omega (arith, span-length (spans f), w .count) in
+            record {
+              long = ap length u ∙ length-sets table word (spanWords (spans f)) ∙ p .long;
+              room = omega (arith, p .room, weight, w .count);
+              stored =
+                  ap (λ (t : List ℕ). sets t (word + 2 * m) (words j)) u ∙ ap (λ (x : ℕ). sets (sets table word (spanWords (spans f))) x (words j)) e
+                  ∙ sets-append table word (spanWords (spans f)) (words j)
+                  ∙ sym (ap (λ (qs : List QuestionPlace). sets table word (patternWords qs)) (w .items)) ∙ p .stored;
+            }
+
+      module _ {b n f m : ℕ} (w : Ended s i b n f m) where
+        final : patterns-of i ≡ length (spans f) + 0
+        unfolding total
+        final = ap (total patternCount) (w .items)
+
+        pub last-room : word + 2 * length (patternsAt s f .items) ≤ length table
+        last-room = omega (arith, p .room, p .long, final)
+
+        pub listing-last : (table₁ : List ℕ) → table₁ ≡ sets table word (spanWords (patternsAt s f .items)) → table₁ ≡ sets table₀ 0 (words at)
+        unfolding patternWords
+        listing-last table₁ u =
+            u ∙ ap (sets table word) (sym (append-nil (spanWords (spans f))))
+            ∙ sym (ap (λ (qs : List QuestionPlace). sets table word (patternWords qs)) (w .items)) ∙ p .stored
+
+      pub listing-broken : questions-from s i .items ≡ [] → table ≡ sets table₀ 0 (words at)
+      unfolding patternWords
+      listing-broken e = sym (ap (λ (qs : List QuestionPlace). sets table word (patternWords qs)) e) ∙ p .stored
+
+  -- ---- what a text begins with
+
+  pub first-patterns : (at : ℕ) {j n : ℕ} → item.Question j ≡ itemAt s at → 2 * total patternCount (questionsAt s at .items) ≤ n → 2 * total patternCount (questions-from s j .items) ≤ n
+  first-patterns at e h = omega (arith, ap (total patternCount) (first-items s at e))
+
+  pub first-listed : (at : ℕ) {j : ℕ} → item.Question j ≡ itemAt s at → (table table₁ : List ℕ)
+      → table₁ ≡ sets table 0 (patternWords (questions-from s j .items)) → table₁ ≡ sets table 0 (patternWords (questionsAt s at .items))
+  first-listed at e table table₁ u = u ∙ sym (ap (λ (qs : List QuestionPlace). sets table 0 (patternWords qs)) (first-items s at e))
+
+  pub none-listed : (at : ℕ) {j : ℕ} → item.Tree j ≡ itemAt s at → (table : List ℕ) → table ≡ sets table 0 (patternWords (questionsAt s at .items))
+  unfolding patternWords
+  none-listed at e table = sym (ap (λ (qs : List QuestionPlace). sets table 0 (patternWords qs)) (no-items s at e))
