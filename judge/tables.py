@@ -1,5 +1,5 @@
 #!/usr/bin/env python3
-"""Makes the stored walks and leaf checks over tables, crates/walk_stored/stdin and stdout: tables.py [--check]   (--check: only says whether they are as made)
+"""Makes the stored walks and leaf checks over tables, crates/replay_tables/stdin: tables.py [--check]   (--check: only says whether it is as made)
 
 The tables are some by hand, those of loaded models, whole and with one number changed, and small ones at random; among them trees that go round, rows that claim
 2^64 - 1 records, tables that end in the middle of a row. The answers are the second reading's."""
@@ -11,7 +11,7 @@ import reading
 import voices
 
 HERE = os.path.dirname(os.path.abspath(__file__))
-PROGRAM = os.path.join(os.path.dirname(HERE), 'crates', 'walk_stored')
+PROGRAM = os.path.join(os.path.dirname(HERE), 'crates', 'replay_tables')
 MOST = 256    # numbers of a table, as the program has room for
 ROOM = 65536  # bytes of input
 LARGE = 2 ** 64 - 1
@@ -88,20 +88,17 @@ def counted(t):
 
 def answered(trees, records, tree, answers, limit):
     try:
-        return '0 %d %d' % reading.walk(trees, records, tree, answers, limit)
+        return [0, *reading.walk(trees, records, tree, answers, limit)]
     except reading.Refused as refused:
-        return '%d 0 0' % refused.number
+        return [refused.number, 0, 0]
 
 
 def walk_case(trees, records, walks):
-    numbers = [0] + counted(trees) + counted(records) + [len(walks)]
-    for tree, answers, limit in walks:
-        numbers += [tree] + counted(answers) + [limit]
-    return numbers, [answered(trees, records, *w) for w in walks]
+    return [0] + counted(trees) + counted(records) + [len(walks)] + [n for t, a, l in walks for n in [t] + counted(a) + [l] + answered(trees, records, t, a, l)]
 
 
 def leaf_case(tables, width):
-    return [1] + [n for t in tables for n in counted(t)] + [width], ['yes' if reading.leaves_fit(*tables, width) else 'no']
+    return [1] + [n for t in tables for n in counted(t)] + [width, int(reading.leaves_fit(*tables, width))]
 
 
 def by_hand():
@@ -128,7 +125,7 @@ def by_hand():
 
 
 def cases():
-    """Of each case its numbers and the lines of its answer."""
+    """Of each case its numbers."""
     yield from by_hand()
     r, ms = random.Random('tables'), models()
     while True:
@@ -140,23 +137,20 @@ def cases():
 
 
 def stored():
-    lines, out, size = [], [], 16
-    for numbers, answers in cases():
+    lines, size = [], 16
+    for numbers in cases():
         line = ' '.join(map(str, numbers))
         size += len(line) + 1
         if size > ROOM:
-            break
+            return '%d\n%s\n' % (len(lines), '\n'.join(lines))
         lines.append(line)
-        out += answers
-    return '%d\n%s\n' % (len(lines), '\n'.join(lines)), '\n'.join(out) + '\n'
 
 
 if __name__ == '__main__':
-    for name, text in zip(('stdin', 'stdout'), stored()):
-        path = os.path.join(PROGRAM, name)
-        if sys.argv[1:] == ['--check']:
-            if open(path).read() != text:
-                sys.exit('tables.py: %s is not as made' % path)
-        else:
-            with open(path, 'w') as f:
-                f.write(text)
+    path = os.path.join(PROGRAM, 'stdin')
+    if sys.argv[1:] == ['--check']:
+        if open(path).read() != stored():
+            sys.exit('tables.py: %s is not as made' % path)
+    else:
+        with open(path, 'w') as f:
+            f.write(stored())

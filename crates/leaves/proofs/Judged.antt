@@ -1,8 +1,8 @@
 -- Values, lines and records: one law for each way out of the functions that test them. Assumes nothing.
-use mathlib.Core.Path.{_≡_, refl, sym, ap, ap₂, _∙_, subst}
+use mathlib.Core.Path.{_≡_, sym, ap, ap₂, _∙_}
 use mathlib.Core.Bool.{Bool, true, false, cond, _&&_, _||_}
 use mathlib.Core.List.{List}
-use Prim.Native.Nat.{ℕ, zero, suc, _+_, _-_, _*_, _/_, _≤_, _<_}
+use Prim.Native.Nat.{ℕ, _+_, _-_, _*_, _/_, _≤_, _<_}
 use native.Mathlib.Nat.{mul-zero, zero-mul, mul-comm, mul-pos, le-div-iff-mul-le}
 use native.Mathlib.Decide.{decLt}
 use native.Mathlib.Omega.{arith}
@@ -12,7 +12,7 @@ use lib.ListN.{length}
 use Rattle.rows.specs.Rows.{questionThere, recordThere, recordKind, recordQuestion, recordPdf, recordYes, recordNo, treeFirst, treeRecords, blockThere, blockFirst, blockEntries}
 use Rattle.leaves.specs.Conditions.{leafFits}
 use Rattle.leaves.specs.Checks.{all, lineFits, kindFits, recordFits, valuesFit, treeFits}
-use Rattle.leaves.proofs.Every.{both, not-first, then-second}
+use Rattle.leaves.proofs.Every.{not-first, then-second}
 
 -- ---- values
 

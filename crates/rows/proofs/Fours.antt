@@ -1,15 +1,15 @@
 -- The rows of a model are rows of four numbers, so that tables in which they stand one behind the other are those rows. Assumes nothing.
-use mathlib.Core.Path.{_≡_, refl, sym, ap, ap₂, _∙_, subst}
+use mathlib.Core.Path.{_≡_, refl, sym, _∙_, subst}
 use mathlib.Core.List.{List, [], _∷_, _++_, map, Forall₂, Forall₂·nil, Forall₂·cons}
-use Prim.Native.Nat.{ℕ, zero, suc, _+_, _*_, _/_, _≤_, _<_}
+use Prim.Native.Nat.{ℕ, suc, _+_, _*_, _≤_}
 use native.Mathlib.Omega.{arith}
-use lib.ListN.{length, take, drop}
+use lib.ListN.{length}
 use lib.Seq.{take-all}
 use Rattle.written.specs.Said.{Ref, Line, Body, Tree, Question}
-use Rattle.written.specs.Linking.{Nth, here, there, Row, leaf, LineRow, row, Records}
+use Rattle.written.specs.Linking.{here, there, Row, leaf, LineRow, row, Records}
 use Rattle.written.specs.Tables.{TreeRows, none, more}
 use Rattle.written.proofs.Walk.{no-row}
-use Rattle.rows.specs.Rows.{recordRows, treeTable, recordTable, flat, Standing}
+use Rattle.rows.specs.Rows.{treeTable, recordTable, flat}
 use Rattle.rows.proofs.Stand.{Fours, length-flat, flat-stands, standing-cut, records-many}
 
 -- ---- lists of such rows

@@ -1,10 +1,10 @@
--- How many questions a walk can ask, whatever its limit: no more than its tree has records in the table. Assumes nothing.
-use mathlib.Core.Path.{_≡_, refl, sym, ap, _∙_, subst}
+-- How many questions a walk can ask, whatever its limit: no more than its tree has records in the table. And the numbers that it gives.
+-- Assumes nothing.
+use mathlib.Core.Path.{_≡_, ap, subst}
 use mathlib.Core.Bool.{Bool, true, false, cond}
 use mathlib.Core.List.{List}
-use Prim.Native.Nat.{ℕ, zero, suc, _/_, _≤_, _<_, min}
+use Prim.Native.Nat.{ℕ, zero, suc, _≤_, min}
 use native.Mathlib.Omega.{arith}
-use lib.ListN.{length}
 use Rattle.error.specs.declared.Refusal.the-variants.{WalkTable, Steps}
 use Rattle.rows.specs.Rows.{treeThere, treeFirst, treeRecords, recordsIn}
 use Rattle.walk.specs.declared.Met.{Met}
@@ -58,3 +58,38 @@ module _ (T R : List ℕ) (t : ℕ) (bytes : List ℕ) (l : ℕ) where
   walk-asked =
       let h = subst (λ (w : Walked). answerOf w .asked ≤ min l most) walk-most (asked-in (min l most)) in
       (omega (arith, h), omega (arith, h))
+
+-- ---- the numbers that a walk gives
+
+-- success, a table that doesn't fit, the limit
+pub data Number : ℕ → Type 0 where
+  ended : Number 0
+  table : Number 24
+  steps : Number 25
+
+same-number : (w : Walked) → Number (answerOf w .number) → Number (answerOf (oneMore w) .number)
+same-number (Pdf n a) h = h
+same-number (Refused r) h = h
+
+from-number : (meets : ℕ → Met) (l k : ℕ) → Number (answerOf (walkFrom meets l k) .number)
+unfolding walkFrom
+from-number meets zero k = go (meets k)
+  where
+    go : (x : Met) → Number (answerOf (byMet (λ j. Refused Steps) x) .number)
+    go (Leaf n) = ended
+    go (Line j) = steps
+    go Wrong = table
+from-number meets (suc l) k = go (meets k) (from-number meets l)
+  where
+    go : (x : Met) → ((j : ℕ) → Number (answerOf (walkFrom meets l j) .number)) → Number (answerOf (byMet (λ j. oneMore (walkFrom meets l j)) x) .number)
+    go (Leaf n) r = ended
+    go (Line j) r = same-number (walkFrom meets l j) (r j)
+    go Wrong r = table
+
+pub walk-number : (T R : List ℕ) (t : ℕ) (bytes : List ℕ) (l : ℕ) → Number (answerOf (walkOf T R t bytes l) .number)
+unfolding walkOf
+walk-number T R t bytes l = go (treeThere T t)
+  where
+    go : (b : Bool) → Number (answerOf (cond b (walkFrom (meetAt R (treeFirst T t) (treeRecords T t) bytes) l 0) (Refused WalkTable)) .number)
+    go true = from-number (meetAt R (treeFirst T t) (treeRecords T t) bytes) l 0
+    go false = table

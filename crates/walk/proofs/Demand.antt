@@ -1,17 +1,17 @@
 -- Demand 3, second half, of the call: over tables in which linked rows stand, the walk ends as the written walk of the tree: the same PDF
 -- and as many questions, or the limit met in both, or 24 for empty braces. And what the walk's contract fixes. Assumes nothing.
 use mathlib.Core.Path.{_≡_, refl, sym, ap, _∙_, subst}
-use mathlib.Core.Bool.{Bool, true}
+use mathlib.Core.Bool.{Bool}
 use mathlib.Core.List.{List}
 use Prim.Native.Nat.{ℕ}
-use lib.ListN.{length, take, drop}
+use lib.ListN.{take, drop}
 use Rattle.written.specs.Said.{Body, Tree, Question}
 use Rattle.written.specs.Linking.{Nth, Row, Linked}
 use Rattle.written.specs.Tables.{TreeRows}
 use Rattle.written.specs.Walks.{Ending, limit, nothing, Written, Outcome, refused, Loaded, LoadedTree, asLoaded, Answers}
 use Rattle.written.proofs.Walk.{demand₃, written-once}
 use Rattle.written.proofs.Model.{model-walks}
-use Rattle.rows.specs.Rows.{treeThere, treeFirst, treeRecords, treeTable, recordTable, flat, HasTree}
+use Rattle.rows.specs.Rows.{treeFirst, treeRecords, treeTable, recordTable, flat, HasTree}
 use Rattle.rows.proofs.Stand.{tree-there, standing-cut}
 use Rattle.rows.proofs.Fours.{fours-model, record-table, tree-table}
 use Rattle.walk.specs.declared.Walked.{Walked}

@@ -1,11 +1,25 @@
--- The walk by computation: 01's tree of five records, a tree that goes round under the largest limit, and what is refused. Assumes nothing.
-use mathlib.Core.Path.{_≡_, refl, sym, _∙_}
+-- The walk by computation: 01's tree of five records, a tree that goes round under the largest limit, what is refused; and demand 3 used on
+-- 01's tree. Assumes nothing.
+use mathlib.Core.Path.{_≡_, refl, sym, ap, _∙_}
+use mathlib.Core.Bool.{false}
 use mathlib.Core.List.{List, [], _∷_}
 use Prim.Native.Nat.{ℕ}
+use Rattle.written.specs.Said.{Question}
+use Rattle.written.specs.Linking.{here, there, Row}
+use Rattle.written.specs.Walks.{Ending, Answers}
+use Rattle.written.proofs.Walk.{no-row}
+use Rattle.written.proofs.Link.{records-linked}
+use Rattle.written.proofs.Examples.{records₁, walk₁, walk₁-limit}
+use Rattle.rows.specs.Rows.{flat, HasTree}
+use Rattle.rows.proofs.Stand.{flat-stands}
+use Rattle.rows.proofs.Fours.{fours-records}
 use Rattle.error.specs.declared.Refusal.the-variants.{WalkTable, Steps}
+use Rattle.walk.specs.declared.Walked.{Walked}
 use Rattle.walk.specs.declared.Walked.the-variants.{Pdf, Refused}
 use Rattle.walk.specs.Walking.{lineAt, kindAt, meetAt, walkFrom, walkOf}
+use Rattle.walk.specs.Answer.{answerOf, endingAnswer}
 use Rattle.walk.proofs.Bound.{walk-most}
+use Rattle.walk.proofs.Demand.{walk-demand₃}
 
 -- ---- the tree of 01's sums: A is question 0, B question 1
 
@@ -52,3 +66,26 @@ round-records = 0 ∷ 0 ∷ 0 ∷ 0 ∷ []
 goes-round : walkOf round-trees round-records 0 (1 ∷ []) 18446744073709551615 ≡ Refused Steps
 unfolding walkOf walkFrom meetAt kindAt lineAt
 goes-round = sym (walk-most round-trees round-records 0 (1 ∷ []) 18446744073709551615) ∙ refl
+
+-- ---- demand 3 on 01's tree: its hypotheses hold of these tables, and the call ends as the written walk does
+
+abbrev questions₁ : List Question
+questions₁ = record { name = 65 ∷ []; patterns = (120 ∷ []) ∷ [] } ∷ record { name = 66 ∷ []; patterns = (121 ∷ []) ∷ [] } ∷ []
+
+abbrev rows₁ : List Row
+rows₁ = (0 ∷ 0 ∷ 3 ∷ 1 ∷ []) ∷ (0 ∷ 1 ∷ 3 ∷ 2 ∷ []) ∷ (1 ∷ 1 ∷ 0 ∷ 0 ∷ []) ∷ (1 ∷ 3 ∷ 0 ∷ 0 ∷ []) ∷ (1 ∷ 3 ∷ 0 ∷ 0 ∷ []) ∷ []
+
+stands : HasTree trees records 0 rows₁
+unfolding flat
+stands = record { there = refl; count = refl; stands = flat-stands records 0 rows₁ (fours-records records₁) refl }
+
+given : Answers questions₁ (λ q. false) (0 ∷ 0 ∷ [])
+given q x here = (0, here, refl)
+given q x (there here) = (0, there here, refl)
+given q x (there (there h)) = absurd (no-row h)
+
+as-written : (r : Walked) → r ≡ walkOf trees records 0 (0 ∷ 0 ∷ []) 2 → answerOf r ≡ endingAnswer (Ending.at 1 2)
+as-written r q = let d = walk-demand₃ given stands (records-linked records₁) 2 q in d .2 ∙ ap endingAnswer (sym (d .3 (Ending.at 1 2) walk₁))
+
+limit-as-written : (r : Walked) → r ≡ walkOf trees records 0 (0 ∷ 0 ∷ []) 1 → answerOf r ≡ endingAnswer Ending.limit
+limit-as-written r q = let d = walk-demand₃ given stands (records-linked records₁) 1 q in d .2 ∙ ap endingAnswer (sym (d .3 Ending.limit walk₁-limit))

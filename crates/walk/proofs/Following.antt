@@ -1,8 +1,8 @@
 -- The walk's loop: after `asked` questions at record k, what is left of the walk is the answer. Assumes nothing.
-use mathlib.Core.Path.{_≡_, refl, sym, ap, ap₂, _∙_}
+use mathlib.Core.Path.{_≡_, sym, ap, ap₂, _∙_}
 use mathlib.Core.Bool.{Bool, true, false, cond}
 use mathlib.Core.List.{List}
-use Prim.Native.Nat.{ℕ, zero, suc, _+_, _-_, _≤_, _<_, min}
+use Prim.Native.Nat.{ℕ, _+_, _-_, _≤_, _<_, min}
 use native.Mathlib.Omega.{arith}
 use Rattle.error.specs.declared.Refusal.the-variants.{WalkTable, Steps}
 use Rattle.rows.specs.Rows.{treeThere, treeFirst, treeRecords, recordsIn}
@@ -10,7 +10,7 @@ use Rattle.walk.specs.declared.Met.{Met}
 use Rattle.walk.specs.declared.Met.the-variants.{Leaf, Line, Wrong}
 use Rattle.walk.specs.declared.Walked.{Walked}
 use Rattle.walk.specs.declared.Walked.the-variants.{Pdf, Refused}
-use Rattle.walk.specs.Walking.{oneMore, walkFrom, meetAt, walkOf}
+use Rattle.walk.specs.Walking.{walkFrom, meetAt, walkOf}
 use Rattle.walk.proofs.Judged.{line-within}
 use Rattle.walk.proofs.Round.{plus, plus-none, plus-more, walk-leaf, walk-wrong, walk-stop, walk-on, enough-min}
 

@@ -1,7 +1,7 @@
 -- `walk::follow`: what is left of the walk, with so many questions more, is the answer. A limit above what the tree can ask makes no
 -- difference, so that the walk is one with the smaller of the two as its limit. Assumes nothing.
-use mathlib.Core.Path.{_≡_, sym, _∙_}
-use Prim.Native.Nat.{_-_, _≤_, min}
+use mathlib.Core.Path.{sym, _∙_}
+use Prim.Native.Nat.{_-_}
 use native.Mathlib.Omega.{arith}
 use borrow.Author.Needs.{needs}
 use Rattle.walk.specs.Walking.{meetAt}

@@ -1,14 +1,14 @@
--- `walk_stored::cases` ends: each turn leaves one case less. Assumes nothing.
+-- `replay_tables::cases` ends: each turn leaves one case less. Assumes nothing.
 use Prim.Native.Nat.{_≤_}
 use borrow.Author.Needs.{needs}
-use Rattle.walk_stored.proofs.cases.Statement.{statement}
-use Rattle.walk_stored.proofs.cases.Tie as tie
+use Rattle.replay_tables.proofs.cases.Statement.{statement}
+use Rattle.replay_tables.proofs.cases.Tie as tie
 
 abbrev Inv-loop : tie.InvT-loop
-Inv-loop s next₀ left₀ next left = left ≤ left₀
+Inv-loop s left₀ c₀ left c = left ≤ left₀
 
 abbrev μ-loop : tie.MeasureT-loop
-μ-loop s next₀ left₀ next left = left
+μ-loop s left₀ c₀ left c = left
 
 word-requires : tie.Need-word-requires Inv-loop μ-loop
 word-requires c κs = search needs

@@ -1,12 +1,12 @@
--- `walk_stored::fill`: the count stays within the table. Assumes nothing.
+-- `replay_tables::fill_bytes`: the count stays within the table. Assumes nothing.
 use mathlib.Core.Path.{_≡_, sym}
 use Prim.Native.Nat.{_-_, _≤_}
 use native.Mathlib.Omega.{arith}
 use lib.ListN.{length, length-set}
 use lib.Seq.{length-take-le}
 use borrow.Author.Needs.{needs}
-use Rattle.walk_stored.proofs.fill.Statement.{statement}
-use Rattle.walk_stored.proofs.fill.Tie as tie
+use Rattle.replay_tables.proofs.fill_bytes.Statement.{statement}
+use Rattle.replay_tables.proofs.fill_bytes.Tie as tie
 
 abbrev Inv-loop : tie.InvT-loop
 Inv-loop s at t₀ count next₀ k₀ t next k = (length t ≡ length t₀) × (k ≤ count) × (count ≤ length t₀)
@@ -26,8 +26,8 @@ loop-holds c = search needs
 word-requires-2 : tie.Need-word-requires-2 Inv-loop μ-loop
 word-requires-2 c κs = search needs
 
-mul-t : tie.Need-mul-t Inv-loop μ-loop
-mul-t c = search needs
+byte-requires : tie.Need-byte-requires Inv-loop μ-loop
+byte-requires c κs = search needs
 
 slice-write-t : tie.Need-slice-write-t Inv-loop μ-loop
 slice-write-t c = search needs
@@ -47,8 +47,8 @@ same-length c = search needs
 returns : tie.Need-returns Inv-loop μ-loop
 returns c = let l = c .before .loop .inv in let h : c .before .before .at-most .result ≤ length (c .before .loop .t) = omega arith in (h, sym (length-take-le (c .before .before .at-most .result) (c .before .loop .t) h))
 
-pub fill-spec : {M : Type 1} → statement M
-fill-spec =
+pub fill-bytes-spec : {M : Type 1} → statement M
+fill-bytes-spec =
     tie.close
     (tie.spec
     Inv-loop
@@ -57,7 +57,7 @@ fill-spec =
     at-most-requires
     loop-holds
     word-requires-2
-    mul-t
+    byte-requires
     slice-write-t
     add-k
     loop-less

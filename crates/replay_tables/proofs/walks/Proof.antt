@@ -1,14 +1,14 @@
--- `walk_stored::walks` ends: each turn leaves one walk less. Assumes nothing.
+-- `replay_tables::walks` ends: each turn leaves one walk less. Assumes nothing.
 use Prim.Native.Nat.{_≤_}
 use borrow.Author.Needs.{needs}
-use Rattle.walk_stored.proofs.walks.Statement.{statement}
-use Rattle.walk_stored.proofs.walks.Tie as tie
+use Rattle.replay_tables.proofs.walks.Statement.{statement}
+use Rattle.replay_tables.proofs.walks.Tie as tie
 
 abbrev Inv-loop : tie.InvT-loop
-Inv-loop s at trees records next₀ left₀ next left = left ≤ left₀
+Inv-loop s trees records left₀ c₀ left c = left ≤ left₀
 
 abbrev μ-loop : tie.MeasureT-loop
-μ-loop s at trees records next₀ left₀ next left = left
+μ-loop s trees records left₀ c₀ left c = left
 
 word-requires : tie.Need-word-requires Inv-loop μ-loop
 word-requires c κs = search needs
