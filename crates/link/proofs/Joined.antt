@@ -6,7 +6,7 @@ use mathlib.Core.List.{List, [], _∷_, _++_, map, Forall₂, Forall₂·nil, Fo
 use Prim.Native.Nat.{ℕ, zero, suc, _+_, _-_, _*_, _/_, _^_, _≤_, _<_}
 use native.Mathlib.Omega.{arith}
 use native.Mathlib.Decide.{decLt}
-use borrow.Author.Tests.{eqb-true, eq-eqb, lt-ltb}
+use borrow.Author.Tests.{eqb-true, eq-eqb, lt-ltb, ltb-true, ltb-false}
 use lib.Dec.{ltb, eqb}
 use lib.IntN.{ℤ, pos, negsuc}
 use lib.Signed.{mag}
@@ -16,11 +16,13 @@ use Rattle.written.specs.Linking as L
 use Rattle.written.specs.Linking.{Nth, here, there, Last, First, LastLine, LastQuestion, NotSingle, Row, branch, leaf, LineRow, row, times, Ascending, ToFirst, to-line, to-first, Records, Declared, borne, a-pdf, Asked, asked, Fault, yes-undeclared, no-undeclared, not-asked, Refused}
 use Rattle.order.specs.Keys.{idKey, idAt, keyOf}
 use Rattle.sorting.specs.Sorted.{sorted}
+use Rattle.sorting.proofs.Index as I
+use Rattle.sorting.proofs.Index.{Rises, rises-sorted, times-sorted}
 use Rattle.search.specs.Found.{lastBelow, firstFrom, sameZ}
 use Rattle.search.specs.declared.Found.{Found}
 use Rattle.search.specs.declared.Found.the-variants.{At, Nothing}
 use Rattle.search.proofs.Ids.{same-id, id-small}
-use Rattle.link_refs.specs.Lines.{WorkLine, lineIn, linesFrom, refAt, pdfOf, pdfsOf}
+use Rattle.link_refs.specs.Lines.{natOf, WorkLine, lineIn, linesFrom, refAt, refOf, pdfOf, pdfsOf}
 use Rattle.link_refs.specs.Targets.{moved, targetOf}
 use Rattle.link_rows.specs.Rows.{leafRows}
 use Rattle.link.specs.Steps.{stepQuestion, stepNo, stepYes, stepOf, first, outcome, goalsOf, goals}
@@ -95,6 +97,46 @@ first-missing v k (x ∷ l) e = go (eqb x v) refl e (first-missing v (suc k) l)
     go true q e i = let u : _≡_ {A = ℕ} 0 1 = cc in absurd (omega arith)
     go false q e i = omega (arith, i e)
 
+-- ---- rows one behind the other
+
+assoc : (x y z : List ℕ) → (x ++ y) ++ z ≡ x ++ (y ++ z)
+assoc [] y z = refl
+assoc (a ∷ x) y z = ap (λ l. a ∷ l) (assoc x y z)
+
+unfoldable pub flat : List Row → List ℕ
+flat [] = []
+flat (r ∷ rs) = r ++ flat rs
+
+flat-append : (a b : List Row) → flat (a ++ b) ≡ flat a ++ flat b
+unfolding flat
+flat-append [] b = refl
+flat-append (r ∷ a) b = ap (λ l. r ++ l) (flat-append a b) ∙ sym (assoc r (flat a) (flat b))
+
+flat-leaves : (l : List ℕ) → flat (map leaf l) ≡ leafRows l
+unfolding flat leafRows
+flat-leaves [] = refl
+flat-leaves (x ∷ l) = ap (λ t. 1 ∷ x ∷ 0 ∷ 0 ∷ t) (flat-leaves l)
+
+-- ---- leaves ascend
+
+number-le : (x y : ℕ) → keyOf (λ x. 0) x ≤ keyOf (λ x. 0) y → x ≤ y
+unfolding keyOf
+number-le x y h = go (ltb x (2 ^ 64)) refl (ltb y (2 ^ 64)) refl h
+  where
+    go : (a : Bool) → ltb x (2 ^ 64) ≡ a → (b : Bool) → ltb y (2 ^ 64) ≡ b → cond a (2 * (0 * 2 ^ 64 + x)) (2 * x + 1) ≤ cond b (2 * (0 * 2 ^ 64 + y)) (2 * y + 1) → x ≤ y
+    go true p true q h = omega arith
+    go true p false q h = omega (arith, ltb-true x (2 ^ 64) p, ltb-false y (2 ^ 64) q)
+    go false p true q h = omega arith
+    go false p false q h = omega arith
+
+rises-ascending : (l : List ℕ) → Rises (keyOf (λ x. 0)) l → Ascending l
+rises-ascending [] r = L.Ascending.none
+rises-ascending (x ∷ []) r = L.Ascending.one
+rises-ascending (x ∷ y ∷ l) (I.Rises.more h r) = L.Ascending.more (number-le x y h) (rises-ascending (y ∷ l) r)
+
+leaves-ascend : (l : List ℕ) → Ascending (sorted (keyOf (λ x. 0)) l)
+leaves-ascend l = rises-ascending (sorted (keyOf (λ x. 0)) l) (rises-sorted (keyOf (λ x. 0)) l)
+
 -- ---- lines of the work and lines of the text
 
 -- a name as the work has it: one more than the row of the last question of that name, or 0 where no question has it
@@ -120,6 +162,15 @@ lines-many : (w : List ℤ) (j n : ℕ) → length (linesFrom w j n) ≡ n
 unfolding linesFrom
 lines-many w j zero = refl
 lines-many w j (suc n) = ap suc (lines-many w (suc j) n)
+
+pdf-is : (a b : Ref) → a ≡ b → pdfOf a ≡ L.pdfOf b
+pdf-is a (node x) e = ap pdfOf e
+pdf-is a (pdf v) e = ap pdfOf e
+
+pdfs-are : {qs : List Question} (ws : List WorkLine) (ls : List Line) → Forall₂ (Says qs) ws ls → pdfsOf ws ≡ L.pdfs ls
+unfolding pdfsOf L.pdfs
+pdfs-are [] [] Forall₂·nil = refl
+pdfs-are (a ∷ ws) (l ∷ ls) (Forall₂·cons s f) = ap₂ (λ x y. x ++ y) (pdf-is (a .yes) (l .yes) (s .yes)) (ap₂ (λ x y. x ++ y) (pdf-is (a .no) (l .no) (s .no)) (pdfs-are ws ls f))
 
 module _ (qs : List Question) (w : List ℤ) where
   -- line k of the work says line k of the text
@@ -156,10 +207,6 @@ module _ (qs : List Question) (w : List ℤ) where
     same-refl (pos a) = eq-eqb a a refl
     same-refl (negsuc a) = eq-eqb a a refl
 
-    -- a test on ids
-    test : ℤ → ℕ → Bool
-    test x e = eqb (idKey (idAt w e)) (idKey x)
-
     line-is : (x : ℤ) → mag x < 2 ^ 63 → (k : ℕ) → lastBelow (λ e. eqb (idKey (idAt w e)) (idKey x)) n ≡ At k → LastLine ls x k
     line-is x sx k e =
         let f = last-found (λ e. eqb (idKey (idAt w e)) (idKey x)) n k e in
@@ -189,9 +236,6 @@ module _ (qs : List Question) (w : List ℤ) where
 
     -- ---- references
 
-    leaves : List ℕ
-    leaves = leavesOf w n
-
     goes : (r : Ref) → ((x : ℤ) → r ≡ node x → mag x < 2 ^ 63) → (k : ℕ) → targetOf w n (leavesOf w n) r ≡ At k → ToFirst ls (leavesOf w n) r k
     unfolding targetOf
     goes (node x) h k e = to-line (line-is x (h x refl) k e)
@@ -204,3 +248,62 @@ module _ (qs : List Question) (w : List ℤ) where
             let c : length ls + f .0 ≡ k = omega (arith, f .1, as-many said, lines-many w 0 n) in
             subst (λ (i : ℕ). ToFirst ls (leavesOf w n) (pdf v) i) c (to-first (f .2))
         go Nothing q e = let u : _≡_ {A = ℕ} 0 1 = cc in absurd (omega arith)
+
+    ref-small : (p : ℕ) (r : Ref) → refAt w p ≡ r → (x : ℤ) → r ≡ node x → mag x < 2 ^ 63
+    unfolding refOf
+    ref-small p r e x q = go (eqb (natOf (getD w p (pos 0))) 0) (e ∙ q)
+      where
+        go : (b : Bool) → cond b (node (getD w (p + 1) (pos 0))) (pdf (natOf (getD w (p + 1) (pos 0)))) ≡ node x → mag x < 2 ^ 63
+        go true e = let z : getD w (p + 1) (pos 0) ≡ x = cc in subst (λ (y : ℤ). mag y < 2 ^ 63) z (small (p + 1))
+        go false e = let u : _≡_ {A = ℕ} 0 1 = cc in absurd (omega arith)
+
+    -- a line that goes somewhere
+    step-goes : (q : ℕ) (f g : Found) {y m : ℕ} → stepYes q f g ≡ Goes y m → (f ≡ At y) × (g ≡ At m) × (eqb q 0 ≡ false)
+    unfolding stepQuestion
+    step-goes q (At a) (At b) {y} {m} e = go (eqb q 0) refl e
+      where
+        go : (c : Bool) → eqb q 0 ≡ c → cond c NoQuestion (Goes a b) ≡ Goes y m → (At a ≡ At y) × (At b ≡ At m) × (eqb q 0 ≡ false)
+        go true p e = let u : _≡_ {A = ℕ} 0 1 = cc in absurd (omega arith)
+        go false p e = let s : a ≡ y = cc in let t : b ≡ m = cc in (ap At s, ap At t, p)
+    step-goes q (At a) Nothing e = let u : _≡_ {A = ℕ} 0 1 = cc in absurd (omega arith)
+    step-goes q Nothing g e = let u : _≡_ {A = ℕ} 0 1 = cc in absurd (omega arith)
+
+    asked-row : (name : List ℕ) (q : ℕ) → AskedAs qs name q → eqb q 0 ≡ false → LastQuestion qs name (q - 1)
+    asked-row name (suc q) (some l) e = let z : q ≡ suc q - 1 = omega arith in subst (λ (i : ℕ). LastQuestion qs name i) z l
+    asked-row name zero (none h) e = let u : _≡_ {A = Bool} true false = sym (eq-eqb 0 0 refl) ∙ e in let t : _≡_ {A = ℕ} 0 1 = cc in absurd (omega arith)
+
+    row-is : (j : ℕ) (l : Line) → Says qs (lineIn w j) l → {y m : ℕ} → stepIn w n (lineIn w j) ≡ Goes y m → LineRow qs (ToFirst ls (leavesOf w n)) l (branch (lineIn w j .question - 1) y m)
+    row-is j l s {y} {m} e =
+        let g = step-goes (lineIn w j .question) (targetOf w n (leavesOf w n) (lineIn w j .yes)) (targetOf w n (leavesOf w n) (lineIn w j .no)) e in
+        row (asked-row (l .question) (lineIn w j .question) (s .question) (g .2))
+        (goes (l .yes) (ref-small (6 * j + 1) (l .yes) (s .yes)) y (ap (targetOf w n (leavesOf w n)) (sym (s .yes)) ∙ g .0))
+        (goes (l .no) (ref-small (6 * j + 3) (l .no) (s .no)) m (ap (targetOf w n (leavesOf w n)) (sym (s .no)) ∙ g .1))
+
+    abbrev Fronts : ℕ → ℕ → List Line → Type 0
+    Fronts j m lt = (front : List Row) × Forall₂ (LineRow qs (ToFirst ls (leavesOf w n))) lt front × (flat front ≡ recordRows (linesFrom w j m) (goals (stepIn w n) (linesFrom w j m)))
+
+    rows-are : (k j m : ℕ) (lt : List Line) → Forall₂ (Says qs) (linesFrom w j m) lt → outcome (stepIn w n) k (linesFrom w j m) ≡ Done → Fronts j m lt
+    unfolding linesFrom outcome goals recordRows flat
+    rows-are k j zero [] Forall₂·nil e = ([], Forall₂·nil, refl)
+    rows-are k j (suc m) (l ∷ lt) (Forall₂·cons s f) e = go (stepIn w n (lineIn w j)) refl e (rows-are (suc k) (suc j) m lt f)
+      where
+        go : (a : Step) → stepIn w n (lineIn w j) ≡ a → first k a (outcome (stepIn w n) (suc k) (linesFrom w (suc j) m)) ≡ Done
+            → (outcome (stepIn w n) (suc k) (linesFrom w (suc j) m) ≡ Done → Fronts (suc j) m lt)
+            → (front : List Row) × Forall₂ (LineRow qs (ToFirst ls (leavesOf w n))) (l ∷ lt) front
+            × (flat front ≡ recordRows (lineIn w j ∷ linesFrom w (suc j) m) (goalsOf a (goals (stepIn w n) (linesFrom w (suc j) m))))
+        go (Goes y z) p e r =
+            let R = r e in
+            (branch (lineIn w j .question - 1) y z ∷ R .0, Forall₂·cons (row-is j l s p) (R .1), ap (λ t. 0 ∷ (lineIn w j .question - 1) ∷ y ∷ z ∷ t) (R .2))
+        go NoNode p e r = let u : _≡_ {A = ℕ} 0 1 = cc in absurd (omega arith)
+        go NoQuestion p e r = let u : _≡_ {A = ℕ} 0 1 = cc in absurd (omega arith)
+
+    -- the records of the tree
+    pub link-done : linkOutcome w n ≡ Done → NotSingle ls → (rows : List Row) × Records qs (braces ls) rows × (flat rows ≡ linkedRows w n)
+    unfolding linkOutcome linkedRows leavesOf
+    link-done e h =
+        let R = rows-are 0 0 n ls said e in (
+          R .0 ++ map leaf (leavesOf w n),
+          L.Records.lines (leavesOf w n) h (leaves-ascend (pdfsOf (linesFrom w 0 n)))
+              (λ v. times-sorted (keyOf (λ x. 0)) v (pdfsOf (linesFrom w 0 n)) ∙ ap (times v) (pdfs-are (linesFrom w 0 n) ls said)) (R .1) refl,
+          flat-append (R .0) (map leaf (leavesOf w n)) ∙ ap₂ (λ a b. a ++ b) (R .2) (flat-leaves (leavesOf w n)),
+        )
