@@ -1,5 +1,5 @@
 #!/usr/bin/env python3
-"""Makes the stored walks and leaf checks over tables, crates/replay_tables/stdin: tables.py [--check]   (--check: only says whether it is as made)
+"""Makes the stored walks and leaf checks over tables, crates/replay_tables/stdin: tables.py [--check | SEED]   (--check: only says whether it is as made; SEED: prints others)
 
 The tables are some by hand, those of loaded models, whole and with one number changed, and small ones at random; among them trees that go round, rows that claim
 2^64 - 1 records, tables that end in the middle of a row. The answers are the second reading's."""
@@ -15,11 +15,11 @@ PROGRAM = os.path.join(os.path.dirname(HERE), 'crates', 'replay_tables')
 MOST = 256    # numbers of a table, as the program has room for
 ROOM = 65536  # bytes of input
 LARGE = 2 ** 64 - 1
+STORED = 'tables'
 
 
-def models():
+def models(n):
     """Small models of voices, one after the other."""
-    n = 0
     while True:
         b = voices.walking(n) if n % 2 else voices.voice(n)
         n += 1
@@ -124,10 +124,11 @@ def by_hand():
     yield leaf_case([[], [2, LARGE, 0, 0], [], [LARGE, 0], []], width)
 
 
-def cases():
+def cases(seed):
     """Of each case its numbers."""
     yield from by_hand()
-    r, ms = random.Random('tables'), models()
+    r = random.Random(seed)
+    ms = models(r.randrange(100000) if seed != STORED else 0)
     while True:
         if r.random() < .2:
             yield leaf_case(*leaf_tables(r, ms))
@@ -136,9 +137,9 @@ def cases():
             yield walk_case(trees, records, [a_walk(r, trees) for _ in range(6)])
 
 
-def stored():
+def stored(seed):
     lines, size = [], 16
-    for numbers in cases():
+    for numbers in cases(seed):
         line = ' '.join(map(str, numbers))
         size += len(line) + 1
         if size > ROOM:
@@ -149,8 +150,10 @@ def stored():
 if __name__ == '__main__':
     path = os.path.join(PROGRAM, 'stdin')
     if sys.argv[1:] == ['--check']:
-        if open(path).read() != stored():
+        if open(path).read() != stored(STORED):
             sys.exit('tables.py: %s is not as made' % path)
+    elif sys.argv[1:]:
+        print(stored(sys.argv[1]), end='')
     else:
         with open(path, 'w') as f:
-            f.write(stored())
+            f.write(stored(STORED))

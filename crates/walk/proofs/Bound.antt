@@ -12,7 +12,7 @@ use Rattle.walk.specs.declared.Met.the-variants.{Leaf, Line, Wrong}
 use Rattle.walk.specs.declared.Walked.{Walked}
 use Rattle.walk.specs.declared.Walked.the-variants.{Pdf, Refused}
 use Rattle.walk.specs.Walking.{meetAt, oneMore, byMet, walkFrom, walkOf}
-use Rattle.walk.specs.Answer.{answerOf}
+use Rattle.walk.specs.Answer.{answerOf, Given, ended, table, steps}
 use Rattle.walk.proofs.Judged.{line-within}
 use Rattle.walk.proofs.Round.{enough-min}
 
@@ -61,35 +61,29 @@ module _ (T R : List ℕ) (t : ℕ) (bytes : List ℕ) (l : ℕ) where
 
 -- ---- the numbers that a walk gives
 
--- success, a table that doesn't fit, the limit
-pub data Number : ℕ → Type 0 where
-  ended : Number 0
-  table : Number 24
-  steps : Number 25
-
-same-number : (w : Walked) → Number (answerOf w .number) → Number (answerOf (oneMore w) .number)
+same-number : (w : Walked) → Given (answerOf w .number) → Given (answerOf (oneMore w) .number)
 same-number (Pdf n a) h = h
 same-number (Refused r) h = h
 
-from-number : (meets : ℕ → Met) (l k : ℕ) → Number (answerOf (walkFrom meets l k) .number)
+from-number : (meets : ℕ → Met) (l k : ℕ) → Given (answerOf (walkFrom meets l k) .number)
 unfolding walkFrom
 from-number meets zero k = go (meets k)
   where
-    go : (x : Met) → Number (answerOf (byMet (λ j. Refused Steps) x) .number)
+    go : (x : Met) → Given (answerOf (byMet (λ j. Refused Steps) x) .number)
     go (Leaf n) = ended
     go (Line j) = steps
     go Wrong = table
 from-number meets (suc l) k = go (meets k) (from-number meets l)
   where
-    go : (x : Met) → ((j : ℕ) → Number (answerOf (walkFrom meets l j) .number)) → Number (answerOf (byMet (λ j. oneMore (walkFrom meets l j)) x) .number)
+    go : (x : Met) → ((j : ℕ) → Given (answerOf (walkFrom meets l j) .number)) → Given (answerOf (byMet (λ j. oneMore (walkFrom meets l j)) x) .number)
     go (Leaf n) r = ended
     go (Line j) r = same-number (walkFrom meets l j) (r j)
     go Wrong r = table
 
-pub walk-number : (T R : List ℕ) (t : ℕ) (bytes : List ℕ) (l : ℕ) → Number (answerOf (walkOf T R t bytes l) .number)
+pub walk-number : (T R : List ℕ) (t : ℕ) (bytes : List ℕ) (l : ℕ) → Given (answerOf (walkOf T R t bytes l) .number)
 unfolding walkOf
 walk-number T R t bytes l = go (treeThere T t)
   where
-    go : (b : Bool) → Number (answerOf (cond b (walkFrom (meetAt R (treeFirst T t) (treeRecords T t) bytes) l 0) (Refused WalkTable)) .number)
+    go : (b : Bool) → Given (answerOf (cond b (walkFrom (meetAt R (treeFirst T t) (treeRecords T t) bytes) l 0) (Refused WalkTable)) .number)
     go true = from-number (meetAt R (treeFirst T t) (treeRecords T t) bytes) l 0
     go false = table

@@ -25,3 +25,9 @@ endingAnswer nothing = record { number = 24; pdf = 0; asked = 0 }
 abbrev pub outcomeOf : Walked → Outcome
 outcomeOf (Pdf n a) = Outcome.at n a
 outcomeOf (Refused r) = refused (numberOf r)
+
+-- the numbers that a walk gives: success, tables or answers that don't fit, the limit
+pub data Given : ℕ → Type 0 where
+  ended : Given 0
+  table : Given 24
+  steps : Given 25
