@@ -172,6 +172,42 @@ unfolding pdfsOf L.pdfs
 pdfs-are [] [] Forall₂·nil = refl
 pdfs-are (a ∷ ws) (l ∷ ls) (Forall₂·cons s f) = ap₂ (λ x y. x ++ y) (pdf-is (a .yes) (l .yes) (s .yes)) (ap₂ (λ x y. x ++ y) (pdf-is (a .no) (l .no) (s .no)) (pdfs-are ws ls f))
 
+-- a PDF of a line is counted
+
+times-append : (v : ℕ) (a b : List ℕ) → times v (a ++ b) ≡ times v a + times v b
+unfolding times
+times-append v [] b = omega arith
+times-append v (x ∷ a) b = let r = times-append v a b in omega arith
+
+one-counted : (v : ℕ) (r : Ref) → r ≡ pdf v → times v (pdfOf r) ≡ 1
+unfolding times
+one-counted v r e = ap (λ x. times v (pdfOf x)) e ∙ ap (λ b. cond b 1 0 + 0) (eq-eqb v v refl)
+
+line-counted : (v : ℕ) (a : WorkLine) (ws : List WorkLine) → times v (pdfsOf (a ∷ ws)) ≡ times v (pdfOf (a .yes)) + (times v (pdfOf (a .no)) + times v (pdfsOf ws))
+unfolding pdfsOf
+line-counted v a ws = times-append v (pdfOf (a .yes)) (pdfOf (a .no) ++ pdfsOf ws) ∙ ap (λ (k : ℕ). times v (pdfOf (a .yes)) + k) (times-append v (pdfOf (a .no)) (pdfsOf ws))
+
+module _ (w : List ℤ) (v : ℕ) where
+  yes-counted : (j n i : ℕ) → i < n → lineIn w (j + i) .yes ≡ pdf v → 0 < times v (pdfsOf (linesFrom w j n))
+  unfolding linesFrom
+  yes-counted j zero i h e = absurd (omega arith)
+  yes-counted j (suc n) zero h e =
+      let z : j + 0 ≡ j = omega arith in
+      omega (arith, line-counted v (lineIn w j) (linesFrom w (suc j) n), one-counted v (lineIn w j .yes) (ap (λ (k : ℕ). lineIn w k .yes) (sym z) ∙ e))
+  yes-counted j (suc n) (suc i) h e =
+      let z : suc j + i ≡ j + suc i = omega arith in
+      omega (arith, line-counted v (lineIn w j) (linesFrom w (suc j) n), yes-counted (suc j) n i (omega arith) (ap (λ (k : ℕ). lineIn w k .yes) z ∙ e))
+
+  no-counted : (j n i : ℕ) → i < n → lineIn w (j + i) .no ≡ pdf v → 0 < times v (pdfsOf (linesFrom w j n))
+  unfolding linesFrom
+  no-counted j zero i h e = absurd (omega arith)
+  no-counted j (suc n) zero h e =
+      let z : j + 0 ≡ j = omega arith in
+      omega (arith, line-counted v (lineIn w j) (linesFrom w (suc j) n), one-counted v (lineIn w j .no) (ap (λ (k : ℕ). lineIn w k .no) (sym z) ∙ e))
+  no-counted j (suc n) (suc i) h e =
+      let z : suc j + i ≡ j + suc i = omega arith in
+      omega (arith, line-counted v (lineIn w j) (linesFrom w (suc j) n), no-counted (suc j) n i (omega arith) (ap (λ (k : ℕ). lineIn w k .no) z ∙ e))
+
 module _ (qs : List Question) (w : List ℤ) where
   -- line k of the work says line k of the text
   line-nth : (j n k : ℕ) (ls : List Line) → k < n → Forall₂ (Says qs) (linesFrom w j n) ls → (l : Line) × Nth ls k l × Says qs (lineIn w (j + k)) l
@@ -307,3 +343,153 @@ module _ (qs : List Question) (w : List ℤ) where
               (λ v. times-sorted (keyOf (λ x. 0)) v (pdfsOf (linesFrom w 0 n)) ∙ ap (times v) (pdfs-are (linesFrom w 0 n) ls said)) (R .1) refl,
           flat-append (R .0) (map leaf (leavesOf w n)) ∙ ap₂ (λ a b. a ++ b) (R .2) (flat-leaves (leavesOf w n)),
         )
+
+    -- ---- where linking is refused
+
+    leaf-times : (v : ℕ) → times v (leavesOf w n) ≡ times v (pdfsOf (linesFrom w 0 n))
+    unfolding leavesOf
+    leaf-times v = times-sorted (keyOf (λ x. 0)) v (pdfsOf (linesFrom w 0 n))
+
+    -- line j goes somewhere
+    abbrev GoesAt : ℕ → Type 0
+    GoesAt j = (y : ℕ) × (z : ℕ) × (stepIn w n (lineIn w j) ≡ Goes y z)
+
+    abbrev Stop : ℕ → ℕ → ℕ → Type 0
+    Stop k j m = (i : ℕ) × (i < m) × (outcome (stepIn w n) k (linesFrom w j m) ≡ first (k + i) (stepIn w n (lineIn w (j + i))) Done) × ((b : ℕ) → b < i → GoesAt (j + b))
+
+    stops : (k j m : ℕ) → ¬ (outcome (stepIn w n) k (linesFrom w j m) ≡ Done) → Stop k j m
+    unfolding linesFrom outcome
+    stops k j zero h = absurd (h refl)
+    stops k j (suc m) h = go (stepIn w n (lineIn w j)) refl (stops (suc k) (suc j) m)
+      where
+        at-once : (a : Step) → stepIn w n (lineIn w j) ≡ a → first k a (outcome (stepIn w n) (suc k) (linesFrom w (suc j) m)) ≡ first k a Done → Stop k j (suc m)
+        at-once a p q =
+            let z : 0 + k ≡ k = omega arith in
+            let x : k + 0 ≡ k = omega arith in
+            let y : j + 0 ≡ j = omega arith in (
+              0,
+              omega arith,
+              ap (λ s. first k s (outcome (stepIn w n) (suc k) (linesFrom w (suc j) m))) p ∙ q ∙ ap (λ s. first k s Done) (sym p) ∙ ap₂ (λ (a b : ℕ). first a (stepIn w n (lineIn w b)) Done) (sym x) (sym y),
+              λ b l. absurd (omega arith),
+            )
+
+        go : (a : Step) → stepIn w n (lineIn w j) ≡ a → (¬ (outcome (stepIn w n) (suc k) (linesFrom w (suc j) m) ≡ Done) → Stop (suc k) (suc j) m) → Stop k j (suc m)
+        go NoNode p r = at-once NoNode p refl
+        go NoQuestion p r = at-once NoQuestion p refl
+        go (Goes y z) p r =
+            let on : outcome (stepIn w n) k (linesFrom w j (suc m)) ≡ outcome (stepIn w n) (suc k) (linesFrom w (suc j) m) = ap (λ s. first k s (outcome (stepIn w n) (suc k) (linesFrom w (suc j) m))) p in
+            let R = r (λ q. h (on ∙ q)) in
+            let a : suc k + R .0 ≡ k + suc (R .0) = omega arith in
+            let b : suc j + R .0 ≡ j + suc (R .0) = omega arith in
+            (suc (R .0), omega (arith, R .1), on ∙ R .2 ∙ ap₂ (λ (a b : ℕ). first a (stepIn w n (lineIn w b)) Done) a b, λ c l. before (y, z, p) (R .3) c l)
+          where
+            before : GoesAt j → {i : ℕ} → ((b : ℕ) → b < i → GoesAt (suc j + b)) → (c : ℕ) → c < suc i → GoesAt (j + c)
+            before g f zero l = let e : j ≡ j + 0 = omega arith in subst GoesAt e g
+            before g f (suc c) l = let e : suc j + c ≡ j + suc c = omega arith in subst GoesAt e (f c (omega arith))
+
+    declared : (r : Ref) (k : ℕ) → ToFirst ls (leavesOf w n) r k → Declared ls r
+    declared (node x) k (to-line l) = borne (l .stands) (l .true-of)
+    declared (pdf v) k (to-first f) = a-pdf
+
+    -- a reference of a line that leads nowhere is not declared: a PDF of a line always has a leaf
+    undeclared : (r : Ref) → ((v : ℕ) → r ≡ pdf v → 0 < times v (pdfsOf (linesFrom w 0 n))) → targetOf w n (leavesOf w n) r ≡ Nothing → ¬ Declared ls r
+    unfolding targetOf
+    undeclared (node x) h e = line-missing x e
+    undeclared (pdf v) h e = λ d. go (firstFrom (λ e. eqb e v) 0 (leavesOf w n)) refl e
+      where
+        go : (f : Found) → firstFrom (λ e. eqb e v) 0 (leavesOf w n) ≡ f → moved n f ≡ Nothing → ⊥
+        go (At r) q e = let u : _≡_ {A = ℕ} 0 1 = cc in omega arith
+        go Nothing q e = let z : times v (leavesOf w n) ≡ times v (pdfsOf (linesFrom w 0 n)) = leaf-times v in omega (arith, first-missing v 0 (leavesOf w n) q, h v refl)
+
+    step-node : (q : ℕ) (f g : Found) → stepYes q f g ≡ NoNode → (f ≡ Nothing) ⊎ ((y : ℕ) × (f ≡ At y) × (g ≡ Nothing))
+    unfolding stepQuestion
+    step-node q Nothing g e = inl refl
+    step-node q (At y) Nothing e = inr (y, refl, refl)
+    step-node q (At y) (At m) e = go (eqb q 0) e
+      where
+        go : (c : Bool) → cond c NoQuestion (Goes y m) ≡ NoNode → (At y ≡ Nothing) ⊎ ((x : ℕ) × (At y ≡ At x) × (At m ≡ Nothing))
+        go true e = let u : _≡_ {A = ℕ} 0 1 = cc in absurd (omega arith)
+        go false e = let u : _≡_ {A = ℕ} 0 1 = cc in absurd (omega arith)
+
+    step-unasked : (q : ℕ) (f g : Found) → stepYes q f g ≡ NoQuestion → (y : ℕ) × (m : ℕ) × (f ≡ At y) × (g ≡ At m) × (eqb q 0 ≡ true)
+    unfolding stepQuestion
+    step-unasked q Nothing g e = let u : _≡_ {A = ℕ} 0 1 = cc in absurd (omega arith)
+    step-unasked q (At y) Nothing e = let u : _≡_ {A = ℕ} 0 1 = cc in absurd (omega arith)
+    step-unasked q (At y) (At m) e = go (eqb q 0) refl e
+      where
+        go : (c : Bool) → eqb q 0 ≡ c → cond c NoQuestion (Goes y m) ≡ NoQuestion → (x : ℕ) × (z : ℕ) × (At y ≡ At x) × (At m ≡ At z) × (eqb q 0 ≡ true)
+        go true p e = (y, m, refl, refl, p)
+        go false p e = let u : _≡_ {A = ℕ} 0 1 = cc in absurd (omega arith)
+
+    unasked : (name : List ℕ) (q : ℕ) → AskedAs qs name q → eqb q 0 ≡ true → ¬ Asked qs name
+    unasked name zero (none h) e = h
+    unasked name (suc q) (some l) e = λ a. let z : suc q ≡ 0 = eqb-true (suc q) 0 e in omega arith
+
+    -- a line that goes somewhere has no fault
+    no-fault : (j : ℕ) (l : Line) → Says qs (lineIn w j) l → GoesAt j → (c : ℕ) → ¬ Fault qs ls l c
+    no-fault j l s (y, m, e) c f = go (row-is j l s e) f
+      where
+        go : {q y m c : ℕ} → LineRow qs (ToFirst ls (leavesOf w n)) l (branch q y m) → Fault qs ls l c → ⊥
+        go {q} {y} {m} (row lq gy gn) (yes-undeclared u) = u (declared (l .yes) y gy)
+        go {q} {y} {m} (row lq gy gn) (no-undeclared d u) = u (declared (l .no) m gn)
+        go {q} {y} {m} (row lq gy gn) (not-asked d b u) = u (asked (lq .stands) (lq .true-of))
+
+    in-yes : (i : ℕ) → i < n → (v : ℕ) → lineIn w (0 + i) .yes ≡ pdf v → 0 < times v (pdfsOf (linesFrom w 0 n))
+    in-yes i h v e = yes-counted w v 0 n i h e
+
+    in-no : (i : ℕ) → i < n → (v : ℕ) → lineIn w (0 + i) .no ≡ pdf v → 0 < times v (pdfsOf (linesFrom w 0 n))
+    in-no i h v e = no-counted w v 0 n i h e
+
+    module _ (i : ℕ) (h : i < n) (l : Line) (s : Says qs (lineIn w (0 + i)) l) where
+      yes-goes : (y : ℕ) → targetOf w n (leavesOf w n) (lineIn w (0 + i) .yes) ≡ At y → Declared ls (l .yes)
+      yes-goes y e = declared (l .yes) y (goes (l .yes) (ref-small (6 * (0 + i) + 1) (l .yes) (s .yes)) y (ap (targetOf w n (leavesOf w n)) (sym (s .yes)) ∙ e))
+
+      no-goes : (y : ℕ) → targetOf w n (leavesOf w n) (lineIn w (0 + i) .no) ≡ At y → Declared ls (l .no)
+      no-goes y e = declared (l .no) y (goes (l .no) (ref-small (6 * (0 + i) + 3) (l .no) (s .no)) y (ap (targetOf w n (leavesOf w n)) (sym (s .no)) ∙ e))
+
+      fault-node : stepIn w n (lineIn w (0 + i)) ≡ NoNode → Fault qs ls l 21
+      fault-node e = go (step-node (lineIn w (0 + i) .question) (targetOf w n (leavesOf w n) (lineIn w (0 + i) .yes)) (targetOf w n (leavesOf w n) (lineIn w (0 + i) .no)) e)
+        where
+          go : (targetOf w n (leavesOf w n) (lineIn w (0 + i) .yes) ≡ Nothing) ⊎ ((y : ℕ) × (targetOf w n (leavesOf w n) (lineIn w (0 + i) .yes) ≡ At y) × (targetOf w n (leavesOf w n) (lineIn w (0 + i) .no) ≡ Nothing)) → Fault qs ls l 21
+          go (inl p) = yes-undeclared (undeclared (l .yes) (λ v q. in-yes i h v (s .yes ∙ q)) (ap (targetOf w n (leavesOf w n)) (sym (s .yes)) ∙ p))
+          go (inr (y, p, q)) = no-undeclared (yes-goes y p) (undeclared (l .no) (λ v z. in-no i h v (s .no ∙ z)) (ap (targetOf w n (leavesOf w n)) (sym (s .no)) ∙ q))
+
+      fault-question : stepIn w n (lineIn w (0 + i)) ≡ NoQuestion → Fault qs ls l 22
+      fault-question e =
+          let u = step-unasked (lineIn w (0 + i) .question) (targetOf w n (leavesOf w n) (lineIn w (0 + i) .yes)) (targetOf w n (leavesOf w n) (lineIn w (0 + i) .no)) e in
+          not-asked (yes-goes (u .0) (u .2)) (no-goes (u .1) (u .3)) (unasked (l .question) (lineIn w (0 + i) .question) (s .question) (u .4))
+
+    refusal : NotSingle ls → (i c : ℕ) → i < n → ((l : Line) → Says qs (lineIn w (0 + i)) l → Fault qs ls l c) → ((b : ℕ) → b < i → GoesAt (0 + b)) → Refused qs (braces ls) c i
+    refusal h i c l f g =
+        let r = line-nth 0 n i ls l said in
+        L.Refused.lines h (r .1) (f (r .0) (r .2)) (λ m e d b s. no-fault (0 + m) e (nth-line 0 n m ls e said s .1) (g m b) d)
+
+    -- 21 at the first line with an id that no line bears
+    pub link-node : (k : ℕ) → linkOutcome w n ≡ NodeRef k → NotSingle ls → Refused qs (braces ls) 21 k
+    unfolding linkOutcome
+    link-node k e h =
+        let S = stops 0 0 n (λ d. let u : _≡_ {A = ℕ} 0 1 = cc in omega arith) in
+        go (S .0) (S .1) (S .3) (stepIn w n (lineIn w (0 + S .0))) refl (sym (S .2) ∙ e)
+      where
+        go : (i : ℕ) → i < n → ((b : ℕ) → b < i → GoesAt (0 + b)) → (a : Step) → stepIn w n (lineIn w (0 + i)) ≡ a → first (0 + i) a Done ≡ NodeRef k → Refused qs (braces ls) 21 k
+        go i l g NoNode p q =
+            let z : 0 + i ≡ k = cc in
+            let y : i ≡ k = omega arith in
+            subst (λ (j : ℕ). Refused qs (braces ls) 21 j) y (refusal h i 21 l (λ x s. fault-node i l x s p) g)
+        go i l g NoQuestion p q = let u : _≡_ {A = ℕ} 0 1 = cc in absurd (omega arith)
+        go i l g (Goes y z) p q = let u : _≡_ {A = ℕ} 0 1 = cc in absurd (omega arith)
+
+    -- 22 at the first line whose question no QS line has
+    pub link-question : (k : ℕ) → linkOutcome w n ≡ QuestionRef k → NotSingle ls → Refused qs (braces ls) 22 k
+    unfolding linkOutcome
+    link-question k e h =
+        let S = stops 0 0 n (λ d. let u : _≡_ {A = ℕ} 0 1 = cc in omega arith) in
+        go (S .0) (S .1) (S .3) (stepIn w n (lineIn w (0 + S .0))) refl (sym (S .2) ∙ e)
+      where
+        go : (i : ℕ) → i < n → ((b : ℕ) → b < i → GoesAt (0 + b)) → (a : Step) → stepIn w n (lineIn w (0 + i)) ≡ a → first (0 + i) a Done ≡ QuestionRef k → Refused qs (braces ls) 22 k
+        go i l g NoQuestion p q =
+            let z : 0 + i ≡ k = cc in
+            let y : i ≡ k = omega arith in
+            subst (λ (j : ℕ). Refused qs (braces ls) 22 j) y (refusal h i 22 l (λ x s. fault-question i l x s p) g)
+        go i l g NoNode p q = let u : _≡_ {A = ℕ} 0 1 = cc in absurd (omega arith)
+        go i l g (Goes y z) p q = let u : _≡_ {A = ℕ} 0 1 = cc in absurd (omega arith)
