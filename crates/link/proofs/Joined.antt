@@ -41,7 +41,7 @@ decide m n = go (decLt m n)
     go (yes l) = inl l
     go (no l) = inr (omega (arith, l))
 
-last-found : (p : ℕ → Bool) (n k : ℕ) → lastBelow p n ≡ At k → (k < n) × (p k ≡ true) × ((m : ℕ) → k < m → m < n → p m ≡ false)
+pub last-found : (p : ℕ → Bool) (n k : ℕ) → lastBelow p n ≡ At k → (k < n) × (p k ≡ true) × ((m : ℕ) → k < m → m < n → p m ≡ false)
 unfolding lastBelow
 last-found p zero k e = let u : _≡_ {A = ℕ} 0 1 = cc in absurd (omega arith)
 last-found p (suc n) k e = go (p n) refl e (last-found p n k)
@@ -55,7 +55,7 @@ last-found p (suc n) k e = go (p n) refl e (last-found p n k)
         pick m (inl l) a b = r e .2 m a l
         pick m (inr l) a b = let z : m ≡ n = omega arith in ap p z ∙ q
 
-last-missing : (p : ℕ → Bool) (n : ℕ) → lastBelow p n ≡ Nothing → (m : ℕ) → m < n → p m ≡ false
+pub last-missing : (p : ℕ → Bool) (n : ℕ) → lastBelow p n ≡ Nothing → (m : ℕ) → m < n → p m ≡ false
 unfolding lastBelow
 last-missing p zero e m h = absurd (omega arith)
 last-missing p (suc n) e m h = go (p n) refl e (λ q. last-missing p n q m)
@@ -150,7 +150,7 @@ pub record Says (qs : List Question) (w : WorkLine) (l : Line) : Type 0 where
   pub no : w .no ≡ l .no
   pub question : AskedAs qs (l .question) (w .question)
 
-nth-inside : {A : Type 0} {k : ℕ} {x : A} {xs : List A} → Nth xs k x → k < length xs
+pub nth-inside : {A : Type 0} {k : ℕ} {x : A} {xs : List A} → Nth xs k x → k < length xs
 nth-inside here = omega arith
 nth-inside (there s) = let h = nth-inside s in omega arith
 

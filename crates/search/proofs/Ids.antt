@@ -45,12 +45,12 @@ id-small work h x = go (ltb x (length work / 6))
 
 -- ---- names
 
-same-true : (s : List ℕ) → same s s ≡ true
+pub same-true : (s : List ℕ) → same s s ≡ true
 unfolding same
 same-true [] = refl
 same-true (b ∷ s) = rw (eq-eqb b b refl) (same-true s)
 
-true-same : (s t : List ℕ) → same s t ≡ true → s ≡ t
+pub true-same : (s t : List ℕ) → same s t ≡ true → s ≡ t
 unfolding same
 true-same [] [] e = refl
 true-same [] (c ∷ t) e = let u : _≡_ {A = ℕ} 0 1 = cc in absurd (omega arith)

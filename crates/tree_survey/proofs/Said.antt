@@ -13,8 +13,8 @@ use Rattle.written.specs.TreeText.{Parted, last as only, next as then, LinePart
 use Rattle.written.specs.Linking.{Nth, here, there, Single, alone, alike, NotSingle, pdfOf, pdfs}
 use Rattle.written.specs.Tables as tables
 use Rattle.laws.specs.Totals.{total, larger, largest, anyOf}
-use Rattle.laws.proofs.Wholes.{eq-eqZ, eqZ-true}
 use Rattle.tree_reference.specs.References.{indexOf, sameIndex, pdfCount}
+use Rattle.tree_reference.proofs.Same.{same-index, index-same}
 use Rattle.question_survey.specs.Counts.{patternCount}
 use Rattle.tree_line.specs.Lines.{lineOf}
 use Rattle.line_survey.specs.Counts.{linePdfs, recordsOf}
@@ -137,16 +137,6 @@ module _ {s : List ℕ} where
       survey-says s (with-questions p t) ∙ λ z. cond (c .below z) Negative (Counted (sym n z) (m z) (c .count z) (c .records z) (c .longest z))
 
 -- ---- the counts in the words of `written`
-
-same-index : (r : says.Ref) → sameIndex (indexOf r) (indexOf r) ≡ true
-same-index (says.node x) = eq-eqZ x x refl
-same-index (says.pdf n) = eq-eqZ (pos n) (pos n) refl
-
-index-same : (r q : says.Ref) → sameIndex (indexOf r) (indexOf q) ≡ true → r ≡ q
-index-same (says.node x) (says.node y) e = ap says.node (eqZ-true x y e)
-index-same (says.node x) (says.pdf n) e = let u : _≡_ {A = ℕ} 0 1 = cc in absurd (omega arith)
-index-same (says.pdf n) (says.node x) e = let u : _≡_ {A = ℕ} 0 1 = cc in absurd (omega arith)
-index-same (says.pdf m) (says.pdf n) e = let h = eqZ-true (pos m) (pos n) e in let k : m ≡ n = cc in ap says.pdf k
 
 -- a tree that is one reference needs one record
 pub single-records : {t : says.Body} {r : says.Ref} → Single t r → saidBodyRecords t ≡ 1
