@@ -1,4 +1,4 @@
--- What is wrong with a file: for each refusal of bracket, 1 to 10 and 12, when it is the answer and at which place. From 01's 'Numbers the loader gives'.
+-- What is wrong with a file: for each refusal of opening, 1 to 10 and 12, when it is the answer and at which place. From 01's 'Numbers the loader gives'.
 -- A fault of reading is: the longest good beginning (of items, lines, rows, groups), and what stands after it. Which of two things wrong at one place counts
 -- first (a repeated key before its missing colon, 2 before all else, 9 for missing fields before the groups, 12 last) is 01's order and is written as such. Assumes nothing.
 use mathlib.Core.Path.{_≡_}
@@ -136,7 +136,7 @@ pub data Wrong (T G : List Field) (file : List ℕ) (x : Span) : ℕ → ℕ →
       {xs : List Entry} {gs : List Group} {n p : ℕ} → Octets (part file (x .start) (x .len)) → Section T (upTo file x) (x .start) xs → ¬ Missing T xs
       → GroupsOf xs gs → NoGroups G (upTo file x) gs n p → Wrong T G file x n p
 
--- ---- bracket: the file limit; 1; then Global, Stream, Position in turn, each with its limits on counts (12) last
+-- ---- opening: the file limit; 1; then Global, Stream, Position in turn, each with its limits on counts (12) last
 
 -- [GLOBAL] has no groups: a bracketed key is an unknown one
 pub data NoGlobal (file : List ℕ) (x : Span) : ℕ → ℕ → Type 0 where

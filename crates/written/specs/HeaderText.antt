@@ -10,7 +10,7 @@ use Rattle.written.specs.Bytes.{newline, quote, comma, dash, colon, digi
 
 -- ---- strings, numbers, bools
 
--- A string bracket with a quote runs to the next quote, newlines included; otherwise to an open delimiter or the end.
+-- A string opening with a quote runs to the next quote, newlines included; otherwise to an open delimiter or the end.
 pub data Text (D s : List ℕ) (i : ℕ) (x : Span) (j : ℕ) : Type 0 where
   quoted :
       At s i quote → x .start ≡ i + 1 → Each (noneOf (quote ∷ [])) s (x .start) (x .start + x .len) → At s (x .start + x .len) quote
