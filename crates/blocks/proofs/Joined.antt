@@ -1,7 +1,7 @@
 -- `blockAt`, `blockRows` and `valuesAt` are `written`'s `Block`, both ways, over any bytes. Assumes nothing.
 use mathlib.Core.Path.{_≡_, refl, sym, ap, ap₂, _∙_, subst}
 use mathlib.Core.Bool.{Bool, true, false, cond, _&&_}
-use mathlib.Core.List.{List, [], _∷_, _++_, map}
+use mathlib.Core.List.{List, [], _∷_, _++_, map, append-nil, append-assoc}
 use Prim.Native.Nat.{ℕ, zero, suc, _+_, _-_, _*_, _/_, _%_, _^_, _≤_, _<_}
 use native.Mathlib.Omega.{arith}
 use native.Mathlib.Nat.{div-add-mod', mul-zero}
@@ -34,6 +34,10 @@ pub rows-flat : (w first : ℕ) (cs : List ℕ) → flatRows (rowsFrom w first c
 unfolding flatRows rowsFrom blockRows
 rows-flat w first [] = refl
 rows-flat w first (c ∷ cs) = ap (λ l. first ∷ c ∷ l) (rows-flat w (first + c * w) cs)
+
+nil : (l : List ℕ) → length l ≡ 0 → l ≡ []
+nil [] h = refl
+nil (x ∷ l) h = absurd (omega arith)
 
 pub length-words : (s : List ℕ) (i n : ℕ) → length (wordsAt s i n) ≡ n
 unfolding wordsAt
@@ -92,14 +96,6 @@ module _ (s : List ℕ) (small : Small s) where
   words-whole i n h =
       let z : drop (i + 4 * n) s ≡ [] = nil (drop (i + 4 * n) s) (omega (arith, length-drop (i + 4 * n) s)) in
       sym (append-nil (littleEndian (wordsAt s i n))) ∙ ap (λ l. littleEndian (wordsAt s i n) ++ l) (sym z) ∙ words-bytes i n (omega arith)
-    where
-      nil : (l : List ℕ) → length l ≡ 0 → l ≡ []
-      nil [] h = refl
-      nil (x ∷ l) h = absurd (omega arith)
-
-      append-nil : (l : List ℕ) → l ++ [] ≡ l
-      append-nil [] = refl
-      append-nil (x ∷ l) = ap (λ m. x ∷ m) (append-nil l)
 
 -- ---- the values
 
@@ -117,10 +113,6 @@ last-are s i (suc (suc o)) h = absurd (omega arith)
 cast : {f : ℕ → ℕ} {w n : ℕ} {x y u v : List ℕ} → x ≡ y → u ≡ v → Laid f w n x u → Laid f w n y v
 cast {f} {w} {n} {y = y} {u = u} e g l = subst (λ (v : List ℕ). Laid f w n y v) g (subst (λ (x : List ℕ). Laid f w n x u) e l)
 
-assoc : (x y z : List ℕ) → (x ++ y) ++ z ≡ x ++ (y ++ z)
-assoc [] y z = refl
-assoc (a ∷ x) y z = ap (λ l. a ∷ l) (assoc x y z)
-
 -- n entries of width w from j on, as written and as values
 pub entries-laid : (s : List ℕ) (j w n : ℕ) → Laid widened w n (wordsAt s j (n * w)) (valuesAt s j w n)
 unfolding wordsAt valuesAt entryAt
@@ -136,7 +128,7 @@ entries-laid s j w (suc n) =
     ap (wordsAt s j) (sym g) ∙ words-append s j h (h + (o + n * w))
     ∙ ap (λ l. wordsAt s j h ++ l) (words-append s (j + 4 * h) h (o + n * w) ∙ ap (λ l. wordsAt s (j + 4 * h) h ++ l) (words-append s (j + 4 * h + 4 * h) o (n * w) ∙ ap (λ (i : ℕ). wordsAt s (j + 4 * h + 4 * h) o ++ wordsAt s i (n * w)) e)) in
     let v : valuesAt s j w (suc n) ≡ paired (map widened (wordsAt s j h)) (map widened (wordsAt s (j + 4 * h) h)) ++ (map widened (wordsAt s (j + 4 * h + 4 * h) o) ++ valuesAt s (j + 4 * w) w n) =
-    assoc (pairsAt s j (j + 4 * h) h) (cond (eqb o 1) (valueAt s (j + 8 * h) ∷ []) []) (valuesAt s (j + 4 * w) w n)
+    append-assoc (pairsAt s j (j + 4 * h) h) (cond (eqb o 1) (valueAt s (j + 8 * h) ∷ []) []) (valuesAt s (j + 4 * w) w n)
     ∙ ap₂ (λ p q. p ++ (q ++ valuesAt s (j + 4 * w) w n)) (sym (pairs-are s j (j + 4 * h) h)) (sym (last-are s (j + 8 * h) o small) ∙ ap (λ (i : ℕ). map widened (wordsAt s i o)) (sym k)) in
     cast (sym u) (sym v)
     (entry (wordsAt s j h) (wordsAt s (j + 4 * h) h) (wordsAt s (j + 4 * h + 4 * h) o) (length-words s j h) (length-words s (j + 4 * h) h) (length-words s (j + 4 * h + 4 * h) o) (entries-laid s (j + 4 * w) w n))
@@ -149,10 +141,6 @@ laid-length {w = w} (entry {n = n} {written = x} ms vs d a b c l) =
     omega arith
 
 -- ---- a whole block
-
-nil : (l : List ℕ) → length l ≡ 0 → l ≡ []
-nil [] h = refl
-nil (x ∷ l) h = absurd (omega arith)
 
 length-bytes : (l : List ℕ) → length (littleEndian l) ≡ 4 * length l
 unfolding littleEndian

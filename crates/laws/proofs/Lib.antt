@@ -7,3 +7,4 @@ pub mod Signed
 pub mod Steps
 pub mod Wholes
 pub mod Parted
+pub mod Nth

@@ -2,10 +2,9 @@
 use mathlib.Core.Path.{_≡_, refl, sym, ap, ap₂, _∙_, subst}
 use mathlib.Core.Logic.{_⊎_, inl, inr}
 use mathlib.Core.Bool.{Bool, true, false, cond}
-use mathlib.Core.List.{List, [], _∷_, _++_, map, Forall₂, Forall₂·nil, Forall₂·cons}
+use mathlib.Core.List.{List, [], _∷_, _++_, map, flatten, Forall₂, Forall₂·nil, Forall₂·cons}
 use Prim.Native.Nat.{ℕ, zero, suc, _+_, _-_, _*_, _/_, _^_, _≤_, _<_}
 use native.Mathlib.Omega.{arith}
-use native.Mathlib.Decide.{decLt}
 use borrow.Author.Tests.{eqb-true, eq-eqb, lt-ltb, ltb-true, ltb-false}
 use lib.Dec.{ltb, eqb}
 use lib.IntN.{ℤ, pos, negsuc}
@@ -13,18 +12,23 @@ use lib.Signed.{mag}
 use lib.ListN.{length, getD}
 use Rattle.written.specs.Said.{Ref, node, pdf, Line, Body, braces, Question}
 use Rattle.written.specs.Linking as L
-use Rattle.written.specs.Linking.{Nth, here, there, Last, First, LastLine, LastQuestion, NotSingle, Row, branch, leaf, LineRow, row, times, Ascending, ToFirst, to-line, to-first, Records, Declared, borne, a-pdf, Asked, asked, Fault, yes-undeclared, no-undeclared, not-asked, Refused}
+use Rattle.written.specs.Linking.{Nth, here, there, Last, First, LastLine, LastQuestion, NotSingle, pdfOf, Row, branch, leaf, LineRow, row, times, Ascending, ToFirst, to-line, to-first, Records, Declared, borne, a-pdf, Asked, asked, Fault, yes-undeclared, no-undeclared, not-asked, Refused}
+use Rattle.laws.specs.Wholes.{eqZ}
+use Rattle.laws.proofs.Nth.{nth-inside, flatten-append}
+use Rattle.laws.proofs.Wholes.{eqZ-true}
 use Rattle.order.specs.Keys.{idKey, idAt, keyOf}
 use Rattle.sorting.specs.Sorted.{sorted}
+use Rattle.sorting.proofs.Order.{le-or-lt}
 use Rattle.sorting.proofs.Index as I
 use Rattle.sorting.proofs.Index.{Rises, rises-sorted, times-sorted}
-use Rattle.search.specs.Found.{lastBelow, firstFrom, sameZ}
+use Rattle.search.specs.Found.{lastBelow, firstFrom}
 use Rattle.search.specs.declared.Found.{Found}
 use Rattle.search.specs.declared.Found.the-variants.{At, Nothing}
 use Rattle.search.proofs.Ids.{same-id, id-small}
-use Rattle.link_refs.specs.Lines.{natOf, WorkLine, lineIn, linesFrom, refAt, refOf, pdfOf, pdfsOf}
+use Rattle.link_refs.specs.Lines.{natOf, WorkLine, lineIn, linesFrom, refAt, refOf, pdfsOf}
 use Rattle.link_refs.specs.Targets.{moved, targetOf}
 use Rattle.link_rows.specs.Rows.{leafRows}
+use Rattle.link.proofs.Whole.{length-lines}
 use Rattle.link.specs.Steps.{stepQuestion, stepNo, stepYes, stepOf, first, outcome, goalsOf, goals}
 use Rattle.link.specs.Linked.{leavesOf, stepIn, recordRows, linkOutcome, linkedRows}
 use Rattle.link.specs.declared.Link.{Link}
@@ -34,13 +38,6 @@ use Rattle.link.specs.declared.Step.the-variants.{Goes, NoNode, NoQuesti
 
 -- ---- what a search found
 
-decide : (m n : ℕ) → (m < n) ⊎ (n ≤ m)
-decide m n = go (decLt m n)
-  where
-    go : Dec (m < n) → (m < n) ⊎ (n ≤ m)
-    go (yes l) = inl l
-    go (no l) = inr (omega (arith, l))
-
 pub last-found : (p : ℕ → Bool) (n k : ℕ) → lastBelow p n ≡ At k → (k < n) × (p k ≡ true) × ((m : ℕ) → k < m → m < n → p m ≡ false)
 unfolding lastBelow
 last-found p zero k e = let u : _≡_ {A = ℕ} 0 1 = cc in absurd (omega arith)
@@ -49,11 +46,11 @@ last-found p (suc n) k e = go (p n) refl e (last-found p n k)
     go : (b : Bool) → p n ≡ b → cond b (At n) (lastBelow p n) ≡ At k → (lastBelow p n ≡ At k → (k < n) × (p k ≡ true) × ((m : ℕ) → k < m → m < n → p m ≡ false))
         → (k < suc n) × (p k ≡ true) × ((m : ℕ) → k < m → m < suc n → p m ≡ false)
     go true q e r = let z : n ≡ k = cc in (omega arith, ap p (sym z) ∙ q, λ m a b. absurd (omega arith))
-    go false q e r = (omega (arith, r e .0), r e .1, λ m a b. pick m (decide m n) a b)
+    go false q e r = (omega (arith, r e .0), r e .1, λ m a b. pick m (le-or-lt n m) a b)
       where
-        pick : (m : ℕ) → (m < n) ⊎ (n ≤ m) → k < m → m < suc n → p m ≡ false
-        pick m (inl l) a b = r e .2 m a l
-        pick m (inr l) a b = let z : m ≡ n = omega arith in ap p z ∙ q
+        pick : (m : ℕ) → (n ≤ m) ⊎ (m < n) → k < m → m < suc n → p m ≡ false
+        pick m (inr l) a b = r e .2 m a l
+        pick m (inl l) a b = let z : m ≡ n = omega arith in ap p z ∙ q
 
 pub last-missing : (p : ℕ → Bool) (n : ℕ) → lastBelow p n ≡ Nothing → (m : ℕ) → m < n → p m ≡ false
 unfolding lastBelow
@@ -62,11 +59,11 @@ last-missing p (suc n) e m h = go (p n) refl e (λ q. last-missing p n q m)
   where
     go : (b : Bool) → p n ≡ b → cond b (At n) (lastBelow p n) ≡ Nothing → (lastBelow p n ≡ Nothing → m < n → p m ≡ false) → p m ≡ false
     go true q e r = let u : _≡_ {A = ℕ} 0 1 = cc in absurd (omega arith)
-    go false q e r = pick (decide m n)
+    go false q e r = pick (le-or-lt n m)
       where
-        pick : (m < n) ⊎ (n ≤ m) → p m ≡ false
-        pick (inl l) = r e l
-        pick (inr l) = let z : m ≡ n = omega arith in ap p z ∙ q
+        pick : (n ≤ m) ⊎ (m < n) → p m ≡ false
+        pick (inr l) = r e l
+        pick (inl l) = let z : m ≡ n = omega arith in ap p z ∙ q
 
 -- ---- the first leaf of a number
 
@@ -97,23 +94,10 @@ first-missing v k (x ∷ l) e = go (eqb x v) refl e (first-missing v (suc k) l)
     go true q e i = let u : _≡_ {A = ℕ} 0 1 = cc in absurd (omega arith)
     go false q e i = omega (arith, i e)
 
--- ---- rows one behind the other
+-- ---- rows of leaves
 
-assoc : (x y z : List ℕ) → (x ++ y) ++ z ≡ x ++ (y ++ z)
-assoc [] y z = refl
-assoc (a ∷ x) y z = ap (λ l. a ∷ l) (assoc x y z)
-
-unfoldable pub flat : List Row → List ℕ
-flat [] = []
-flat (r ∷ rs) = r ++ flat rs
-
-flat-append : (a b : List Row) → flat (a ++ b) ≡ flat a ++ flat b
-unfolding flat
-flat-append [] b = refl
-flat-append (r ∷ a) b = ap (λ l. r ++ l) (flat-append a b) ∙ sym (assoc r (flat a) (flat b))
-
-flat-leaves : (l : List ℕ) → flat (map leaf l) ≡ leafRows l
-unfolding flat leafRows
+flat-leaves : (l : List ℕ) → flatten (map leaf l) ≡ leafRows l
+unfolding flatten leafRows
 flat-leaves [] = refl
 flat-leaves (x ∷ l) = ap (λ t. 1 ∷ x ∷ 0 ∷ 0 ∷ t) (flat-leaves l)
 
@@ -150,27 +134,14 @@ pub record Says (qs : List Question) (w : WorkLine) (l : Line) : Type 0 where
   pub no : w .no ≡ l .no
   pub question : AskedAs qs (l .question) (w .question)
 
-pub nth-inside : {A : Type 0} {k : ℕ} {x : A} {xs : List A} → Nth xs k x → k < length xs
-nth-inside here = omega arith
-nth-inside (there s) = let h = nth-inside s in omega arith
-
 as-many : {qs : List Question} {ws : List WorkLine} {ls : List Line} → Forall₂ (Says qs) ws ls → length ws ≡ length ls
 as-many Forall₂·nil = refl
 as-many (Forall₂·cons s f) = ap suc (as-many f)
 
-lines-many : (w : List ℤ) (j n : ℕ) → length (linesFrom w j n) ≡ n
-unfolding linesFrom
-lines-many w j zero = refl
-lines-many w j (suc n) = ap suc (lines-many w (suc j) n)
-
-pdf-is : (a b : Ref) → a ≡ b → pdfOf a ≡ L.pdfOf b
-pdf-is a (node x) e = ap pdfOf e
-pdf-is a (pdf v) e = ap pdfOf e
-
 pdfs-are : {qs : List Question} (ws : List WorkLine) (ls : List Line) → Forall₂ (Says qs) ws ls → pdfsOf ws ≡ L.pdfs ls
 unfolding pdfsOf L.pdfs
 pdfs-are [] [] Forall₂·nil = refl
-pdfs-are (a ∷ ws) (l ∷ ls) (Forall₂·cons s f) = ap₂ (λ x y. x ++ y) (pdf-is (a .yes) (l .yes) (s .yes)) (ap₂ (λ x y. x ++ y) (pdf-is (a .no) (l .no) (s .no)) (pdfs-are ws ls f))
+pdfs-are (a ∷ ws) (l ∷ ls) (Forall₂·cons s f) = ap₂ (λ x y. x ++ y) (ap pdfOf (s .yes)) (ap₂ (λ x y. x ++ y) (ap pdfOf (s .no)) (pdfs-are ws ls f))
 
 -- a PDF of a line is counted
 
@@ -233,27 +204,17 @@ module _ (qs : List Question) (w : List ℤ) where
     unfolding idAt
     id-is e h = rw (lt-ltb e (length w / 6) (omega arith))
 
-    same-zs : (a b : ℤ) → sameZ a b ≡ true → a ≡ b
-    same-zs (pos a) (pos b) q = ap pos (eqb-true a b q)
-    same-zs (negsuc a) (negsuc b) q = ap negsuc (eqb-true a b q)
-    same-zs (pos a) (negsuc b) q = let u : _≡_ {A = ℕ} 0 1 = cc in absurd (omega arith)
-    same-zs (negsuc a) (pos b) q = let u : _≡_ {A = ℕ} 0 1 = cc in absurd (omega arith)
-
-    same-refl : (a : ℤ) → sameZ a a ≡ true
-    same-refl (pos a) = eq-eqb a a refl
-    same-refl (negsuc a) = eq-eqb a a refl
-
     line-is : (x : ℤ) → mag x < 2 ^ 63 → (k : ℕ) → lastBelow (λ e. eqb (idKey (idAt w e)) (idKey x)) n ≡ At k → LastLine ls x k
     line-is x sx k e =
         let f = last-found (λ e. eqb (idKey (idAt w e)) (idKey x)) n k e in
         let r = line-nth 0 n k ls (f .0) said in
         let z : 0 + k ≡ k = omega arith in
         let here-is : getD w (6 * k) (pos 0) ≡ r .0 .id = ap (λ (i : ℕ). getD w (6 * i) (pos 0)) (sym z) ∙ r .2 .id in
-        let true-one : sameZ (idAt w k) x ≡ true = same-id (idAt w k) x (id-small w small k) sx ∙ f .1 in
+        let true-one : eqZ (idAt w k) x ≡ true = same-id (idAt w k) x (id-small w small k) sx ∙ f .1 in
         record {
           at = r .0;
           stands = r .1;
-          true-of = sym here-is ∙ sym (id-is k (f .0)) ∙ same-zs (idAt w k) x true-one;
+          true-of = sym here-is ∙ sym (id-is k (f .0)) ∙ eqZ-true (idAt w k) x true-one;
           after = λ m l h s q.
               let b = nth-line 0 n m ls l said s in
               let y : 0 + m ≡ m = omega arith in
@@ -281,7 +242,7 @@ module _ (qs : List Question) (w : List ℤ) where
         go (At r) q e =
             let f = first-found v 0 (leavesOf w n) r q in
             let z : n + r ≡ k = cc in
-            let c : length ls + f .0 ≡ k = omega (arith, f .1, as-many said, lines-many w 0 n) in
+            let c : length ls + f .0 ≡ k = omega (arith, f .1, as-many said, length-lines w 0 n) in
             subst (λ (i : ℕ). ToFirst ls (leavesOf w n) (pdf v) i) c (to-first (f .2))
         go Nothing q e = let u : _≡_ {A = ℕ} 0 1 = cc in absurd (omega arith)
 
@@ -316,17 +277,17 @@ module _ (qs : List Question) (w : List ℤ) where
         (goes (l .no) (ref-small (6 * j + 3) (l .no) (s .no)) m (ap (targetOf w n (leavesOf w n)) (sym (s .no)) ∙ g .1))
 
     abbrev Fronts : ℕ → ℕ → List Line → Type 0
-    Fronts j m lt = (front : List Row) × Forall₂ (LineRow qs (ToFirst ls (leavesOf w n))) lt front × (flat front ≡ recordRows (linesFrom w j m) (goals (stepIn w n) (linesFrom w j m)))
+    Fronts j m lt = (front : List Row) × Forall₂ (LineRow qs (ToFirst ls (leavesOf w n))) lt front × (flatten front ≡ recordRows (linesFrom w j m) (goals (stepIn w n) (linesFrom w j m)))
 
     rows-are : (k j m : ℕ) (lt : List Line) → Forall₂ (Says qs) (linesFrom w j m) lt → outcome (stepIn w n) k (linesFrom w j m) ≡ Done → Fronts j m lt
-    unfolding linesFrom outcome goals recordRows flat
+    unfolding linesFrom outcome goals recordRows flatten
     rows-are k j zero [] Forall₂·nil e = ([], Forall₂·nil, refl)
     rows-are k j (suc m) (l ∷ lt) (Forall₂·cons s f) e = go (stepIn w n (lineIn w j)) refl e (rows-are (suc k) (suc j) m lt f)
       where
         go : (a : Step) → stepIn w n (lineIn w j) ≡ a → first k a (outcome (stepIn w n) (suc k) (linesFrom w (suc j) m)) ≡ Done
             → (outcome (stepIn w n) (suc k) (linesFrom w (suc j) m) ≡ Done → Fronts (suc j) m lt)
             → (front : List Row) × Forall₂ (LineRow qs (ToFirst ls (leavesOf w n))) (l ∷ lt) front
-            × (flat front ≡ recordRows (lineIn w j ∷ linesFrom w (suc j) m) (goalsOf a (goals (stepIn w n) (linesFrom w (suc j) m))))
+            × (flatten front ≡ recordRows (lineIn w j ∷ linesFrom w (suc j) m) (goalsOf a (goals (stepIn w n) (linesFrom w (suc j) m))))
         go (Goes y z) p e r =
             let R = r e in
             (branch (lineIn w j .question - 1) y z ∷ R .0, Forall₂·cons (row-is j l s p) (R .1), ap (λ t. 0 ∷ (lineIn w j .question - 1) ∷ y ∷ z ∷ t) (R .2))
@@ -334,14 +295,14 @@ module _ (qs : List Question) (w : List ℤ) where
         go NoQuestion p e r = let u : _≡_ {A = ℕ} 0 1 = cc in absurd (omega arith)
 
     -- the records of the tree
-    pub link-done : linkOutcome w n ≡ Done → NotSingle ls → (rows : List Row) × Records qs (braces ls) rows × (flat rows ≡ linkedRows w n)
+    pub link-done : linkOutcome w n ≡ Done → NotSingle ls → (rows : List Row) × Records qs (braces ls) rows × (flatten rows ≡ linkedRows w n)
     unfolding linkOutcome linkedRows leavesOf
     link-done e h =
         let R = rows-are 0 0 n ls said e in (
           R .0 ++ map leaf (leavesOf w n),
           L.Records.lines (leavesOf w n) h (leaves-ascend (pdfsOf (linesFrom w 0 n)))
               (λ v. times-sorted (keyOf (λ x. 0)) v (pdfsOf (linesFrom w 0 n)) ∙ ap (times v) (pdfs-are (linesFrom w 0 n) ls said)) (R .1) refl,
-          flat-append (R .0) (map leaf (leavesOf w n)) ∙ ap₂ (λ a b. a ++ b) (R .2) (flat-leaves (leavesOf w n)),
+          flatten-append (R .0) (map leaf (leavesOf w n)) ∙ ap₂ (λ a b. a ++ b) (R .2) (flat-leaves (leavesOf w n)),
         )
 
     -- ---- where linking is refused

@@ -16,7 +16,8 @@ use Rattle.written.specs.Said.{Ref, node, pdf}
 use Rattle.laws.proofs.Tables.{sets-append}
 use Rattle.order.specs.Keys.{idKey, idAt}
 use Rattle.search.specs.Found.{countFrom}
-use Rattle.link_refs.specs.Lines.{natOf, refOf, refAt, WorkLine, lineIn, linesFrom, pdfOf, pdfsOf}
+use Rattle.written.specs.Linking.{pdfOf}
+use Rattle.link_refs.specs.Lines.{natOf, refOf, refAt, WorkLine, lineIn, linesFrom, pdfsOf}
 use Rattle.link_refs.specs.Targets.{orderFrom}
 
 module _ (k v : ℤ) where

@@ -7,6 +7,7 @@ use lib.Dec.{eqb}
 use lib.IntN.{ℤ, pos, negsuc}
 use lib.ListN.{getD}
 use Rattle.written.specs.Said.{Ref, node, pdf}
+use Rattle.written.specs.Linking.{pdfOf}
 
 -- a number that is not negative; 0 for one that is
 abbrev pub natOf : ℤ → ℕ
@@ -37,10 +38,6 @@ linesFrom w k zero = []
 linesFrom w k (suc n) = lineIn w k ∷ linesFrom w (suc k) n
 
 -- every PDF reference of the lines
-abbrev pub pdfOf : Ref → List ℕ
-pdfOf (node x) = []
-pdfOf (pdf n) = n ∷ []
-
 unfoldable pub pdfsOf : List WorkLine → List ℕ
 pdfsOf [] = []
 pdfsOf (l ∷ ls) = pdfOf (l .yes) ++ (pdfOf (l .no) ++ pdfsOf ls)

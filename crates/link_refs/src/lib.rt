@@ -14,7 +14,8 @@ ghost use lib.IntN.{pos};
 ghost use Rattle.order.specs.Keys.{idKey, idAt};
 ghost use Rattle.search.specs.Index.{Index, Ascends};
 ghost use Rattle.search.specs.Found.{countFrom, lastBelow};
-ghost use Rattle.link_refs.specs.Lines.{natOf, refAt, pdfOf, pdfsOf, linesFrom};
+ghost use Rattle.written.specs.Linking.{pdfOf};
+ghost use Rattle.link_refs.specs.Lines.{natOf, refAt, pdfsOf, linesFrom};
 ghost use Rattle.link_refs.specs.Targets.{targetOf, orderFrom, Ready, Rows};
 
 // A number that is not negative; 0 for one that is.

@@ -14,7 +14,8 @@ use Rattle.tree_reference.specs.declared.TreeIndex.{TreeIndex}
 use Rattle.tree_reference.specs.declared.TreeIndex.the-variants.{Node, Pdf}
 use Rattle.tree_line.specs.declared.Line.{Line}
 use Rattle.line_survey.specs.Counts.{linePdfs}
-use Rattle.link_refs.specs.Lines.{WorkLine, natOf, refOf, refAt, lineIn, linesFrom, pdfOf, pdfsOf}
+use Rattle.written.specs.Linking.{pdfOf}
+use Rattle.link_refs.specs.Lines.{WorkLine, natOf, refOf, refAt, lineIn, linesFrom, pdfsOf}
 use Rattle.model_lines.specs.Words.{kindOf, numberOf, askedAt, wordsOf, lineWords}
 
 -- a reference of the text as linking has it

@@ -10,6 +10,7 @@ use lib.Seq.{sets, length-sets, getD-append-add}
 use Rattle.written.specs.Bytes.{Span}
 use Rattle.written.specs.Said.{QuestionPlace}
 use Rattle.written.specs.Linking.{Nth, here, there}
+use Rattle.laws.proofs.Nth.{nth-inside}
 use Rattle.laws.specs.Totals.{total}
 use Rattle.laws.proofs.Tables.{sets-at}
 use Rattle.order.specs.Keys.{partOr, nameAt}
@@ -21,10 +22,6 @@ use Rattle.model_questions.proofs.Rows.{questions-length, patterns-leng
 -- how many patterns the first e questions have
 abbrev pub patternsBefore : List QuestionPlace → ℕ → ℕ
 patternsBefore qs e = total patternCount (take e qs)
-
-nth-in : {A : Type 0} {xs : List A} {k : ℕ} {x : A} → Nth xs k x → k < length xs
-nth-in here = omega arith
-nth-in (there r) = omega (arith, nth-in r)
 
 -- ---- question rows
 
@@ -64,7 +61,7 @@ module _ (t : List ℕ) (qs : List QuestionPlace) (h : 4 * length qs ≤ length 
     pub question-row-is : QuestionRowIs (sets t 0 (questionWords 0 qs)) e q (patternsBefore qs e)
     question-row-is =
         let w : QuestionRowIs (questionWords 0 qs) e q (0 + patternsBefore qs e) = in-words 0 r in
-        let l : e < length qs = nth-in r in
+        let l : e < length qs = nth-inside r in
         let z : 0 + patternsBefore qs e ≡ patternsBefore qs e = omega arith in
         record {
           starts = word-read (4 * e) (omega arith) ∙ w .starts;
@@ -77,7 +74,7 @@ module _ (t : List ℕ) (qs : List QuestionPlace) (h : 4 * length qs ≤ length 
     pub question-name-is : (s : List ℕ) → nameAt s (sets t 0 (questionWords 0 qs)) e ≡ partOr s (q .name .start) (q .name .len)
     unfolding nameAt
     question-name-is s =
-        let l : e < length qs = nth-in r in
+        let l : e < length qs = nth-inside r in
         let n : length asked ≡ length t = length-sets t 0 (questionWords 0 qs) in
         let i : e < length asked / 4 = omega arith in
         ap (λ (b : Bool). cond b (partOr s (getD asked (4 * e) 0) (getD asked (4 * e + 1) 0)) []) (lt-ltb e (length asked / 4) i)
@@ -119,7 +116,7 @@ in-patterns {qs = p ∷ qs} {e = suc e} {m = m} (there a) r =
 
 pattern-in : {qs : List QuestionPlace} {e m : ℕ} {q : QuestionPlace} {w : Span} → Nth qs e q → Nth (q .patterns) m w → patternsBefore qs e + m < total patternCount qs
 unfolding total
-pattern-in here r = omega (arith, nth-in r)
+pattern-in here r = omega (arith, nth-inside r)
 pattern-in (there a) r = omega (arith, pattern-in a r)
 
 module _ (t : List ℕ) (qs : List QuestionPlace) (h : 2 * total patternCount qs ≤ length t) where

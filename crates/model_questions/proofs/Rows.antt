@@ -1,6 +1,6 @@
 -- The words that are stored are the rows of `written`, one after the other. Assumes nothing.
 use mathlib.Core.Path.{_≡_, refl, sym, ap, ap₂, _∙_}
-use mathlib.Core.List.{List, [], _∷_, _++_, map, append-assoc}
+use mathlib.Core.List.{List, [], _∷_, _++_, map, flatten}
 use Prim.Native.Nat.{ℕ, _+_, _*_}
 use native.Mathlib.Omega.{arith}
 use lib.ListN.{length, length-append}
@@ -9,31 +9,22 @@ use Rattle.written.specs.Said.{QuestionPlace}
 use Rattle.written.specs.Linking.{Row}
 use Rattle.written.specs.Tables.{patternRow, patternRows, questionRows}
 use Rattle.laws.specs.Totals.{total}
+use Rattle.laws.proofs.Nth.{flatten-append}
 use Rattle.question_survey.specs.Counts.{patternCount}
 use Rattle.model_questions.specs.Words.{spanWords, patternWords, questionWords}
 use Rattle.model_questions.proofs.Patterns.{span-length}
 
--- the words of rows, one after the other
-unfoldable pub joined : List Row → List ℕ
-joined [] = []
-joined (r ∷ rs) = r ++ joined rs
-
-joined-append : (rs rs′ : List Row) → joined (rs ++ rs′) ≡ joined rs ++ joined rs′
-unfolding joined
-joined-append [] rs′ = refl
-joined-append (r ∷ rs) rs′ = ap (r ++_) (joined-append rs rs′) ∙ sym (append-assoc r (joined rs) (joined rs′))
-
-spans-joined : (ws : List Span) → spanWords ws ≡ joined (map patternRow ws)
-unfolding spanWords joined
+spans-joined : (ws : List Span) → spanWords ws ≡ flatten (map patternRow ws)
+unfolding spanWords flatten
 spans-joined [] = refl
 spans-joined (w ∷ ws) = ap (λ (l : List ℕ). w .start ∷ w .len ∷ l) (spans-joined ws)
 
 -- ---- pattern rows
 
-pub patterns-joined : (qs : List QuestionPlace) → patternWords qs ≡ joined (patternRows qs)
-unfolding patternWords patternRows joined
+pub patterns-joined : (qs : List QuestionPlace) → patternWords qs ≡ flatten (patternRows qs)
+unfolding patternWords patternRows flatten
 patterns-joined [] = refl
-patterns-joined (q ∷ qs) = ap₂ _++_ (spans-joined (q .patterns)) (patterns-joined qs) ∙ sym (joined-append (map patternRow (q .patterns)) (patternRows qs))
+patterns-joined (q ∷ qs) = ap₂ _++_ (spans-joined (q .patterns)) (patterns-joined qs) ∙ sym (flatten-append (map patternRow (q .patterns)) (patternRows qs))
 
 -- two words a pattern
 pub patterns-length : (qs : List QuestionPlace) → length (patternWords qs) ≡ 2 * total patternCount qs
@@ -43,8 +34,8 @@ patterns-length (q ∷ qs) = omega (arith, length-append (spanWords (q .patterns
 
 -- ---- question rows
 
-pub questions-joined : (k : ℕ) (qs : List QuestionPlace) → questionWords k qs ≡ joined (questionRows k qs)
-unfolding questionWords questionRows joined
+pub questions-joined : (k : ℕ) (qs : List QuestionPlace) → questionWords k qs ≡ flatten (questionRows k qs)
+unfolding questionWords questionRows flatten
 questions-joined k [] = refl
 questions-joined k (q ∷ qs) =
     ap (λ (l : List ℕ). q .name .start ∷ q .name .len ∷ k ∷ length (q .patterns) ∷ l) (questions-joined (k + length (q .patterns)) qs)

@@ -12,6 +12,7 @@ use Rattle.written.specs.Said as said
 use Rattle.written.specs.Said.{Ref, node, pdf, Question}
 use Rattle.written.specs.Linking as L
 use Rattle.written.specs.Linking.{Nth, here, there, Last, LastQuestion, Single, alone, alike, NotSingle, Row, leaf, Records, Refused, Asked, asked}
+use Rattle.laws.proofs.Nth.{nth-inside, nth-of}
 use Rattle.order.specs.Keys.{nameAt, partOr}
 use Rattle.search.specs.Found.{lastBelow}
 use Rattle.search.specs.declared.Found.{Found}
@@ -22,7 +23,7 @@ use Rattle.tree_reference.proofs.Same.{same-index, index-same}
 use Rattle.tree_line.specs.Lines.{lineOf}
 use Rattle.tree_line.specs.declared.Line.{Line}
 use Rattle.link_refs.specs.Lines.{natOf, WorkLine, linesFrom}
-use Rattle.link.proofs.Joined.{AskedAs, some, none, Says, last-found, last-missing, nth-inside}
+use Rattle.link.proofs.Joined.{AskedAs, some, none, Says, last-found, last-missing}
 use Rattle.model_lines.specs.Words.{askedOf, askedAt, lineWords}
 use Rattle.model_lines.proofs.Decoded.{refIndex, workLine, words-length, decode}
 
@@ -31,11 +32,6 @@ use Rattle.model_lines.proofs.Decoded.{refIndex, workLine, words-length, decode
 ref-is : (r : Ref) → refIndex (indexOf r) ≡ r
 ref-is (node x) = refl
 ref-is (pdf n) = refl
-
-nth-of : {A : Type 0} (xs : List A) (k : ℕ) → k < length xs → (x : A) × Nth xs k x
-nth-of [] k h = absurd (omega arith)
-nth-of (x ∷ xs) zero h = (x, here)
-nth-of (x ∷ xs) (suc k) h = let r = nth-of xs k (omega arith) in (r .0, there (r .1))
 
 module _ (s questions : List ℕ) (qs : List Question) (named : (e : ℕ) (q : Question) → Nth qs e q → nameAt s questions e ≡ q .name) where
   -- the question of a line is the last of its name

@@ -1,7 +1,7 @@
 -- Which rows stand in a table, and which are the records of a tree. Assumes nothing.
 use mathlib.Core.Path.{_≡_, refl, sym, ap, ap₂, _∙_, subst}
 use mathlib.Core.Bool.{Bool, true, false, _&&_}
-use mathlib.Core.List.{List, [], _∷_, _++_}
+use mathlib.Core.List.{List, [], _∷_, _++_, flatten}
 use Prim.Native.Nat.{ℕ, zero, suc, _+_, _-_, _*_, _≤_, _<_, min}
 use native.Mathlib.Nat.{zero-add}
 use native.Mathlib.Decide.{decLt}
@@ -12,7 +12,7 @@ use lib.ListN.{length, getD, take, drop, length-take, length-drop, length-append
 use lib.Seq.{length-take-le, getD-take, getD-drop, getD-append-add}
 use Rattle.written.specs.Linking.{Nth, here, there, Row}
 use Rattle.written.proofs.Walk.{no-row, nth-once}
-use Rattle.rows.specs.Rows.{treeRows, treeThere, recordRows, recordThere, treeRow, recordRow, rowsFrom, treeTable, recordTable, flat, Standing}
+use Rattle.rows.specs.Rows.{treeRows, treeThere, recordRows, recordThere, treeRow, recordRow, rowsFrom, treeTable, recordTable, Standing}
 
 -- ---- what stands in a part of a list
 
@@ -176,23 +176,23 @@ Fours rows = (k : ℕ) (r : Row) → Nth rows k r → length r ≡ 4
 behind-first : {r : Row} {rows : List Row} → Fours (r ∷ rows) → Fours rows
 behind-first f k x h = f (suc k) x (there h)
 
-pub length-flat : (rows : List Row) → Fours rows → length (flat rows) ≡ 4 * length rows
-unfolding flat
+pub length-flat : (rows : List Row) → Fours rows → length (flatten rows) ≡ 4 * length rows
+unfolding flatten
 length-flat [] f = refl
-length-flat (r ∷ rows) f = omega (arith, length-append r (flat rows), f 0 r here, length-flat rows (behind-first f))
+length-flat (r ∷ rows) f = omega (arith, length-append r (flatten rows), f 0 r here, length-flat rows (behind-first f))
 
-flat-at : (rows : List Row) → Fours rows → {k : ℕ} {r : Row} (j : ℕ) → Nth rows k r → j < 4 → getD (flat rows) (4 * k + j) 0 ≡ getD r j 0
-unfolding flat
+flat-at : (rows : List Row) → Fours rows → {k : ℕ} {r : Row} (j : ℕ) → Nth rows k r → j < 4 → getD (flatten rows) (4 * k + j) 0 ≡ getD r j 0
+unfolding flatten
 flat-at (r ∷ rows) f j here h =
     let e : 4 * 0 + j ≡ j = omega arith in
     let l : j < length r = omega (arith, f 0 r here) in
-    ap (λ (n : ℕ). getD (r ++ flat rows) n 0) e ∙ List·getD-append r (flat rows) 0 j l
+    ap (λ (n : ℕ). getD (r ++ flatten rows) n 0) e ∙ List·getD-append r (flatten rows) 0 j l
 flat-at (x ∷ rows) f {k = suc k} j (there n) h =
     let e : 4 * suc k + j ≡ length x + (4 * k + j) = omega (arith, f 0 x here) in
-    ap (λ (n : ℕ). getD (x ++ flat rows) n 0) e ∙ getD-append-add x (flat rows) (4 * k + j) 0 ∙ flat-at rows (behind-first f) j n h
+    ap (λ (n : ℕ). getD (x ++ flatten rows) n 0) e ∙ getD-append-add x (flatten rows) (4 * k + j) 0 ∙ flat-at rows (behind-first f) j n h
 
 -- rows that stand in a flat table from its row `first` on
-pub flat-stands : (R : List ℕ) (first : ℕ) (rows : List Row) → Fours rows → take (4 * length rows) (drop (4 * first) R) ≡ flat rows → Standing R first rows
+pub flat-stands : (R : List ℕ) (first : ℕ) (rows : List Row) → Fours rows → take (4 * length rows) (drop (4 * first) R) ≡ flatten rows → Standing R first rows
 flat-stands R first rows f e = record { each = λ k r h. (lt-ltb (first + k) (recordRows R) (inside k r h), row k r h) }
   where
     room : min (4 * length rows) (length R - 4 * first) ≡ 4 * length rows

@@ -2,7 +2,7 @@
 -- width rows; a rest is never read. Assumes nothing.
 use mathlib.Core.Path.{_≡_}
 use mathlib.Core.Bool.{Bool, true, _&&_}
-use mathlib.Core.List.{List, [], _∷_, _++_}
+use mathlib.Core.List.{List, [], _∷_}
 use Prim.Native.Nat.{ℕ, zero, suc, _+_, _-_, _*_, _/_, min}
 use lib.Dec.{ltb}
 use lib.ListN.{length, getD}
@@ -96,11 +96,6 @@ treeTable T = rowsFrom (treeRow T) 0 (treeRows T)
 
 unfoldable pub recordTable : List ℕ → List Row
 recordTable R = rowsFrom (recordRow R) 0 (recordRows R)
-
--- rows one behind the other
-unfoldable pub flat : List Row → List ℕ
-flat [] = []
-flat (r ∷ rows) = r ++ flat rows
 
 -- records stand in a table, from its row `first` on
 pub record Standing (R : List ℕ) (first : ℕ) (rows : List Row) : Type 0 where

@@ -13,14 +13,15 @@ use lib.Seq.{getD-take, getD-drop}
 use lib.Signed.{mag}
 use mir.Syntax.{w64}
 use mir.Val.{hbits}
+use Rattle.laws.specs.Wholes.{eqZ}
 use Rattle.written.specs.Bytes.{same, part}
 use Rattle.order.specs.Keys.{idKey, nameKey, idAt, nameAt, partOr}
 use Rattle.order.proofs.Names.{Small, name-one}
-use Rattle.search.specs.Found.{sameZ}
 
 -- ---- ids
 
-pub same-id : (a b : ℤ) → mag a < 2 ^ 63 → mag b < 2 ^ 63 → sameZ a b ≡ eqb (idKey a) (idKey b)
+pub same-id : (a b : ℤ) → mag a < 2 ^ 63 → mag b < 2 ^ 63 → eqZ a b ≡ eqb (idKey a) (idKey b)
+unfolding eqZ
 same-id (pos a) (pos b) h k = go (eqb a b) refl
   where
     go : (x : Bool) → eqb a b ≡ x → eqb a b ≡ eqb (9223372036854775808 + a) (9223372036854775808 + b)

@@ -3,8 +3,6 @@ use mathlib.Core.Bool.{Bool, cond}
 use mathlib.Core.List.{List, [], _∷_}
 use Prim.Native.Nat.{ℕ, zero, suc}
 use lib.Dec.{eqb}
-use lib.IntN.{ℤ, pos, negsuc}
-use mathlib.Core.Bool.{false}
 use Rattle.search.specs.declared.Found.{Found}
 use Rattle.search.specs.declared.Found.the-variants.{At, Nothing}
 
@@ -16,13 +14,6 @@ lastBelow p (suc n) = cond (p n) (At n) (lastBelow p n)
 unfoldable pub firstFrom : (ℕ → Bool) → ℕ → List ℕ → Found
 firstFrom p k [] = Nothing
 firstFrom p k (x ∷ l) = cond (p x) (At k) (firstFrom p (suc k) l)
-
--- two signed numbers are the same
-abbrev pub sameZ : ℤ → ℤ → Bool
-sameZ (pos a) (pos b) = eqb a b
-sameZ (pos a) (negsuc b) = false
-sameZ (negsuc a) (pos b) = false
-sameZ (negsuc a) (negsuc b) = eqb a b
 
 -- 0, 1, .., n - 1, from k on
 unfoldable pub countFrom : ℕ → ℕ → List ℕ

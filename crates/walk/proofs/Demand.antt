@@ -2,7 +2,7 @@
 -- and as many questions, or the limit met in both, or 24 for empty braces. And what the walk's contract fixes. Assumes nothing.
 use mathlib.Core.Path.{_≡_, refl, sym, ap, _∙_, subst}
 use mathlib.Core.Bool.{Bool}
-use mathlib.Core.List.{List}
+use mathlib.Core.List.{List, flatten}
 use Prim.Native.Nat.{ℕ}
 use lib.ListN.{take, drop}
 use Rattle.written.specs.Said.{Body, Tree, Question}
@@ -11,7 +11,7 @@ use Rattle.written.specs.Tables.{TreeRows}
 use Rattle.written.specs.Walks.{Ending, limit, nothing, Written, Outcome, refused, Loaded, LoadedTree, asLoaded, Answers}
 use Rattle.written.proofs.Walk.{demand₃, written-once}
 use Rattle.written.proofs.Model.{model-walks}
-use Rattle.rows.specs.Rows.{treeFirst, treeRecords, treeTable, recordTable, flat, HasTree}
+use Rattle.rows.specs.Rows.{treeFirst, treeRecords, treeTable, recordTable, HasTree}
 use Rattle.rows.proofs.Stand.{tree-there, standing-cut}
 use Rattle.rows.proofs.Fours.{fours-model, record-table, tree-table}
 use Rattle.walk.specs.declared.Walked.{Walked}
@@ -67,7 +67,7 @@ module _ {qs : List Question} {answer : ℕ → Bool} {bytes : List ℕ} (given 
 
   -- and of a model whose rows stand in the tables one behind the other
   pub flat-walk : {ts : List Tree} {trees records : List Row} {i : ℕ} {t : Tree} → TreeRows qs 0 ts trees records → Nth ts i t → (m : ℕ) {r : Walked}
-      → r ≡ walkOf (flat trees) (flat records) i bytes m → (e : Ending) × Written qs answer (t .body) m e × (answerOf r ≡ endingAnswer e)
+      → r ≡ walkOf (flatten trees) (flatten records) i bytes m → (e : Ending) × Written qs answer (t .body) m e × (answerOf r ≡ endingAnswer e)
   flat-walk {ts} {trees} {records} rs h m q =
       let f = fours-model rs in
-      model-walk (flat trees) (flat records) (subst (λ (x : List Row). TreeRows qs 0 ts x (recordTable (flat records))) (sym (tree-table trees (f .0))) (subst (TreeRows qs 0 ts trees) (sym (record-table records (f .1))) rs)) h m q
+      model-walk (flatten trees) (flatten records) (subst (λ (x : List Row). TreeRows qs 0 ts x (recordTable (flatten records))) (sym (tree-table trees (f .0))) (subst (TreeRows qs 0 ts trees) (sym (record-table records (f .1))) rs)) h m q

@@ -2,7 +2,7 @@
 -- 01's tree. Assumes nothing.
 use mathlib.Core.Path.{_≡_, refl, sym, ap, _∙_}
 use mathlib.Core.Bool.{false}
-use mathlib.Core.List.{List, [], _∷_}
+use mathlib.Core.List.{List, [], _∷_, flatten}
 use Prim.Native.Nat.{ℕ}
 use Rattle.written.specs.Said.{Question}
 use Rattle.written.specs.Linking.{here, there, Row}
@@ -10,7 +10,7 @@ use Rattle.written.specs.Walks.{Ending, Answers}
 use Rattle.written.proofs.Walk.{no-row}
 use Rattle.written.proofs.Link.{records-linked}
 use Rattle.written.proofs.Examples.{records₁, walk₁, walk₁-limit}
-use Rattle.rows.specs.Rows.{flat, HasTree}
+use Rattle.rows.specs.Rows.{HasTree}
 use Rattle.rows.proofs.Stand.{flat-stands}
 use Rattle.rows.proofs.Fours.{fours-records}
 use Rattle.error.specs.declared.Refusal.the-variants.{WalkTable, Steps}
@@ -76,7 +76,7 @@ abbrev rows₁ : List Row
 rows₁ = (0 ∷ 0 ∷ 3 ∷ 1 ∷ []) ∷ (0 ∷ 1 ∷ 3 ∷ 2 ∷ []) ∷ (1 ∷ 1 ∷ 0 ∷ 0 ∷ []) ∷ (1 ∷ 3 ∷ 0 ∷ 0 ∷ []) ∷ (1 ∷ 3 ∷ 0 ∷ 0 ∷ []) ∷ []
 
 stands : HasTree trees records 0 rows₁
-unfolding flat
+unfolding flatten
 stands = record { there = refl; count = refl; stands = flat-stands records 0 rows₁ (fours-records records₁) refl }
 
 given : Answers questions₁ (λ q. false) (0 ∷ 0 ∷ [])

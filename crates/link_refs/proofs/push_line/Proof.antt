@@ -5,7 +5,8 @@ use Prim.Native.Nat.{ℕ, _+_, _*_}
 use native.Mathlib.Omega.{arith}
 use lib.ListN.{length, length-append}
 use lib.Seq.{sets, length-sets}
-use Rattle.link_refs.specs.Lines.{refAt, pdfOf}
+use Rattle.written.specs.Linking.{pdfOf}
+use Rattle.link_refs.specs.Lines.{refAt}
 use Rattle.link_refs.proofs.Refs.{one-line, pushed-both}
 use borrow.Author.Needs.{needs}
 use Rattle.link_refs.proofs.push_line.Statement.{statement}
