@@ -2,6 +2,7 @@
 use mathlib.Core.Path.{_≡_, refl, ap}
 use Prim.Native.Nat.{ℕ, zero, suc, _+_, _≤_, _<_}
 use native.Mathlib.Omega.{arith}
+use lib.ListN.{length}
 use Rattle.laws.specs.Totals.{total}
 use Rattle.laws.specs.Steps.{doneAt, Step, next, last, broken, Reading, readOf, readFrom, read}
 
@@ -47,3 +48,19 @@ module _ {A : Type 0} where
     pub weighed : (n i e : ℕ) → read step n i .ending ≡ doneAt e → total w (read step n i .items) + i ≤ e
     unfolding read
     weighed n i e h = weigh (suc n) i e h
+
+  module _ (step : ℕ → Step A) where
+    some-from : (f i e : ℕ) → readFrom step f i .ending ≡ doneAt e → 0 < length (readFrom step f i .items)
+    unfolding readFrom
+    some-from zero i e h = let u : _≡_ {A = ℕ} 0 1 = cc in absurd (omega arith)
+    some-from (suc f) i e h = go (step i) h
+      where
+        go : (t : Step A) → readOf (readFrom step f) t .ending ≡ doneAt e → 0 < length (readOf (readFrom step f) t .items)
+        go (next x p) h = omega arith
+        go (last x p) h = omega arith
+        go (broken p) h = let u : _≡_ {A = ℕ} 0 1 = cc in absurd (omega arith)
+
+    -- what is read to its end has an item
+    pub some : (n i e : ℕ) → read step n i .ending ≡ doneAt e → 0 < length (read step n i .items)
+    unfolding read
+    some n i e h = some-from (suc n) i e h

@@ -2,7 +2,7 @@
 use mathlib.Core.Path.{_≡_, refl, sym, ap, ap₂, _∙_}
 use mathlib.Core.Bool.{Bool, true, false, cond}
 use mathlib.Core.List.{List, [], _∷_}
-use Prim.Native.Nat.{ℕ, suc, _+_, _≤_}
+use Prim.Native.Nat.{ℕ, suc, _+_, _≤_, _<_}
 use native.Mathlib.Omega.{arith}
 use lib.ListN.{length}
 use Rattle.written.specs.Bytes.{Span}
@@ -12,7 +12,7 @@ use Rattle.written.proofs.Once.{run₁-lt}
 use Rattle.written.proofs.Decide.{number-le, reference-le, line-parting-lt}
 use Rattle.laws.specs.Steps.{Ending, doneAt, brokenAt, Step, next, last, broken, Reading, readOf}
 use Rattle.laws.specs.Totals.{total}
-use Rattle.laws.proofs.Steps.{read-is, weighed}
+use Rattle.laws.proofs.Steps.{some, read-is, weighed}
 use Rattle.laws.proofs.Parted.{onward}
 use Rattle.base_spaces.proofs.Joined.{closed-lt, closed-inside}
 use Rattle.tree_reference.specs.References.{sameIndex, pdfCount}
@@ -88,6 +88,10 @@ module _ (s : List ℕ) where
 
   pub last-in : (i : ℕ) {l : Line} {j : ℕ} → answer.Last l j ≡ lineStepAt s i → (3 + i ≤ j) × (j ≤ length s)
   last-in i {l} {j} e = step-last i j l (stepped i e)
+
+  pub lines-some : (i e : ℕ) → linesAt s i .ending ≡ doneAt e → 0 < length (linesAt s i .items)
+  unfolding linesAt
+  lines-some i e h = some (step s) (length s) i e h
 
   pub lines-size : (i e : ℕ) → linesAt s i .ending ≡ doneAt e → length (linesAt s i .items) + total linePdfs (linesAt s i .items) + i ≤ e
   unfolding linesAt

@@ -7,7 +7,7 @@ use native.Mathlib.Numerals.{add-one}
 use native.Mathlib.Omega.{arith}
 use borrow.Rule.Slice.PartMut.{putMid}
 use lib.IntN.{ℤ}
-use lib.ListN.{length, getD, take, drop}
+use lib.ListN.{length, getD, take, drop, length-append}
 use lib.Seq.{sets, length-sets}
 use Rattle.laws.proofs.Tables.{part-sets, part-back, sets-whole, sets-under, sets-at, take-sets, drop-sets}
 use Rattle.order.specs.Keys.{keyOf, idKey, idAt}
@@ -138,6 +138,15 @@ length-leaf-rows : (ps : List ℕ) → length (leafRows ps) ≡ 4 * length ps
 unfolding leafRows
 length-leaf-rows [] = refl
 length-leaf-rows (p ∷ ps) = omega (arith, length-leaf-rows ps)
+
+-- a record has four words: one for each line and for each PDF reference
+pub length-linked : (w : List ℤ) (n : ℕ) → linkOutcome w n ≡ Done → length (linkedRows w n) ≡ 4 * (n + length (pdfsOf (linesFrom w 0 n)))
+unfolding linkedRows linkOutcome
+length-linked w n d =
+    let ls = linesFrom w 0 n in
+    let G = goals (stepIn w n) ls in
+    omega
+    (arith, length-append (recordRows ls G) (leafRows (leavesOf w n)), length-records ls G (goals-length (stepIn w n) 0 ls d), length-leaf-rows (leavesOf w n), length-leaves w n, length-lines w 0 n)
 
 module _ (w : List ℤ) (n leaves : ℕ) (rows₂ : List ℕ) (m : leaves ≡ length (pdfsOf (linesFrom w 0 n))) (room : length rows₂ ≡ 4 * n + 4 * leaves) (there : take leaves (drop (4 * n) rows₂) ≡ leavesOf w n) where
   -- what was resolved by the leaves that stand there was resolved by the tree's own

@@ -12,6 +12,7 @@ use Rattle.laws.specs.Totals.{total}
 use Rattle.laws.proofs.Tables.{part-put, sets-at}
 use Rattle.tree_reference.specs.References.{sameIndex}
 use Rattle.tree_reference.specs.declared.TreeIndex.{TreeIndex}
+use Rattle.tree_reference.specs.declared.TreeIndex.the-variants.{Node, Pdf}
 use Rattle.tree_line.specs.Lines.{lineStepAt, linesAt}
 use Rattle.tree_line.specs.declared.Line.{Line}
 use Rattle.tree_line.specs.declared.LineStep.the-variants as answer
@@ -20,11 +21,15 @@ use Rattle.line_survey.proofs.Counting.{items-next, items-last, items-broken}
 use Rattle.link_refs.specs.Lines.{linesFrom, pdfsOf}
 use Rattle.link.specs.Linked.{linkOutcome, linkedRows, rowsAfter, Linking}
 use Rattle.link.specs.declared.Link.{Link}
+use Rattle.link.specs.declared.Link.the-variants as link
+use Rattle.link.proofs.Whole.{length-linked}
 use Rattle.link.proofs.Local.{Agree, outcome-same, rows-same, pdfs-same}
 use Rattle.model_lines.specs.Words.{askedAt, lineWords}
 use Rattle.model_lines.proofs.Decoded.{workLine, words-length, decode, pdfs-count}
-use Rattle.model_tree.specs.Bodies.{Result, leafResult, linkEnds, linkResult, linesResult, singleOf}
+use Rattle.tree.specs.Trees.{lone}
+use Rattle.model_tree.specs.Bodies.{Result, leafResult, linkEnds, linkResult, linesResult, bodyResult, singleOf}
 use Rattle.model_tree.specs.declared.Filled.{Filled}
+use Rattle.model_tree.specs.declared.Filled.the-variants as filled
 use Rattle.model_tree.specs.declared.Single.{Single}
 use Rattle.model_tree.specs.declared.Single.the-variants.{One, Several}
 
@@ -112,6 +117,12 @@ module _ (s questions : List ℕ) (nq : ℕ) (ls : List Line) where
           pick false p q = (refl, omega arith)
       go (l ∷ (k ∷ ls)) h e = (refl, refl)
 
+  -- the PDF references that stand in the words
+  pub word-leaves : length (pdfsOf (linesFrom (lineWords s questions nq ls) 0 (length ls))) ≡ total linePdfs ls
+  word-leaves =
+      ap (λ l. length (pdfsOf l)) (decode s questions nq (lineWords s questions nq ls) 0 ls (λ i h. let z : 6 * 0 + i ≡ i = omega arith in ap (λ (j : ℕ). getD (lineWords s questions nq ls) j (pos 0)) z))
+      ∙ pdfs-count (λ l. askedAt s questions nq (l .start) (l .len)) ls
+
   module _ (work : List ℤ) (room : 6 * length ls ≤ length work) where
     agree : Agree (length ls) (sets work 0 (lineWords s questions nq ls)) (lineWords s questions nq ls)
     agree =
@@ -128,8 +139,7 @@ module _ (s questions : List ℕ) (nq : ℕ) (ls : List Line) where
     pub count-leaves : length (pdfsOf (linesFrom (sets work 0 (lineWords s questions nq ls)) 0 (length ls))) ≡ total linePdfs ls
     count-leaves =
         ap length (pdfs-same (length ls) (sets work 0 (lineWords s questions nq ls)) (lineWords s questions nq ls) agree)
-        ∙ ap (λ l. length (pdfsOf l)) (decode s questions nq (lineWords s questions nq ls) 0 ls (λ i h. let z : 6 * 0 + i ≡ i = omega arith in ap (λ (j : ℕ). getD (lineWords s questions nq ls) j (pos 0)) z))
-        ∙ pdfs-count (λ l. askedAt s questions nq (l .start) (l .len)) ls
+        ∙ word-leaves
 
     pub same-result : (m : ℕ) → linkResult (sets work 0 (lineWords s questions nq ls)) (length ls) m ≡ linkResult (lineWords s questions nq ls) (length ls) m
     unfolding linkResult
@@ -172,3 +182,41 @@ module _ (s questions : List ℕ) (nq : ℕ) (ls : List Line) (n m : ℕ) (e : n
         ap (λ (l : List ℤ). linkResult l n m) f ∙ ap₂ (λ (a b : ℕ). linkResult (sets work 0 (lineWords s questions nq ls)) a b) e d
         ∙ same-result s questions nq ls work wide (recordsOf ls)
         ∙ sym (several-result s questions nq ls (omega arith) (sym q) .0)
+
+-- ---- what a body's records come to, where it has them
+
+module _ (s questions : List ℕ) (nq : ℕ) where
+  linked-size : (w : List ℤ) (n m : ℕ) {a b : ℕ} → m ≡ n + length (pdfsOf (linesFrom w 0 n)) → linkResult w n m .ends ≡ filled.Done a b → (a ≡ m) × (length (linkResult w n m .rows) ≡ 4 * a)
+  unfolding linkResult
+  linked-size w n m {a} {b} e h = go (linkOutcome w n) refl h
+    where
+      go : (o : Link) → linkOutcome w n ≡ o → linkEnds n m o ≡ filled.Done a b → (a ≡ m) × (length (rowsAfter o (linkedRows w n) (4 * m)) ≡ 4 * a)
+      go link.Done q h = let u : m ≡ a = cc in (sym u, omega (arith, length-linked w n q))
+      go (link.NodeRef k) q h = let u : _≡_ {A = ℕ} 0 1 = cc in absurd (omega arith)
+      go (link.QuestionRef k) q h = let u : _≡_ {A = ℕ} 0 1 = cc in absurd (omega arith)
+
+  leaf-size : (r : TreeIndex) {a b : ℕ} → leafResult r .ends ≡ filled.Done a b → (a ≡ 1) × (length (leafResult r .rows) ≡ 4 * a)
+  leaf-size (Pdf x) {a} h = let u : 1 ≡ a = cc in (sym u, omega arith)
+  leaf-size (Node x) h = let u : _≡_ {A = ℕ} 0 1 = cc in absurd (omega arith)
+
+  pub lines-size : (ls : List Line) {a b : ℕ} → linesResult s questions nq ls .ends ≡ filled.Done a b → (a ≡ recordsOf ls) × (length (linesResult s questions nq ls .rows) ≡ 4 * a)
+  unfolding recordsOf total
+  lines-size [] {a} h = let u : 0 ≡ a = cc in (sym u, omega arith)
+  lines-size (l ∷ []) {a} {b} h = pick (sameIndex (l .no) (l .yes)) refl h
+    where
+      W : List ℤ
+      W = lineWords s questions nq (l ∷ [])
+
+      pick : (x : Bool) → sameIndex (l .no) (l .yes) ≡ x → cond x (leafResult (l .yes)) (linkResult W 1 (cond (sameIndex (l .no) (l .yes)) 1 (1 + linePdfs l))) .ends ≡ filled.Done a b
+          → (a ≡ cond x 1 (1 + linePdfs l)) × (length (cond x (leafResult (l .yes)) (linkResult W 1 (cond (sameIndex (l .no) (l .yes)) 1 (1 + linePdfs l))) .rows) ≡ 4 * a)
+      pick true q h = leaf-size (l .yes) h
+      pick false q h =
+          let e : cond (sameIndex (l .no) (l .yes)) 1 (1 + linePdfs l) ≡ 1 + linePdfs l = ap (λ (x : Bool). cond x 1 (1 + linePdfs l)) q in
+          let r = linked-size W 1 (cond (sameIndex (l .no) (l .yes)) 1 (1 + linePdfs l)) (omega (arith, word-leaves s questions nq (l ∷ []))) h in
+          (r .0 ∙ e, r .1)
+  lines-size (l ∷ (k ∷ ls)) h =
+      linked-size (lineWords s questions nq (l ∷ (k ∷ ls))) (length (l ∷ (k ∷ ls))) (length (l ∷ (k ∷ ls)) + total linePdfs (l ∷ (k ∷ ls)))
+      (ap (λ (j : ℕ). length (l ∷ (k ∷ ls)) + j) (sym (word-leaves s questions nq (l ∷ (k ∷ ls))))) h
+
+  pub lone-size : (r : TreeIndex) {a b : ℕ} → bodyResult s questions nq (lone r) .ends ≡ filled.Done a b → (a ≡ 1) × (length (bodyResult s questions nq (lone r) .rows) ≡ 4 * a)
+  lone-size r h = leaf-size r h

@@ -133,14 +133,14 @@ module _ (s : List ℕ) where
   -- ---- all trees
 
   -- the tree at i that was surveyed
-  record Seen (i : ℕ) (b : Bool) (m n : ℕ) (Step-is : Tree → Type 0) : Type 0 where
-    it : Tree
-    steps : Step-is it
-    below : treeNegative it ≡ b
-    records : treeRecords it ≡ m
-    lines : treeLines it ≡ n
+  pub record Seen (i : ℕ) (b : Bool) (m n : ℕ) (Step-is : Tree → Type 0) : Type 0 where
+    pub it : Tree
+    pub steps : Step-is it
+    pub below : treeNegative it ≡ b
+    pub records : treeRecords it ≡ m
+    pub lines : treeLines it ≡ n
 
-  seen-next : (i : ℕ) (b : Bool) (m n j : ℕ) → surveyed.Next b m n j ≡ treeSurveyed (treeStepAt s i) → Seen i b m n (λ t. treeStepAt s i ≡ next t j)
+  pub seen-next : (i : ℕ) (b : Bool) (m n j : ℕ) → surveyed.Next b m n j ≡ treeSurveyed (treeStepAt s i) → Seen i b m n (λ t. treeStepAt s i ≡ next t j)
   seen-next i b m n j h = go (treeStepAt s i) refl h
     where
       go : (t : Step Tree) → treeStepAt s i ≡ t → surveyed.Next b m n j ≡ treeSurveyed t → Seen i b m n (λ t. treeStepAt s i ≡ next t j)
@@ -153,7 +153,7 @@ module _ (s : List ℕ) where
       go (last t k) q h = let u : _≡_ {A = ℕ} 0 1 = cc in absurd (omega arith)
       go (broken k) q h = let u : _≡_ {A = ℕ} 0 1 = cc in absurd (omega arith)
 
-  seen-last : (i : ℕ) (b : Bool) (m n : ℕ) → surveyed.Last b m n ≡ treeSurveyed (treeStepAt s i) → Seen i b m n (λ t. (j : ℕ) × (treeStepAt s i ≡ last t j))
+  pub seen-last : (i : ℕ) (b : Bool) (m n : ℕ) → surveyed.Last b m n ≡ treeSurveyed (treeStepAt s i) → Seen i b m n (λ t. (j : ℕ) × (treeStepAt s i ≡ last t j))
   seen-last i b m n h = go (treeStepAt s i) refl h
     where
       go : (t : Step Tree) → treeStepAt s i ≡ t → surveyed.Last b m n ≡ treeSurveyed t → Seen i b m n (λ t. (j : ℕ) × (treeStepAt s i ≡ last t j))
@@ -165,7 +165,7 @@ module _ (s : List ℕ) where
       go (next t k) q h = let u : _≡_ {A = ℕ} 0 1 = cc in absurd (omega arith)
       go (broken k) q h = let u : _≡_ {A = ℕ} 0 1 = cc in absurd (omega arith)
 
-  seen-broken : (i j : ℕ) → surveyed.Broken j ≡ treeSurveyed (treeStepAt s i) → treeStepAt s i ≡ broken j
+  pub seen-broken : (i j : ℕ) → surveyed.Broken j ≡ treeSurveyed (treeStepAt s i) → treeStepAt s i ≡ broken j
   seen-broken i j h = go (treeStepAt s i) h
     where
       go : (t : Step Tree) → surveyed.Broken j ≡ treeSurveyed t → t ≡ broken j

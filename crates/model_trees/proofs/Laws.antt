@@ -1,0 +1,60 @@
+-- One tree, by its head; and trees one after another: what is left, stored, gives the tables with all of them. Assumes nothing.
+use mathlib.Core.Path.{_≡_, refl, sym, ap, ap₂, _∙_, subst}
+use mathlib.Core.List.{List, [], _∷_, _++_, append-nil}
+use Prim.Native.Nat.{ℕ, suc, _+_, _*_, _≤_, _<_}
+use native.Mathlib.Omega.{arith}
+use lib.IntN.{ℤ}
+use lib.ListN.{length}
+use lib.Seq.{sets, length-sets}
+use Rattle.tree_reference.specs.declared.TreeIndex.{TreeIndex}
+use Rattle.tree_line.specs.Lines.{linesAt}
+use Rattle.line_survey.specs.Counts.{recordsOf}
+use Rattle.tree.specs.declared.TreeHead.{TreeHead}
+use Rattle.tree.specs.declared.TreeHead.the-variants.{Lone, Empty, Lines, NoTree}
+use Rattle.model_lines.specs.Words.{lineWords}
+use Rattle.model_tree.specs.Bodies.{bodyResult}
+use Rattle.model_tree.specs.declared.Filled.{Filled}
+use Rattle.model_tree.specs.declared.Filled.the-variants.{Done}
+use Rattle.model_trees.specs.Trees.{headState, headBody, Sized, leaf, empty, lines, rowWords, workOf}
+
+module _ (s : List ℕ) where
+  -- ---- what a tree's size says of each head
+
+  pub sized-leaf : {t : TreeHead} {n m : ℕ} → Sized s t n m → {x : ℤ} {r : TreeIndex} {e : ℕ} → t ≡ Lone x r e → m ≡ 1
+  sized-leaf leaf q = refl
+  sized-leaf empty q = let u : _≡_ {A = ℕ} 0 1 = cc in absurd (omega arith)
+  sized-leaf (lines a b d) q = let u : _≡_ {A = ℕ} 0 1 = cc in absurd (omega arith)
+
+  pub sized-lines : {t : TreeHead} {n m : ℕ} → Sized s t n m → {x : ℤ} {f : ℕ} → t ≡ Lines x f → (n ≡ length (linesAt s f .items)) × (0 < n) × (m ≡ recordsOf (linesAt s f .items))
+  sized-lines leaf q = let u : _≡_ {A = ℕ} 0 1 = cc in absurd (omega arith)
+  sized-lines empty q = let u : _≡_ {A = ℕ} 0 1 = cc in absurd (omega arith)
+  sized-lines (lines {f = g} a b d) {f = f} q =
+      let u : g ≡ f = cc in
+      (a ∙ ap (λ (k : ℕ). length (linesAt s k .items)) u, b, d ∙ ap (λ (k : ℕ). recordsOf (linesAt s k .items)) u)
+
+  -- ---- what a tree's body gives, by its head
+
+  module _ (questions : List ℕ) (n : ℕ) (records : List ℕ) (k : ℕ) (work : List ℤ) where
+    abbrev pub Given : TreeHead → Filled → List ℕ → List ℤ → Type 0
+    Given t r records₁ work₁ =
+        (r ≡ bodyResult s questions n (headBody s t) .ends) × (records₁ ≡ sets records k (bodyResult s questions n (headBody s t) .rows)) × (work₁ ≡ workOf s questions n work (headBody s t))
+
+    pub by-head : {t u : TreeHead} {r : Filled} {records₁ : List ℕ} {work₁ : List ℤ} → t ≡ u → Given u r records₁ work₁ → Given t r records₁ work₁
+    by-head {r = r} {records₁ = records₁} {work₁ = work₁} e p = subst (λ t. Given t r records₁ work₁) (sym e) p
+
+    pub empty-head : {t : TreeHead} {x : ℤ} {e : ℕ} → t ≡ Empty x e → Given t (Done 0 0) records work
+    unfolding lineWords
+    empty-head q = by-head q (refl, refl, refl)
+
+    pub no-head : {t : TreeHead} → t ≡ NoTree → Given t (Done 0 0) records work
+    unfolding lineWords
+    no-head q = by-head q (refl, refl, refl)
+
+-- ---- a tree's row
+
+pub row-done : (trees : List ℕ) (k first m n : ℕ) {trees₁ : List ℕ} {x : ℕ} {h t : TreeHead}
+    → trees₁ ≡ sets trees k (x ∷ first ∷ m ∷ n ∷ []) → x ≡ headState h → h ≡ t → trees₁ ≡ sets trees k (headState t ∷ first ∷ m ∷ n ∷ [])
+row-done trees k first m n e q p = e ∙ ap (λ (x : ℕ). sets trees k (x ∷ first ∷ m ∷ n ∷ [])) (q ∙ ap headState p)
+
+pub no-row : (trees : List ℕ) (k first x : ℕ) {r u : Filled} → r ≡ u → rowWords x first u ≡ [] → trees ≡ sets trees k (rowWords x first r)
+no-row trees k first x e q = sym (ap (λ (r : Filled). sets trees k (rowWords x first r)) e ∙ ap (sets trees k) q)
