@@ -64,3 +64,20 @@ module _ {A : Type 0} where
     pub some : (n i e : ℕ) → read step n i .ending ≡ doneAt e → 0 < length (read step n i .items)
     unfolding read
     some n i e h = some-from (suc n) i e h
+
+  module _ (step : ℕ → Step A) (w : A → ℕ) (go-on : (i p : ℕ) (x : A) → step i ≡ next x p → 0 < w x) (end : (i p : ℕ) (x : A) → step i ≡ last x p → 0 < w x) where
+    each-from : (f i : ℕ) → length (readFrom step f i .items) ≤ total w (readFrom step f i .items)
+    unfolding readFrom total
+    each-from zero i = omega arith
+    each-from (suc f) i = go (step i) refl (λ p. each-from f p)
+      where
+        go : (t : Step A) → step i ≡ t → ((p : ℕ) → length (readFrom step f p .items) ≤ total w (readFrom step f p .items))
+            → length (readOf (readFrom step f) t .items) ≤ total w (readOf (readFrom step f) t .items)
+        go (next x p) q r = omega (arith, go-on i p x q, r p)
+        go (last x p) q r = omega (arith, end i p x q)
+        go (broken p) q r = omega arith
+
+    -- where each item weighs something, all weigh as many at least
+    pub each-weighs : (n i : ℕ) → length (read step n i .items) ≤ total w (read step n i .items)
+    unfolding read
+    each-weighs n i = each-from (suc n) i

@@ -13,8 +13,9 @@ use Rattle.laws.specs.Steps.{Ending, doneAt, brokenAt, Step, next, last, broken
 use Rattle.laws.specs.Totals.{total}
 use Rattle.laws.proofs.Runs.{byte-in}
 use Rattle.laws.proofs.Parted.{onward}
+use Rattle.laws.proofs.Steps.{each-weighs}
 use Rattle.base_spaces.proofs.Joined.{closed-lt, closed-inside}
-use Rattle.question.specs.Questions.{headAt, patternStepAt, patternStep, patternsAt, afterQuestion, questionFollowed, questionRead, questionHeaded, questionStepAt}
+use Rattle.question.specs.Questions.{headAt, patternStepAt, patternStep, patternsAt, itemAt, afterQuestion, questionFollowed, questionRead, questionHeaded, questionStepAt, questionsFrom, questionsAt}
 use Rattle.question.specs.declared.QuestionHead.{QuestionHead}
 use Rattle.question.specs.declared.QuestionHead.the-variants as head
 use Rattle.question.specs.declared.Item.{Item}
@@ -211,3 +212,26 @@ module _ (s : List ℕ) where
   pub surveyed-none : {at i n m : ℕ} → Surveying at i n m → survey.Broken ≡ questionSurveyed (questionStepAt s i) → questions.Broken i ≡ questionsCounted 0 0 (questions-from s at)
   unfolding questionsCounted
   surveyed-none {i = i} {n = n} {m = m} c h = sym (ap (questionsCounted n m) (questions-are s i ∙ ap (readOf (questions-from s)) (surveyed-broken i h))) ∙ c .same
+
+  -- ---- a question has a pattern at least
+
+  pattern-some : {i j : ℕ} {xs : List (List ℕ)} {ws : List Span} → Parted (Comma s) (PatternAt s) i j xs ws → 0 < length ws
+  pattern-some (only t) = omega arith
+  pattern-some (then t p r) = omega arith
+
+  question-some : {i j : ℕ} {x : Question} {q : QuestionPlace} → QuestionAt s i j x q → 0 < patternCount q
+  question-some (question (byte p (byte p′ end)) r n t (byte o end) u ps v (byte z end)) = pattern-some ps
+
+  pub each-asked : (i : ℕ) → length (questionsAt s i .items) ≤ total patternCount (questionsAt s i .items)
+  unfolding questionsAt total
+  each-asked i = go (itemAt s i)
+    where
+      some-next : (i j : ℕ) (q : QuestionPlace) → questionStepAt s i ≡ next q j → 0 < patternCount q
+      some-next i j q e = let r = question-reads s .was-on i j q e in let p : patternCount q ≡ patternCount (r .laid) = ap patternCount (r .is) in omega (arith, question-some (r .item))
+
+      some-last : (i j : ℕ) (q : QuestionPlace) → questionStepAt s i ≡ last q j → 0 < patternCount q
+      some-last i j q e = let r = question-reads s .was-done i j q e in let p : patternCount q ≡ patternCount (r .laid) = ap patternCount (r .is) in omega (arith, question-some (r .item))
+
+      go : (t : Item) → length (questionsFrom s t .items) ≤ total patternCount (questionsFrom s t .items)
+      go (item.Question j) = each-weighs (questionStepAt s) patternCount some-next some-last (length s) j
+      go (item.Tree j) = omega arith
