@@ -12,7 +12,7 @@ use Rattle.header.specs.declared.StreamData.{StreamData}
 use Rattle.header.specs.declared.PositionData.{PositionData}
 use Rattle.header.specs.declared.Header.{Header}
 use Rattle.written.specs.Record.{file-limit}
-use Rattle.header_fits.specs.Fits.{each, counted, spanFits, globalFits, streamFits, positionFits, recordFits}
+use Rattle.header_fits.specs.Fits.{noStream, noPosition, each, counted, spanFits, globalFits, streamFits, positionFits, recordFits}
 use Rattle.header_fits.proofs.Each.{and-left, and-right, counted-limit}
 
 pub sum-leb : (a b n : ℕ) → a ≤ n → leb b (n - a) ≡ leb (a + b) n
@@ -25,13 +25,6 @@ sum-leb a b n h = go (leb b (n - a)) refl
 pub none-fits : (n : ℕ) → spanFits n noSpan ≡ true
 unfolding spanFits
 none-fits n = le-leb 0 n (omega arith)
-
--- what stands outside an array
-abbrev pub noStream : StreamData
-noStream = record { name = noSpan; «vector_length» = 0; «num_windows» = 0; «is_msd» = false; «use_gv» = false; option = []; «option_count» = 0 }
-
-abbrev pub noPosition : PositionData
-noPosition = record { name = noSpan; «stream_win» = []; «stream_win_count» = 0; «stream_pdf» = noRange; «stream_tree» = noRange; «gv_pdf» = noRange; «has_gv_pdf» = false; «gv_tree» = noRange; «has_gv_tree» = false }
 
 pub stream-none-fits : (n : ℕ) → streamFits n noStream ≡ true
 unfolding streamFits counted each

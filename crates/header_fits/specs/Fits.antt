@@ -1,11 +1,11 @@
 -- When a header record fits a file of n bytes (01's 16; docs/DECISIONS.md, 'The record'): the file and every count within its limit, and every string
 -- that counts, and the data, inside the file. What stands past a count, an absent COMMENT and the ranges are not looked at. Assumes nothing.
-use mathlib.Core.Bool.{Bool, true, cond, _&&_}
+use mathlib.Core.Bool.{Bool, true, false, cond, _&&_}
 use mathlib.Core.List.{List, [], _∷_}
 use Prim.Native.Nat.{ℕ, zero, suc, _+_}
 use lib.Dec.{leb}
 use Rattle.written.specs.Record.{file-limit}
-use Rattle.header.specs.Empty.{span}
+use Rattle.header.specs.Empty.{span, noSpan, noRange}
 use Rattle.header.specs.declared.Span.{Span}
 use Rattle.header.specs.declared.Global.{Global}
 use Rattle.header.specs.declared.StreamData.{StreamData}
@@ -48,3 +48,11 @@ recordFits n h =
     && globalFits n (h .global)
     && counted 8 (streamFits n) (h .«stream_count») (h .streams)
     && counted 8 (positionFits n) (h .«position_count») (h .positions)
+
+-- ---- what stands outside an array of entries
+
+abbrev pub noStream : StreamData
+noStream = record { name = noSpan; «vector_length» = 0; «num_windows» = 0; «is_msd» = false; «use_gv» = false; option = []; «option_count» = 0 }
+
+abbrev pub noPosition : PositionData
+noPosition = record { name = noSpan; «stream_win» = []; «stream_win_count» = 0; «stream_pdf» = noRange; «stream_tree» = noRange; «gv_pdf» = noRange; «has_gv_pdf» = false; «gv_tree» = noRange; «has_gv_tree» = false }
