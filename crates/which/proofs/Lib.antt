@@ -1,3 +1,4 @@
 pub mod Widths
 pub mod Search
 pub mod Named
+pub mod Joined

@@ -5,20 +5,15 @@ use Prim.Native.Nat.{ℕ, _≤_, _<_}
 use borrow.Author.Tests.{lt-ltb, le-ltb}
 use lib.ListN.{getD}
 use Rattle.error.specs.declared.Refusal.the-variants as refusal
-use Rattle.header.specs.Empty.{noSpan}
 use Rattle.header.specs.declared.StreamData.{StreamData}
 use Rattle.header.specs.declared.PositionData.{PositionData}
 use Rattle.header.specs.declared.Header.{Header}
 use Rattle.header_fits.specs.Fits.{noStream, noPosition}
-use Rattle.groups.specs.Rows.{bytesOf}
 use Rattle.search.specs.declared.Found.the-variants.{At, Nothing}
 use Rattle.which.specs.Chosen.{positionNamed, streamNamed, withPosition, withStream, named, numbered}
+use Rattle.which.specs.Entries.{typeName}
 use Rattle.which.specs.declared.Chosen.{Chosen}
 use Rattle.which.specs.declared.Chosen.the-variants.{Refused}
-
--- the i-th name in STREAM_TYPE
-abbrev pub typeName : List ℕ → Header → ℕ → List ℕ
-typeName s h i = bytesOf s (getD (h .global .«stream_type») i noSpan)
 
 module _ (make : StreamData → PositionData → Chosen) (s : List ℕ) (h : Header) (i : ℕ) where
   pub no-number : h .global .«stream_type_count» ≤ i → Refused refusal.NoPosition ≡ numbered make s h i
