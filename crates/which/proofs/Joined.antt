@@ -1,5 +1,5 @@
 -- What is found is the last entry of its name, and what is answered of a stream's number is what the entries of its name make. Assumes nothing.
-use mathlib.Core.Path.{_≡_, refl, sym, ap, _∙_, subst}
+use mathlib.Core.Path.{_≡_, refl, sym, ap, ap₂, _∙_, subst}
 use mathlib.Core.Bool.{Bool, true, false, true≢false}
 use mathlib.Core.List.{List}
 use mathlib.Core.Logic.{_⊎_, inl, inr}
@@ -9,7 +9,7 @@ use lib.ListN.{length, getD, take}
 use lib.Seq.{length-take-le, getD-take}
 use Rattle.written.specs.Bytes.{same}
 use Rattle.written.specs.Linking.{Nth, Last}
-use Rattle.written.proofs.Walk.{nth-once}
+use Rattle.written.proofs.Walk.{nth-once, last-once}
 use Rattle.laws.proofs.Nth.{nth-inside}
 use Rattle.rows.proofs.Stand.{nth-at}
 use Rattle.error.specs.declared.Refusal.the-variants as refusal
@@ -95,3 +95,33 @@ module _ (make : StreamData → PositionData → Chosen) (s : List ℕ) (h : Hea
       by-number : (h .global .«stream_type_count» ≤ i) ⊎ (i < h .global .«stream_type_count») → Numbered make s h i (numbered make s h i)
       by-number (inl l) = subst (Numbered make s h i) (named.no-number make s h i l) (no-number l)
       by-number (inr l) = by-position l (positionNamed s (h .positions) (h .«position_count») (typeName s h i)) refl
+
+-- ---- at most one answer
+
+module _ {A : Type 0} {name : A → Span} {s w : List ℕ} {l : List A} where
+  named-once : {x y : A} → LastNamed name s w l x → LastNamed name s w l y → x ≡ y
+  named-once {x} {y} a b =
+      sym (a .entry)
+      ∙ nth-once (a .last .stands) (subst (λ (k : ℕ). Nth l k (b .last .at)) (last-once (b .last) (a .last)) (b .last .stands))
+      ∙ b .entry
+
+  named-never : {x : A} → LastNamed name s w l x → Unnamed name s w l → ⊥
+  named-never a u = u (a .row) (a .last .at) (a .last .stands) (a .last .true-of)
+
+pub numbered-once : {make : StreamData → PositionData → Chosen} {s : List ℕ} {h : Header} {i : ℕ} {a b : Chosen} → Numbered make s h i a → Numbered make s h i b → a ≡ b
+numbered-once (no-number l) (no-number m) = refl
+numbered-once (no-number l) (no-position m u) = refl
+numbered-once (no-number l) (no-stream m p u) = absurd (omega arith)
+numbered-once (no-number l) (entries m p d) = absurd (omega arith)
+numbered-once (no-position l u) (no-number m) = refl
+numbered-once (no-position l u) (no-position m v) = refl
+numbered-once (no-position l u) (no-stream m p v) = absurd (named-never p u)
+numbered-once (no-position l u) (entries m p d) = absurd (named-never p u)
+numbered-once (no-stream l p u) (no-number m) = absurd (omega arith)
+numbered-once (no-stream l p u) (no-position m v) = absurd (named-never p v)
+numbered-once (no-stream l p u) (no-stream m q v) = refl
+numbered-once (no-stream l p u) (entries m q d) = absurd (named-never d u)
+numbered-once (entries l p d) (no-number m) = absurd (omega arith)
+numbered-once (entries l p d) (no-position m v) = absurd (named-never p v)
+numbered-once (entries l p d) (no-stream m q v) = absurd (named-never d v)
+numbered-once {make = make} (entries l p d) (entries m q e) = ap₂ make (named-once d e) (named-once p q)

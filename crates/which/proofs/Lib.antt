@@ -2,3 +2,4 @@ pub mod Widths
 pub mod Search
 pub mod Named
 pub mod Joined
+pub mod Examples

@@ -136,13 +136,13 @@ fn find_position(file: &[u8], x: Span, n: usize, positions: [PositionData; 8]) -
     requires { ⌜ n ≤ 8 ⌝ }
     ensures { λ r. ⌜ r ≡ positionNamed (now (file .entry)) positions n (bytesOf (now (file .entry)) x) ⌝ }
 {
-    let mut k = n;
-    while 0 < k {
-        k = k - 1;
-        let position = positions[k];
+    let mut p = n;
+    while 0 < p {
+        p = p - 1;
+        let position = positions[p];
         let name = position.name;
         if same_part(file, name, x) {
-            return Found::At(k as u64);
+            return Found::At(p as u64);
         }
     }
     Found::Nothing

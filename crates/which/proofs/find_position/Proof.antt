@@ -11,16 +11,16 @@ use Rattle.which.proofs.find_position.Statement.{statement}
 use Rattle.which.proofs.find_position.Tie as tie
 
 abbrev Inv-loop : tie.InvT-loop
-Inv-loop file x n positions k₀ k = Down (λ j. same (bytesOf file (getD positions j noPosition .name)) (bytesOf file x)) n k
+Inv-loop file x n positions p₀ p = Down (λ j. same (bytesOf file (getD positions j noPosition .name)) (bytesOf file x)) n p
 
 abbrev μ-loop : tie.MeasureT-loop
-μ-loop file x n positions k₀ k = k
+μ-loop file x n positions p₀ p = p
 
 loop-holds : tie.Need-loop-holds Inv-loop μ-loop
 loop-holds c = record { within = c .before .pre; same = refl }
 
-sub-k : tie.Need-sub-k Inv-loop μ-loop
-sub-k c = search needs
+sub-p : tie.Need-sub-p Inv-loop μ-loop
+sub-p c = search needs
 
 mul-position : tie.Need-mul-position Inv-loop μ-loop
 mul-position c = search needs
@@ -50,7 +50,7 @@ find-position-spec =
     Inv-loop
     μ-loop
     loop-holds
-    sub-k
+    sub-p
     mul-position
     array-copy-out-position
     same-part-requires
