@@ -1,15 +1,12 @@
 -- A sum inside a number, without the sum; what an array lacks fits; and what a record that fits promises to those who use it. Assumes nothing.
-use mathlib.Core.Path.{_≡_, refl, sym, ap, _∙_}
+use mathlib.Core.Path.{_≡_, refl, sym, _∙_}
 use mathlib.Core.Bool.{Bool, true, false, cond, _&&_}
 use Prim.Native.Nat.{ℕ, _+_, _-_, _≤_}
 use native.Mathlib.Omega.{arith}
 use borrow.Author.Tests.{le-leb, lt-leb, leb-true, leb-false}
 use lib.Dec.{leb}
-use Rattle.header.specs.Empty.{span, noSpan, noRange}
-use mathlib.Core.List.{[]}
+use Rattle.header.specs.Empty.{span, noSpan}
 use Rattle.header.specs.declared.Global.{Global}
-use Rattle.header.specs.declared.StreamData.{StreamData}
-use Rattle.header.specs.declared.PositionData.{PositionData}
 use Rattle.header.specs.declared.Header.{Header}
 use Rattle.written.specs.Record.{file-limit}
 use Rattle.header_fits.specs.Fits.{noStream, noPosition, each, counted, spanFits, globalFits, streamFits, positionFits, recordFits}

@@ -2,14 +2,11 @@
 use mathlib.Core.Path.{_≡_, refl}
 use mathlib.Core.Bool.{Bool, true, false}
 use mathlib.Core.List.{List, [], _∷_}
-use Prim.Native.Nat.{ℕ, _+_, _*_}
-use lib.Dec.{leb, ltb, eqb}
-use lib.ListN.{length}
-use Rattle.written.specs.Bytes.{same, part, bytes}
+use Prim.Native.Nat.{ℕ, _+_}
+use Rattle.written.specs.Bytes.{same, bytes}
 use Rattle.error.specs.declared.Refusal.the-variants as refusal
-use Rattle.header.specs.Empty.{span, range, noSpan, noRange, emptyGlobal, emptyStream, emptyPosition, emptyHeader}
+use Rattle.header.specs.Empty.{span, range, noSpan, noRange, emptyStream, emptyPosition}
 use Rattle.header.specs.declared.Span.{Span}
-use Rattle.header.specs.declared.Range.{Range}
 use Rattle.header.specs.declared.Global.{Global}
 use Rattle.header.specs.declared.StreamData.{StreamData}
 use Rattle.header.specs.declared.PositionData.{PositionData}
@@ -18,7 +15,6 @@ use Rattle.header.specs.Lists.{filled}
 use Rattle.header_fits.specs.Fits.{each, counted, spanFits, globalFits, streamFits, positionFits, recordFits}
 use Rattle.search.specs.Found.{lastBelow}
 use Rattle.which.specs.Chosen.{withinOf, modelOf, streamModel, gvModel, named, numbered, chosenOf}
-use Rattle.which.specs.declared.Chosen.{Chosen}
 use Rattle.which.specs.declared.Chosen.the-variants.{Model, Refused}
 use Rattle.which.specs.declared.Which.the-variants.{Duration, Stream, Gv}
 use Rattle.which.specs.declared.Bounds.the-variants.{Inside, Outside}

@@ -1,6 +1,6 @@
 -- What is found is the last entry of its name, and what is answered of a stream's number is what the entries of its name make. Assumes nothing.
 use mathlib.Core.Path.{_≡_, refl, sym, ap, ap₂, _∙_, subst}
-use mathlib.Core.Bool.{Bool, true, false, true≢false}
+use mathlib.Core.Bool.{true, true≢false}
 use mathlib.Core.List.{List}
 use mathlib.Core.Logic.{_⊎_, inl, inr}
 use Prim.Native.Nat.{ℕ, _≤_, _<_}
@@ -8,17 +8,16 @@ use native.Mathlib.Omega.{arith}
 use lib.ListN.{length, getD, take}
 use lib.Seq.{length-take-le, getD-take}
 use Rattle.written.specs.Bytes.{same}
-use Rattle.written.specs.Linking.{Nth, Last}
+use Rattle.written.specs.Linking.{Nth}
 use Rattle.written.proofs.Walk.{nth-once, last-once}
 use Rattle.laws.proofs.Nth.{nth-inside}
 use Rattle.rows.proofs.Stand.{nth-at}
-use Rattle.error.specs.declared.Refusal.the-variants as refusal
 use Rattle.header.specs.declared.Span.{Span}
 use Rattle.header.specs.declared.StreamData.{StreamData}
 use Rattle.header.specs.declared.PositionData.{PositionData}
 use Rattle.header.specs.declared.Header.{Header}
 use Rattle.header_fits.specs.Fits.{noStream, noPosition, recordFits}
-use Rattle.header_fits.proofs.Fits.{Fits, fits}
+use Rattle.header_fits.proofs.Fits.{fits}
 use Rattle.groups.specs.Rows.{bytesOf}
 use Rattle.search.specs.Found.{lastBelow}
 use Rattle.search.specs.declared.Found.{Found}
@@ -27,7 +26,7 @@ use Rattle.search.proofs.Ids.{same-true, true-same}
 use Rattle.link.proofs.Joined.{last-found, last-missing}
 use Rattle.sorting.proofs.Order.{le-or-lt}
 use Rattle.which.specs.Chosen.{positionNamed, streamNamed, numbered}
-use Rattle.which.specs.Entries.{LastNamed, Unnamed, positionsOf, streamsOf, positionName, streamName, typeName, Numbered, no-number, no-position, no-stream, entries, Arrays}
+use Rattle.which.specs.Entries.{LastNamed, Unnamed, positionName, streamName, typeName, Numbered, no-number, no-position, no-stream, entries, Arrays}
 use Rattle.which.specs.declared.Chosen.{Chosen}
 use Rattle.which.proofs.Named as named
 

@@ -1,5 +1,5 @@
 -- The laws of widths and ranges: a product up to its limit without wrapping, a model of a width, and a range in the data. Assumes nothing.
-use mathlib.Core.Path.{_≡_, refl, sym, ap, _∙_}
+use mathlib.Core.Path.{_≡_, refl, ap, _∙_}
 use mathlib.Core.Bool.{Bool, true, false, cond, _&&_}
 use Prim.Native.Nat.{ℕ, _+_, _*_, _≤_, _<_, min}
 use native.Mathlib.Nat.{zero-mul, mul-zero, mul-comm, mul-le-mul, le-mul-of-pos-right}
@@ -10,7 +10,6 @@ use mir.Val.{boolByte}
 use Rattle.error.specs.declared.Refusal.the-variants as refusal
 use Rattle.header.specs.declared.Range.{Range}
 use Rattle.which.specs.Chosen.{withinOf, bit, modelOf}
-use Rattle.which.specs.declared.Chosen.{Chosen}
 use Rattle.which.specs.declared.Chosen.the-variants.{Model, Refused}
 use Rattle.which.specs.declared.Bounds.the-variants.{Inside, Outside}
 

@@ -1,10 +1,9 @@
 -- `header_fits::span_fits` meets its contract. Assumes nothing.
 use Rattle.header_fits.specs.Fits.{spanFits}
-use borrow.Author.Tests.{le-leb, lt-leb}
-use lib.Dec.{leb}
-use Prim.Native.Nat.{ℕ, _+_, _-_, _≤_, _<_}
+use borrow.Author.Tests.{lt-leb}
+use Prim.Native.Nat.{_+_, _<_}
 use native.Mathlib.Omega.{arith}
-use mathlib.Core.Path.{_≡_, refl, sym, ap, ap₂, _∙_}
+use mathlib.Core.Path.{sym}
 use Rattle.header_fits.proofs.Fits.{sum-leb}
 use Rattle.header_fits.proofs.span_fits.Statement.{statement}
 use Rattle.header_fits.proofs.span_fits.Tie as tie

@@ -1,7 +1,7 @@
 -- `header_fits::stream_fits` meets its contract. Assumes nothing.
 use borrow.Author.Needs.{needs}
 use borrow.Author.Tests.{not-true, not-false}
-use mathlib.Core.Path.{_≡_, refl, sym, ap, ap₂, _∙_}
+use mathlib.Core.Path.{sym, _∙_}
 use Rattle.header_fits.specs.Fits.{streamFits}
 use Rattle.header_fits.proofs.stream_fits.Statement.{statement}
 use Rattle.header_fits.proofs.stream_fits.Tie as tie

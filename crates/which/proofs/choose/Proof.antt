@@ -1,11 +1,10 @@
 -- `which::choose` meets its contract. Assumes nothing.
 use borrow.Author.Needs.{needs}
 use borrow.Author.Tests.{not-true, not-false}
-use Prim.Native.Nat.{ℕ, _+_, _*_}
+use Prim.Native.Nat.{_+_, _*_}
 use Rattle.which.specs.Chosen.{modelOf, asked, chosenOf}
-use Rattle.which.specs.declared.Which.{Which}
 use native.Mathlib.Omega.{arith}
-use mathlib.Core.Path.{_≡_, refl, sym, ap, ap₂, _∙_}
+use mathlib.Core.Path.{_≡_, sym, ap, _∙_}
 use Rattle.which.proofs.choose.Statement.{statement}
 use Rattle.which.proofs.choose.Tie as tie
 

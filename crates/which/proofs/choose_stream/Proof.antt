@@ -7,7 +7,7 @@ use Rattle.search.proofs.Last.{last-inside}
 use Rattle.which.specs.Chosen.{streamModel, gvModel, numbered, made}
 use Rattle.which.proofs.Named.{no-number, no-position, no-stream, both}
 use native.Mathlib.Omega.{arith}
-use mathlib.Core.Path.{_≡_, refl, sym, ap, ap₂, _∙_}
+use mathlib.Core.Path.{sym, ap, _∙_}
 use Rattle.which.proofs.choose_stream.Statement.{statement}
 use Rattle.which.proofs.choose_stream.Tie as tie
 

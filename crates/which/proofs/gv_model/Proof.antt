@@ -1,10 +1,10 @@
 -- `which::gv_model` meets its contract. Assumes nothing.
 use borrow.Author.Needs.{needs}
 use borrow.Author.Tests.{not-true, not-false}
-use Prim.Native.Nat.{ℕ, _+_, _*_}
+use Prim.Native.Nat.{_+_, _*_}
 use Rattle.which.specs.Chosen.{gvModel, modelOf}
 use native.Mathlib.Omega.{arith}
-use mathlib.Core.Path.{_≡_, refl, sym, ap, ap₂, _∙_}
+use mathlib.Core.Path.{_≡_, ap, _∙_}
 use Rattle.which.proofs.gv_model.Statement.{statement}
 use Rattle.which.proofs.gv_model.Tie as tie
 

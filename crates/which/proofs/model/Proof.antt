@@ -1,11 +1,11 @@
 -- `which::model` meets its contract. Assumes nothing.
 use borrow.Author.Needs.{needs}
-use Prim.Native.Nat.{ℕ, _+_, _*_, _<_, _≤_}
+use Prim.Native.Nat.{_+_, _*_, _<_}
 use mir.Val.{boolByte}
-use Rattle.which.specs.Chosen.{bit, modelOf}
+use Rattle.which.specs.Chosen.{bit}
 use Rattle.which.proofs.Widths.{bit-byte, bit-small, model-over, model-within}
 use native.Mathlib.Omega.{arith}
-use mathlib.Core.Path.{_≡_, refl, sym, ap, ap₂, _∙_}
+use mathlib.Core.Path.{_≡_}
 use Rattle.which.proofs.model.Statement.{statement}
 use Rattle.which.proofs.model.Tie as tie
 

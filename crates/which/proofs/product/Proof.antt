@@ -1,9 +1,9 @@
 -- `which::product` meets its contract. Assumes nothing.
 use borrow.Author.Needs.{needs}
-use Prim.Native.Nat.{ℕ, _<_}
+use Prim.Native.Nat.{_<_}
 use Rattle.which.proofs.Widths.{none-left, none-right, large-left, large-right, small}
 use native.Mathlib.Omega.{arith}
-use mathlib.Core.Path.{_≡_, refl, sym, ap, ap₂, _∙_}
+use mathlib.Core.Path.{sym}
 use Rattle.which.proofs.product.Statement.{statement}
 use Rattle.which.proofs.product.Tie as tie
 

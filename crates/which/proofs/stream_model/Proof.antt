@@ -1,8 +1,6 @@
 -- `which::stream_model` meets its contract. Assumes nothing.
 use borrow.Author.Needs.{needs}
 use Rattle.which.specs.Chosen.{streamModel}
-use native.Mathlib.Omega.{arith}
-use mathlib.Core.Path.{_≡_, refl, sym, ap, ap₂, _∙_}
 use Rattle.which.proofs.stream_model.Statement.{statement}
 use Rattle.which.proofs.stream_model.Tie as tie
 

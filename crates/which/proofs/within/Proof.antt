@@ -1,9 +1,6 @@
 -- `which::within` meets its contract. Assumes nothing.
 use borrow.Author.Needs.{needs}
-use Prim.Native.Nat.{ℕ, _+_, _≤_, _<_}
 use Rattle.which.proofs.Widths.{starts-behind, ends-behind, stands-inside}
-use native.Mathlib.Omega.{arith}
-use mathlib.Core.Path.{_≡_, refl, sym, ap, ap₂, _∙_}
 use Rattle.which.proofs.within.Statement.{statement}
 use Rattle.which.proofs.within.Tie as tie
 
