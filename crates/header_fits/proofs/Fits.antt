@@ -1,0 +1,75 @@
+-- A sum inside a number, without the sum; what an array lacks fits; and what a record that fits promises to those who use it. Assumes nothing.
+use mathlib.Core.Path.{_≡_, refl, sym, _∙_}
+use mathlib.Core.Bool.{Bool, true, false, cond, _&&_}
+use Prim.Native.Nat.{ℕ, _+_, _-_, _≤_}
+use native.Mathlib.Omega.{arith}
+use borrow.Author.Tests.{le-leb, lt-leb, leb-true, leb-false}
+use lib.Dec.{leb}
+use Rattle.header.specs.Empty.{span, noSpan}
+use Rattle.header.specs.declared.Global.{Global}
+use Rattle.header.specs.declared.Header.{Header}
+use Rattle.written.specs.Record.{file-limit}
+use Rattle.header_fits.specs.Fits.{noStream, noPosition, each, counted, spanFits, globalFits, streamFits, positionFits, recordFits}
+use Rattle.header_fits.proofs.Each.{and-left, and-right, counted-limit}
+
+pub sum-leb : (a b n : ℕ) → a ≤ n → leb b (n - a) ≡ leb (a + b) n
+sum-leb a b n h = go (leb b (n - a)) refl
+  where
+    go : (t : Bool) → leb b (n - a) ≡ t → leb b (n - a) ≡ leb (a + b) n
+    go true e = e ∙ sym (le-leb (a + b) n (omega (arith, leb-true b (n - a) e)))
+    go false e = e ∙ sym (lt-leb (a + b) n (omega (arith, leb-false b (n - a) e)))
+
+pub none-fits : (n : ℕ) → spanFits n noSpan ≡ true
+unfolding spanFits
+none-fits n = le-leb 0 n (omega arith)
+
+pub stream-none-fits : (n : ℕ) → streamFits n noStream ≡ true
+unfolding streamFits counted each
+stream-none-fits n = rw (none-fits n, le-leb 0 16 (omega arith))
+
+pub position-none-fits : (n : ℕ) → positionFits n noPosition ≡ true
+unfolding positionFits
+position-none-fits n = rw (none-fits n, le-leb 0 8 (omega arith))
+
+-- ---- a record that fits
+
+pub record Fits (n : ℕ) (h : Header) : Type 0 where
+  pub file : n ≤ file-limit
+  pub data-inside : h .«data_start» + h .«data_len» ≤ n
+  pub types : h .global .«stream_type_count» ≤ 8
+  pub streams : h .«stream_count» ≤ 8
+  pub positions : h .«position_count» ≤ 8
+
+five : (a b c d e : Bool) → (a && b && c && d && e) ≡ true → (a ≡ true) × (b ≡ true) × (c ≡ true) × (d ≡ true) × (e ≡ true)
+five a b c d e h =
+    let h₄ = and-left (a && b && c && d) e h in
+    let h₃ = and-left (a && b && c) d h₄ in
+    let h₂ = and-left (a && b) c h₃ in
+    (and-left a b h₂, and-right a b h₂, and-right (a && b) c h₃, and-right (a && b && c) d h₄, and-right (a && b && c && d) e h)
+
+types-limit : (n : ℕ) (g : Global) → globalFits n g ≡ true → g .«stream_type_count» ≤ 8
+unfolding globalFits
+types-limit n g e =
+    let types = counted 8 (spanFits n) (g .«stream_type_count») (g .«stream_type») in
+    let front = spanFits n (g .«hts_voice_version») && spanFits n (g .«fullcontext_format») && spanFits n (g .«fullcontext_version») in
+    let contexts = counted 32 (spanFits n) (g .«gv_off_context_count») (g .«gv_off_context») in
+    let comment = cond (g .«has_comment») (spanFits n (g .comment)) true in
+    counted-limit 8 (spanFits n) (g .«stream_type_count») (g .«stream_type») (and-right front types (and-left (front && types) contexts (and-left (front && types && contexts) comment e)))
+
+pub fits : (n : ℕ) (h : Header) → recordFits n h ≡ true → Fits n h
+unfolding recordFits spanFits
+fits n h e =
+    let r = five
+    (leb n file-limit)
+    (spanFits n (span (h .«data_start») (h .«data_len»)))
+    (globalFits n (h .global))
+    (counted 8 (streamFits n) (h .«stream_count») (h .streams))
+    (counted 8 (positionFits n) (h .«position_count») (h .positions))
+    e in
+    record {
+      file = leb-true n file-limit (r .0);
+      data-inside = leb-true (h .«data_start» + h .«data_len») n (r .1);
+      types = types-limit n (h .global) (r .2);
+      streams = counted-limit 8 (streamFits n) (h .«stream_count») (h .streams) (r .3);
+      positions = counted-limit 8 (positionFits n) (h .«position_count») (h .positions) (r .4);
+    }

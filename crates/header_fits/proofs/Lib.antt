@@ -1,0 +1,4 @@
+pub mod Each
+pub mod Fits
+pub mod Inside
+pub mod Said

@@ -1,0 +1,5 @@
+pub mod Widths
+pub mod Search
+pub mod Named
+pub mod Joined
+pub mod Examples
