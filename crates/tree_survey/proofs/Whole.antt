@@ -17,12 +17,12 @@ use Rattle.tree_survey.specs.declared.Trees.the-variants as trees
 use Rattle.tree_survey.specs.declared.Survey.the-variants.{Counted, Broken, Negative}
 
 -- what a count of questions that succeeded says
-record Asked (r : Reading QuestionPlace) (n m e : ℕ) : Type 0 where
-  done : r .ending ≡ doneAt e
-  count : length (r .items) ≡ n
-  patterns : total patternCount (r .items) ≡ m
+pub record Asked (r : Reading QuestionPlace) (n m e : ℕ) : Type 0 where
+  pub done : r .ending ≡ doneAt e
+  pub count : length (r .items) ≡ n
+  pub patterns : total patternCount (r .items) ≡ m
 
-asked : (r : Reading QuestionPlace) (n m e : ℕ) → questions.Counted n m e ≡ questionsCounted 0 0 r → Asked r n m e
+pub asked : (r : Reading QuestionPlace) (n m e : ℕ) → questions.Counted n m e ≡ questionsCounted 0 0 r → Asked r n m e
 unfolding questionsCounted
 asked r n m e h = go (r .ending) refl h
   where
@@ -34,7 +34,7 @@ asked r n m e h = go (r .ending) refl h
         record { done = q ∙ ap doneAt (sym u); count = omega arith; patterns = omega arith }
     go (brokenAt x) q h = let u : _≡_ {A = ℕ} 0 1 = cc in absurd (omega arith)
 
-not-asked : (r : Reading QuestionPlace) (e : ℕ) → questions.Broken e ≡ questionsCounted 0 0 r → r .ending ≡ brokenAt e
+pub not-asked : (r : Reading QuestionPlace) (e : ℕ) → questions.Broken e ≡ questionsCounted 0 0 r → r .ending ≡ brokenAt e
 unfolding questionsCounted
 not-asked r e h = go (r .ending) h
   where
