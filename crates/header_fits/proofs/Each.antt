@@ -1,30 +1,14 @@
 -- The laws of `each` and `counted`, gone through from the last item that counts. Where d stands for what an array lacks, p is true of d. Assumes nothing.
 use mathlib.Core.Path.{_≡_, refl, sym, ap, _∙_}
-use mathlib.Core.Bool.{Bool, true, false, _&&_}
+use mathlib.Core.Bool.{Bool, true, false, _&&_, and-true, and-false, and-assoc}
 use mathlib.Core.List.{List, [], _∷_}
 use Prim.Native.Nat.{ℕ, zero, suc, _-_, _≤_, _<_}
 use native.Mathlib.Omega.{arith}
 use borrow.Author.Tests.{le-leb, lt-leb, leb-true}
 use lib.Dec.{leb}
 use lib.ListN.{getD}
+use Rattle.written.proofs.Tests.{both}
 use Rattle.header_fits.specs.Fits.{each, counted}
-
-and-true : (a : Bool) → (a && true) ≡ a
-and-true true = refl
-and-true false = refl
-
-and-assoc : (a b c : Bool) → (a && (b && c)) ≡ (a && b && c)
-and-assoc true b c = refl
-and-assoc false b c = refl
-
-pub and-left : (a b : Bool) → (a && b) ≡ true → a ≡ true
-and-left true b e = refl
-and-left false b e = e
-
-pub and-right : (a b : Bool) → (a && b) ≡ true → b ≡ true
-and-right true b e = e
-and-right false true e = refl
-and-right false false e = e
 
 module _ {A : Type 0} (p : A → Bool) (d : A) (e : p d ≡ true) where
   each-suc : (k : ℕ) (l : List A) → each p (suc k) l ≡ (each p k l && p (getD l k d))
@@ -32,15 +16,11 @@ module _ {A : Type 0} (p : A → Bool) (d : A) (e : p d ≡ true) where
   each-suc zero [] = sym e
   each-suc zero (x ∷ l) = and-true (p x)
   each-suc (suc k) [] = sym e
-  each-suc (suc k) (x ∷ l) = ap (λ (b : Bool). p x && b) (each-suc k l) ∙ and-assoc (p x) (each p k l) (p (getD l k d))
-
-  off : (a : Bool) → (a && false) ≡ false
-  off true = refl
-  off false = refl
+  each-suc (suc k) (x ∷ l) = ap (λ (b : Bool). p x && b) (each-suc k l) ∙ sym (and-assoc (p x) (each p k l) (p (getD l k d)))
 
   each-off : (k : ℕ) (l : List A) → 0 < k → p (getD l (k - 1) d) ≡ false → each p k l ≡ false
   each-off zero l h f = absurd (omega arith)
-  each-off (suc k) l h f = let z : suc k - 1 ≡ k = omega arith in each-suc k l ∙ ap (λ (b : Bool). each p k l && b) (rw z at f) ∙ off (each p k l)
+  each-off (suc k) l h f = let z : suc k - 1 ≡ k = omega arith in each-suc k l ∙ ap (λ (b : Bool). each p k l && b) (rw z at f) ∙ and-false (each p k l)
 
   each-on : (k : ℕ) (l : List A) → 0 < k → p (getD l (k - 1) d) ≡ true → each p k l ≡ each p (k - 1) l
   each-on zero l h f = absurd (omega arith)
@@ -62,7 +42,7 @@ module _ {A : Type 0} (m : ℕ) (p : A → Bool) (k : ℕ) (l : List A) where
 
   pub counted-limit : counted m p k l ≡ true → k ≤ m
   unfolding counted
-  counted-limit e = leb-true k m (and-left (leb k m) (each p k l) e)
+  counted-limit e = leb-true k m (both (leb k m) (each p k l) e .0)
 
 module _ {A : Type 0} {m : ℕ} {p : A → Bool} {count k : ℕ} {l : List A} (g : Left m p count l k) where
   pub left-none : k ≡ 0 → counted m p count l ≡ true

@@ -9,8 +9,9 @@ use Rattle.header.specs.Empty.{span, noSpan}
 use Rattle.header.specs.declared.Global.{Global}
 use Rattle.header.specs.declared.Header.{Header}
 use Rattle.written.specs.Record.{file-limit}
+use Rattle.written.proofs.Tests.{both}
 use Rattle.header_fits.specs.Fits.{noStream, noPosition, each, counted, spanFits, globalFits, streamFits, positionFits, recordFits}
-use Rattle.header_fits.proofs.Each.{and-left, and-right, counted-limit}
+use Rattle.header_fits.proofs.Each.{counted-limit}
 
 pub sum-leb : (a b n : ℕ) → a ≤ n → leb b (n - a) ≡ leb (a + b) n
 sum-leb a b n h = go (leb b (n - a)) refl
@@ -42,10 +43,11 @@ pub record Fits (n : ℕ) (h : Header) : Type 0 where
 
 five : (a b c d e : Bool) → (a && b && c && d && e) ≡ true → (a ≡ true) × (b ≡ true) × (c ≡ true) × (d ≡ true) × (e ≡ true)
 five a b c d e h =
-    let h₄ = and-left (a && b && c && d) e h in
-    let h₃ = and-left (a && b && c) d h₄ in
-    let h₂ = and-left (a && b) c h₃ in
-    (and-left a b h₂, and-right a b h₂, and-right (a && b) c h₃, and-right (a && b && c) d h₄, and-right (a && b && c && d) e h)
+    let h₅ = both (a && b && c && d) e h in
+    let h₄ = both (a && b && c) d (h₅ .0) in
+    let h₃ = both (a && b) c (h₄ .0) in
+    let h₂ = both a b (h₃ .0) in
+    (h₂ .0, h₂ .1, h₃ .1, h₄ .1, h₅ .1)
 
 types-limit : (n : ℕ) (g : Global) → globalFits n g ≡ true → g .«stream_type_count» ≤ 8
 unfolding globalFits
@@ -54,7 +56,7 @@ types-limit n g e =
     let front = spanFits n (g .«hts_voice_version») && spanFits n (g .«fullcontext_format») && spanFits n (g .«fullcontext_version») in
     let contexts = counted 32 (spanFits n) (g .«gv_off_context_count») (g .«gv_off_context») in
     let comment = cond (g .«has_comment») (spanFits n (g .comment)) true in
-    counted-limit 8 (spanFits n) (g .«stream_type_count») (g .«stream_type») (and-right front types (and-left (front && types) contexts (and-left (front && types && contexts) comment e)))
+    counted-limit 8 (spanFits n) (g .«stream_type_count») (g .«stream_type») (both front types (both (front && types) contexts (both (front && types && contexts) comment e .0) .0) .1)
 
 pub fits : (n : ℕ) (h : Header) → recordFits n h ≡ true → Fits n h
 unfolding recordFits spanFits

@@ -19,6 +19,7 @@ fn span_fits(n: usize, x: Span) -> bool
     x.len <= n - x.start
 }
 
+// The first `count` names of STREAM_TYPE; false too where the array has no room for so many.
 fn types_fit(n: usize, count: usize, items: [Span; 8]) -> bool
     ensures { λ r. ⌜ r ≡ counted 8 (spanFits n) count items ⌝ }
 {
@@ -36,6 +37,7 @@ fn types_fit(n: usize, count: usize, items: [Span; 8]) -> bool
     true
 }
 
+// Of OPTION.
 fn options_fit(n: usize, count: usize, items: [Span; 16]) -> bool
     ensures { λ r. ⌜ r ≡ counted 16 (spanFits n) count items ⌝ }
 {
@@ -53,6 +55,7 @@ fn options_fit(n: usize, count: usize, items: [Span; 16]) -> bool
     true
 }
 
+// Of GV_OFF_CONTEXT.
 fn contexts_fit(n: usize, count: usize, items: [Span; 32]) -> bool
     ensures { λ r. ⌜ r ≡ counted 32 (spanFits n) count items ⌝ }
 {

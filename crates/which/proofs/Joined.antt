@@ -1,6 +1,7 @@
--- What is found is the last entry of its name, and what is answered of a stream's number is what the entries of its name make. Assumes nothing.
+-- What is found is the last entry of its name, what is answered of a stream's number is what the entries of its name make, and the model chosen is the one
+-- choice that there is. Assumes nothing.
 use mathlib.Core.Path.{_≡_, refl, sym, ap, ap₂, _∙_, subst}
-use mathlib.Core.Bool.{true, true≢false}
+use mathlib.Core.Bool.{Bool, true, false, cond, true≢false}
 use mathlib.Core.List.{List}
 use mathlib.Core.Logic.{_⊎_, inl, inr}
 use Prim.Native.Nat.{ℕ, _≤_, _<_}
@@ -25,9 +26,13 @@ use Rattle.search.specs.declared.Found.the-variants.{At, Nothing}
 use Rattle.search.proofs.Ids.{same-true, true-same}
 use Rattle.link.proofs.Joined.{last-found, last-missing}
 use Rattle.sorting.proofs.Order.{le-or-lt}
-use Rattle.which.specs.Chosen.{positionNamed, streamNamed, numbered}
-use Rattle.which.specs.Entries.{LastNamed, Unnamed, positionName, streamName, typeName, Numbered, no-number, no-position, no-stream, entries, Arrays}
+use Rattle.which.specs.Chosen.{positionNamed, streamNamed, streamModel, gvModel, numbered, asked, chosenOf}
+use Rattle.which.specs.Entries.{LastNamed, Unnamed, positionName, streamName, typeName, Numbered, no-number, no-position, no-stream, entries, Arrays, Choice, unfit, duration, stream, gv}
+use Rattle.error.specs.declared.Refusal.the-variants as refusal
+use Rattle.which.specs.declared.Which.{Which}
+use Rattle.which.specs.declared.Which.the-variants.{Duration, Stream, Gv}
 use Rattle.which.specs.declared.Chosen.{Chosen}
+use Rattle.which.specs.declared.Chosen.the-variants.{Refused}
 use Rattle.which.proofs.Named as named
 
 -- ---- a search among the first n of l, where d stands for what l lacks
@@ -124,3 +129,27 @@ numbered-once (entries l p d) (no-number m) = absurd (omega arith)
 numbered-once (entries l p d) (no-position m v) = absurd (named-never p v)
 numbered-once (entries l p d) (no-stream m q v) = absurd (named-never d v)
 numbered-once {make = make} (entries l p d) (entries m q e) = ap₂ make (named-once d e) (named-once p q)
+
+-- ---- the model asked for
+
+pub chosen-so : (s : List ℕ) (h : Header) → Arrays h → (w : Which) → Choice s h w (chosenOf s h w)
+unfolding chosenOf
+chosen-so s h a w = go (recordFits (length s) h) refl w
+  where
+    go : (b : Bool) → recordFits (length s) h ≡ b → (w : Which) → Choice s h w (cond b (asked s h w) (Refused refusal.Range))
+    go false e w = unfit e
+    go true e Duration = duration e
+    go true e (Stream i) = stream e (numbered-so streamModel s h a e i)
+    go true e (Gv i) = gv e (numbered-so gvModel s h a e i)
+
+pub chosen-once : {s : List ℕ} {h : Header} {w : Which} {a b : Chosen} → Choice s h w a → Choice s h w b → a ≡ b
+chosen-once (unfit e) (unfit f) = refl
+chosen-once (unfit e) (duration f) = absurd (true≢false (sym f ∙ e))
+chosen-once (unfit e) (stream f n) = absurd (true≢false (sym f ∙ e))
+chosen-once (unfit e) (gv f n) = absurd (true≢false (sym f ∙ e))
+chosen-once (duration e) (unfit f) = absurd (true≢false (sym e ∙ f))
+chosen-once (duration e) (duration f) = refl
+chosen-once (stream e m) (unfit f) = absurd (true≢false (sym e ∙ f))
+chosen-once (stream e m) (stream f n) = numbered-once m n
+chosen-once (gv e m) (unfit f) = absurd (true≢false (sym e ∙ f))
+chosen-once (gv e m) (gv f n) = numbered-once m n

@@ -1,6 +1,6 @@
 -- The laws of widths and ranges: a product up to its limit without wrapping, a model of a width, and a range in the data. Assumes nothing.
 use mathlib.Core.Path.{_≡_, refl, ap, _∙_}
-use mathlib.Core.Bool.{Bool, true, false, cond, _&&_}
+use mathlib.Core.Bool.{Bool, true, false, and-false}
 use Prim.Native.Nat.{ℕ, _+_, _*_, _≤_, _<_, min}
 use native.Mathlib.Nat.{zero-mul, mul-zero, mul-comm, mul-le-mul, le-mul-of-pos-right}
 use native.Mathlib.Omega.{arith}
@@ -59,11 +59,7 @@ module _ (a b n : ℕ) where
 
   pub ends-behind : n ≤ b → Outside ≡ withinOf a b n
   unfolding withinOf
-  ends-behind h = let k : n < b + 1 = omega arith in rw (lt-leb (b + 1) n k) (off (leb a (b + 1)))
-    where
-      off : (t : Bool) → Outside ≡ cond (t && false) (Inside a (b + 1)) Outside
-      off true = refl
-      off false = refl
+  ends-behind h = let k : n < b + 1 = omega arith in rw (lt-leb (b + 1) n k, and-false (leb a (b + 1)))
 
   pub stands-inside : a ≤ b + 1 → b < n → Inside a (b + 1) ≡ withinOf a b n
   unfolding withinOf

@@ -1,8 +1,9 @@
 -- The entries of a stream's name, without a search (01's 13 and 14; docs/DECISIONS.md, 'The record'): of the groups that count, the last one whose name has
--- the same bytes. proofs/Joined shows that `numbered` answers so. Assumes nothing.
+-- the same bytes; and the choice of a model by them. proofs/Joined shows that `chosenOf` answers so, and nothing else. Assumes nothing.
 use mathlib.Core.Path.{_≡_}
+use mathlib.Core.Bool.{true, false}
 use mathlib.Core.List.{List}
-use Prim.Native.Nat.{ℕ, _≤_, _<_}
+use Prim.Native.Nat.{ℕ, _*_, _≤_, _<_}
 use lib.ListN.{length, getD, take}
 use Rattle.written.specs.Linking.{Nth, Last}
 use Rattle.error.specs.declared.Refusal.the-variants as refusal
@@ -12,6 +13,10 @@ use Rattle.header.specs.declared.StreamData.{StreamData}
 use Rattle.header.specs.declared.PositionData.{PositionData}
 use Rattle.header.specs.declared.Header.{Header}
 use Rattle.groups.specs.Rows.{bytesOf}
+use Rattle.header_fits.specs.Fits.{recordFits}
+use Rattle.which.specs.Chosen.{modelOf, streamModel, gvModel}
+use Rattle.which.specs.declared.Which.{Which}
+use Rattle.which.specs.declared.Which.the-variants.{Duration, Stream, Gv}
 use Rattle.which.specs.declared.Chosen.{Chosen}
 use Rattle.which.specs.declared.Chosen.the-variants.{Refused}
 
@@ -55,3 +60,10 @@ pub data Numbered (make : StreamData → PositionData → Chosen) (s : List ℕ)
 pub record Arrays (h : Header) : Type 0 where
   pub streams : length (h .streams) ≡ 8
   pub positions : length (h .positions) ≡ 8
+
+-- the model asked for, or the refusal
+pub data Choice (s : List ℕ) (h : Header) : Which → Chosen → Type 0 where
+  unfit : {w : Which} → recordFits (length s) h ≡ false → Choice s h w (Refused refusal.Range)
+  duration : recordFits (length s) h ≡ true → Choice s h Duration (modelOf (h .«duration_tree») (h .«duration_pdf») (2 * h .global .«num_states»))
+  stream : {i : ℕ} {c : Chosen} → recordFits (length s) h ≡ true → Numbered streamModel s h i c → Choice s h (Stream i) c
+  gv : {i : ℕ} {c : Chosen} → recordFits (length s) h ≡ true → Numbered gvModel s h i c → Choice s h (Gv i) c
