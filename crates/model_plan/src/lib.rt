@@ -116,7 +116,7 @@ fn plan_entries(s: &[u8], plan: Plan) -> Planned
 
 // The model of a text that was read, with its block in a range of the data (16).
 fn plan_block(
-    data: &[u8],
+    d: &[u8],
     at: usize,
     end: usize,
     text: Text,
@@ -124,7 +124,7 @@ fn plan_block(
     pdf_to: u64,
     width: u64,
 ) -> Planned
-    ensures { λ r. ⌜ r ≡ blockOf (now (data .entry)) at end text pdf_from pdf_to width ⌝ }
+    ensures { λ r. ⌜ r ≡ blockOf (now (d .entry)) at end text pdf_from pdf_to width ⌝ }
 {
     match text {
         Text::Refused(refusal) => Planned::Refused(refusal),
@@ -135,7 +135,7 @@ fn plan_block(
             trees,
             records,
             lines,
-        } => match within(pdf_from, pdf_to, data.len()) {
+        } => match within(pdf_from, pdf_to, d.len()) {
             Bounds::Outside => Planned::Refused(Refusal::Range),
             Bounds::Inside {
                 start: block,
@@ -155,7 +155,7 @@ fn plan_block(
                     width,
                     entries: 0,
                 };
-                plan_entries(up_to(data, block_end), plan)
+                plan_entries(up_to(d, block_end), plan)
             }
         },
     }
@@ -163,22 +163,22 @@ fn plan_block(
 
 // The model whose tree text (16) and block stand in ranges of the data.
 fn plan_model(
-    data: &[u8],
+    d: &[u8],
     tree_from: u64,
     tree_to: u64,
     pdf_from: u64,
     pdf_to: u64,
     width: u64,
 ) -> Planned
-    ensures { λ r. ⌜ r ≡ planOf (now (data .entry)) tree_from tree_to pdf_from pdf_to width ⌝ }
+    ensures { λ r. ⌜ r ≡ planOf (now (d .entry)) tree_from tree_to pdf_from pdf_to width ⌝ }
 {
-    match within(tree_from, tree_to, data.len()) {
+    match within(tree_from, tree_to, d.len()) {
         Bounds::Outside => Planned::Refused(Refusal::Range),
         Bounds::Inside { start, end } => plan_block(
-            data,
+            d,
             start,
             end,
-            read_text(up_to(data, end), start),
+            read_text(up_to(d, end), start),
             pdf_from,
             pdf_to,
             width,
