@@ -124,7 +124,7 @@ fn plan_block(
     pdf_to: u64,
     width: u64,
 ) -> Planned
-    ensures { λ r. ⌜ r ≡ blockOf (now (d .entry)) at end text pdf_from pdf_to width ⌝ }
+    ensures { λ r. ⌜ r ≡ blockOf (now (d .entry)) at end text «pdf_from» «pdf_to» width ⌝ }
 {
     match text {
         Text::Refused(refusal) => Planned::Refused(refusal),
@@ -170,7 +170,7 @@ fn plan_model(
     pdf_to: u64,
     width: u64,
 ) -> Planned
-    ensures { λ r. ⌜ r ≡ planOf (now (d .entry)) tree_from tree_to pdf_from pdf_to width ⌝ }
+    ensures { λ r. ⌜ r ≡ planOf (now (d .entry)) «tree_from» «tree_to» «pdf_from» «pdf_to» width ⌝ }
 {
     match within(tree_from, tree_to, d.len()) {
         Bounds::Outside => Planned::Refused(Refusal::Range),

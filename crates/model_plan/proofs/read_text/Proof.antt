@@ -1,3 +1,7 @@
+-- `model_plan::read_text`: the survey of the questions, then of the trees. Assumes nothing.
+use mathlib.Core.Path.{sym, _∙_}
+use Rattle.tree_survey.proofs.Whole.{no-questions, no-trees, a-negative, counted}
+use Rattle.model_plan.proofs.Laws.{text-read, text-state, text-broken, text-none}
 use borrow.Author.Needs.{needs}
 use Rattle.model_plan.proofs.read_text.Statement.{statement}
 use Rattle.model_plan.proofs.read_text.Tie as tie
@@ -6,45 +10,35 @@ use Rattle.model_plan.proofs.read_text.Lts as lts
 use Rattle.question_survey.proofs.survey_questions.Reads as survey-questions-reads
 use Rattle.tree_survey.proofs.survey_trees.Reads as survey-trees-reads
 
--- src/lib.rt:61:11
 survey-questions-requires : tie.Need-survey-questions-requires
 survey-questions-requires c κs = search needs
 
--- src/lib.rt:63:13
 enum-known-questions : tie.Need-enum-known-questions
 enum-known-questions c = search needs
 
--- src/lib.rt:66:20
 survey-trees-requires : tie.Need-survey-trees-requires
 survey-trees-requires c κs = search needs
 
--- src/lib.rt:68:17
 enum-known-negative : tie.Need-enum-known-negative
 enum-known-negative c = search needs
 
--- src/lib.rt:74:21
 returns : tie.Need-returns
-returns c = ?
+returns c = let q = (sym (c .before .before .before .before .before .before .questions .given .1) ∙ c .before .before .before .before .before .before .before .before .survey-questions .ensures) in text-state _ _ q (a-negative _ _ q (sym (c .before .before .negative .given .1) ∙ c .before .before .before .before .survey-trees .ensures) (c .if1 .taken))
 
--- src/lib.rt:85:47
 enum-told : tie.Need-enum-told
 enum-told c = search needs
 
--- src/lib.rt:87:47
 enum-told-2 : tie.Need-enum-told-2
 enum-told-2 c = search needs
 
--- src/lib.rt:58:1
 returns-2 : tie.Need-returns-2
-returns-2 c = ?
+returns-2 c = let q = (sym (c .before .before .before .before .before .before .questions .given .1) ∙ c .before .before .before .before .before .before .before .before .survey-questions .ensures) in text-read _ _ q (counted _ _ q (sym (c .before .before .negative .given .1) ∙ c .before .before .before .before .survey-trees .ensures) (c .if1 .left))
 
--- src/lib.rt:58:1
 returns-3 : tie.Need-returns-3
-returns-3 c = ?
+returns-3 c = let q = sym (c .before .before .before .before .questions .given .1) ∙ c .before .before .before .before .before .before .survey-questions .ensures in text-broken _ _ q (no-trees _ _ q (sym (c .enum-told .given .1) ∙ c .before .before .survey-trees .ensures))
 
--- src/lib.rt:58:1
 returns-4 : tie.Need-returns-4
-returns-4 c = ?
+returns-4 c = let q = sym (c .enum-told2 .given .1) ∙ c .before .before .survey-questions .ensures in text-none _ _ q (no-questions _ _ q)
 
 pub read-text-spec : {M : Type 1} → statement M
 read-text-spec =
