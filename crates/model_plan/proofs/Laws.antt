@@ -1,10 +1,13 @@
 -- Each way through the stages; and what a plan says of the text and of the block. Assumes nothing.
 use mathlib.Core.Path.{_≡_, refl, sym, ap, ap₂, _∙_, subst}
-use mathlib.Core.Bool.{Bool, true, false, cond}
+use mathlib.Core.Bool.{Bool, true, false, cond, _&&_}
 use mathlib.Core.List.{List}
-use Prim.Native.Nat.{ℕ}
+use Prim.Native.Nat.{ℕ, _+_, _≤_}
 use native.Mathlib.Omega.{arith}
+use lib.Dec.{leb}
 use lib.ListN.{length, take}
+use lib.Seq.{length-take-le}
+use borrow.Author.Tests.{leb-true}
 use Rattle.laws.specs.Steps.{Ending, doneAt, brokenAt}
 use Rattle.laws.specs.Totals.{total, largest, anyOf}
 use Rattle.error.specs.declared.Refusal.the-variants as refusal
@@ -34,7 +37,7 @@ use Rattle.which.specs.declared.Bounds.the-variants as bounds
 use Rattle.model_plan.specs.declared.Plan.{Plan}
 use Rattle.model_plan.specs.declared.Planned.{Planned}
 use Rattle.model_plan.specs.declared.Planned.the-variants.{Model, Refused}
-use Rattle.model_plan.specs.Plans.{placed, textOf, withEntries, entriesFor, entriesOf, planFor, blockIn, blockOf, planIn, planOf, dataOf, plannedFor, planned}
+use Rattle.model_plan.specs.Plans.{placed, textOf, Sound, withEntries, entriesFor, entriesOf, planFor, blockIn, blockOf, planIn, planOf, dataOf, plannedFor, planned}
 
 module _ (s : List ℕ) (i : ℕ) where
   module _ {q p f : ℕ} (h : questions.Counted q p f ≡ questionsCounted 0 0 (questionsAt s i)) where
@@ -145,9 +148,17 @@ module _ (s : List ℕ) (h : Header) (which : Which) where
 
 -- ---- what is known of a plan, in the data d
 
-pub record Sound (d : List ℕ) (p : Plan) : Type 0 where
-  pub text : text.Read (p .first) (p .questions) (p .patterns) (p .trees) (p .records) (p .lines) ≡ textOf (take (p .«text_end») d) (p .text)
-  pub block : blockAt (p .trees) (p .width) (take (p .«block_end») d) (p .block) ≡ block.Fits (p .entries)
+within-in : (x y n : ℕ) {b c : ℕ} → bounds.Inside b c ≡ withinOf x y n → (b ≤ c) × (c ≤ n)
+unfolding withinOf
+within-in x y n {b} {c} h = go (leb x (y + 1)) refl (leb (y + 1) n) refl h
+  where
+    go : (l : Bool) → leb x (y + 1) ≡ l → (m : Bool) → leb (y + 1) n ≡ m → bounds.Inside b c ≡ cond (l && m) (bounds.Inside x (y + 1)) bounds.Outside → (b ≤ c) × (c ≤ n)
+    go true e true k h =
+        let u : b ≡ x = cc in
+        let v : c ≡ y + 1 = cc in
+        (omega (arith, leb-true x (y + 1) e), omega (arith, leb-true (y + 1) n k))
+    go true e false k h = let z : _≡_ {A = ℕ} 0 1 = cc in absurd (omega arith)
+    go false e m k h = let z : _≡_ {A = ℕ} 0 1 = cc in absurd (omega arith)
 
 module _ (d : List ℕ) (p : Plan) where
   entries-sound : (z : List ℕ) (o : Plan) → Model p ≡ entriesOf z o → (p ≡ withEntries o (p .entries)) × (blockAt (o .trees) (o .width) z (o .block) ≡ block.Fits (p .entries))
@@ -164,15 +175,16 @@ module _ (d : List ℕ) (p : Plan) where
   unfolding planOf
   plan-sound u v x y w h = go (withinOf u v (length d)) h
     where
-      in-block : (a e f q r n m l : ℕ) → text.Read f q r n m l ≡ textOf (take e d) a → (b : Bounds) → Model p ≡ blockIn d a e f q r n m l w b → Sound d p
-      in-block a e f q r n m l t bounds.Outside h = let z : _≡_ {A = ℕ} 0 1 = cc in absurd (omega arith)
-      in-block a e f q r n m l t (bounds.Inside b c) h =
+      in-block : (a e f q r n m l : ℕ) → text.Read f q r n m l ≡ textOf (take e d) a → (b : Bounds) → b ≡ withinOf x y (length d) → Model p ≡ blockIn d a e f q r n m l w b → Sound d p
+      in-block a e f q r n m l t bounds.Outside k h = let z : _≡_ {A = ℕ} 0 1 = cc in absurd (omega arith)
+      in-block a e f q r n m l t (bounds.Inside b c) k h =
+          let i = within-in x y (length d) k in
           let z = entries-sound (take c d) (planFor a e f q r n m l w b c) h in
-          subst (Sound d) (sym (z .0)) (record { text = t; block = z .1 })
+          subst (Sound d) (sym (z .0)) (record { text = t; begins = omega (arith, i .0, i .1, length-take-le c d (i .1)); block = z .1 })
 
       in-text : (a e : ℕ) (t : Text) → t ≡ textOf (take e d) a → Model p ≡ blockOf d a e t x y w → Sound d p
       in-text a e (text.Refused r) k h = let z : _≡_ {A = ℕ} 0 1 = cc in absurd (omega arith)
-      in-text a e (text.Read f q r n m l) k h = in-block a e f q r n m l k (withinOf x y (length d)) h
+      in-text a e (text.Read f q r n m l) k h = in-block a e f q r n m l k (withinOf x y (length d)) refl h
 
       go : (b : Bounds) → Model p ≡ planIn d x y w b → Sound d p
       go bounds.Outside h = let z : _≡_ {A = ℕ} 0 1 = cc in absurd (omega arith)

@@ -1,7 +1,8 @@
 -- What a model needs, stage by stage in 01's order: which model; its tree text in its range (16), in the grammar (17), no state negative (18); its block in its
 -- range (16) and used up (19). Assumes nothing.
+use mathlib.Core.Path.{_≡_}
 use mathlib.Core.List.{List}
-use Prim.Native.Nat.{ℕ}
+use Prim.Native.Nat.{ℕ, _≤_}
 use lib.ListN.{length, take}
 use Rattle.written.specs.Bytes.{part}
 use Rattle.laws.specs.Steps.{Ending, doneAt, brokenAt}
@@ -109,3 +110,10 @@ plannedFor d (chosen.Refused r) = Refused r
 
 unfoldable pub planned : List ℕ → Header → Which → Planned
 planned s h w = plannedFor (dataOf s h) (chosenOf s h w)
+
+-- ---- what a plan in the data d says
+
+pub record Sound (d : List ℕ) (p : Plan) : Type 0 where
+  pub text : text.Read (p .first) (p .questions) (p .patterns) (p .trees) (p .records) (p .lines) ≡ textOf (take (p .«text_end») d) (p .text)
+  pub begins : p .block ≤ length (take (p .«block_end») d)
+  pub block : blockAt (p .trees) (p .width) (take (p .«block_end») d) (p .block) ≡ block.Fits (p .entries)
