@@ -1,3 +1,5 @@
 pub mod Keys
 pub mod Lines
 pub mod Reading
+pub mod Names
+pub mod Collected

@@ -29,7 +29,7 @@ use Rattle.header_lines.specs.Lines.{Next, entry, end, wrong, entryOf, stoodAt,
 use Rattle.header_lines.proofs.Marks.{Marks, marks-none, stood-repeats, new-repeats, marks-more}
 use Rattle.header_lines.proofs.Kept.{Kinded, OfKind, reads-kind}
 use Rattle.header_lines.proofs.Going.{kept-more}
-use Rattle.groups.specs.Rows.{bytesOf, fieldName, rowLineAt, Going, on, stop-with, over}
+use Rattle.groups.specs.Rows.{bytesOf, fieldName, rowLineAt, Going, on, stop-with, overNext, over}
 use Rattle.groups.specs.declared.Row.{Row}
 use Rattle.groups.proofs.Rows.{over-on, over-stop, over-none}
 use Rattle.grouped.specs.Said.{rowSaid}
@@ -160,6 +160,38 @@ module _ (T : List Field) {s : List ℕ} (bytes : Bytes s) where
             → GroupAnswers d (before ++ cond t (rowSaid s r ∷ rest) rest) (over step g (r ∷ rs))
         go true e rec = here (rowLineAt T (seen g) s r) refl (row-sound (k .entries) (k .marks) r a) (stepped true e) rec
         go false e rec = subst (GroupAnswers d (before ++ rest)) (sym (over-on step g r rs (stepped false e))) (rec before g k)
+
+    -- ---- the marks alone say whether reading stops
+
+    pub data Alike : Going G → Going G → Type 0 where
+      both-on : {g h : G} → seen g ≡ seen h → Alike (on g) (on h)
+      both-stop : (q : Refusal) → Alike (stop-with q) (stop-with q)
+
+    pub alike : (after-end : (g : G) → after g end ≡ on g) (rs : List Row) (g h : G) → seen g ≡ seen h → Alike (over step g rs) (over step h rs)
+    unfolding over
+    alike after-end [] g h e = both-on e
+    alike after-end (r ∷ rs) g h e = go (same (bytesOf s (r .name)) w) refl (λ a b f. alike after-end rs a b f)
+      where
+        both : (n : Next) → ((a b : G) → seen a ≡ seen b → Alike (over step a rs) (over step b rs)) → Alike (overNext (λ a. over step a rs) (after g n)) (overNext (λ a. over step a rs) (after h n))
+        both (entry x j) rec =
+            rw (after-entry g x j, after-entry h x j)
+            (rec (made (marked (length T) (seen g) (fieldIndex T (x .name))) (with (item g) x)) (made (marked (length T) (seen h) (fieldIndex T (x .name))) (with (item h) x))
+            (seen-made _ _ ∙ ap (λ (m : List Bool). marked (length T) m (fieldIndex T (x .name))) e ∙ sym (seen-made _ _)))
+        both end rec = rw (after-end g, after-end h) (rec g h e)
+        both (wrong q) rec = rw (after-wrong g q, after-wrong h q) (both-stop q)
+
+        turn : (t : Bool) → ((a b : G) → seen a ≡ seen b → Alike (over step a rs) (over step b rs))
+            → Alike (overNext (λ a. over step a rs) (cond t (after g (rowLineAt T (seen h) s r)) (on g))) (overNext (λ a. over step a rs) (cond t (after h (rowLineAt T (seen h) s r)) (on h)))
+        turn true rec = both (rowLineAt T (seen h) s r) rec
+        turn false rec = rec g h e
+
+        go : (t : Bool) → same (bytesOf s (r .name)) w ≡ t → ((a b : G) → seen a ≡ seen b → Alike (over step a rs) (over step b rs))
+            → Alike (overNext (λ a. over step a rs) (step g r)) (overNext (λ a. over step a rs) (step h r))
+        go t f rec =
+            let p : step g r ≡ cond t (after g (rowLineAt T (seen h) s r)) (on g) = steps g r ∙ ap₂ (λ (u : Bool) (m : List Bool). cond u (after g (rowLineAt T m s r)) (on g)) f e in
+            let q : step h r ≡ cond t (after h (rowLineAt T (seen h) s r)) (on h) = steps h r ∙ ap (λ (u : Bool). cond u (after h (rowLineAt T (seen h) s r)) (on h)) f in
+            subst (λ (x : Going G). Alike (overNext (λ a. over step a rs) x) (overNext (λ a. over step a rs) (step h r))) (sym p)
+            (subst (λ (x : Going G). Alike (overNext (λ a. over step a rs) (cond t (after g (rowLineAt T (seen h) s r)) (on g))) (overNext (λ a. over step a rs) x)) (sym q) (turn t rec))
 
     -- all rows of the group
     pub group-sound : length T ≤ 10 → (d : D) (rs : List Row) → All (Standing s) rs → GroupAnswers d (ofGroup w (map (rowSaid s) rs)) (over step (made unseen d) rs)
