@@ -42,16 +42,30 @@ map-more : {A B : Type 0} (f : A → B) (l : List A) (a : A) → map f (l ++ (a 
 map-more f [] a = refl
 map-more f (b ∷ l) a = ap (λ (m : List _). f b ∷ m) (map-more f l a)
 
+-- ---- the group of a row, in the rows `whole` of a section
+
+abbrev pub groupFor : List ℕ → List Row → Row → Group
+groupFor s whole r = record { name = nameOf (rowSaid s r); rows = ofGroup (bytesOf s (r .name)) (map (rowSaid s) whole) }
+
+module _ {D E : Type 0} (name : E → written.Span) (made : E → D) (T : List Field) (Say : Group → List Entry → E → Type 0) (s : List ℕ) (whole : List Row) (verdictOf : Span → Verdict) (itemOf : Span → D) where
+  pub data OneGroup (r : Row) : Type 0 where
+    one-said : (e : E) → verdictOf (r .name) ≡ verdict.Accepted → itemOf (r .name) ≡ made e → name e ≡ spanSaid (r .name) → GroupSays T Say s (groupFor s whole r) e → OneGroup r
+    one-faulty : (q : Refusal) → verdictOf (r .name) ≡ verdict.Refused q → NoGroup T s (groupFor s whole r .rows) (error.numberOf q) (error.placeOf q) → OneGroup r
+
 -- ---- a struct x with the names and the items of its groups, the first eight; es are the groups of `written` that it has
 
-module _ {X D E : Type 0} (names : X → Names) (items : X → List D) (nameIn : D → Span) (name : E → written.Span) (made : E → D) (empty : D) where
+module _ {X D E : Type 0} (names : X → Names) (items : X → List D) (name : E → written.Span) (made : E → D) (empty : D) where
   pub record Holds (x : X) (es : List E) : Type 0 where
     pub named : names x .items ≡ filled 8 noSpan (map (λ e. spanOf (name e)) es)
     pub few : length es ≤ 8 → names x .count ≡ length es
     pub many : 8 < length es → names x .count ≡ 9
     pub stored : items x ≡ filled 8 empty (map made es)
 
-  module _ (with : X → D → X) (names-with : (x : X) (d : D) → names (with x d) ≡ namesWith (names x) (nameIn d))
+  pub data GroupsAnswer (T : List Field) (Say : Group → List Entry → E → Type 0) (s : List ℕ) (es : List E) (rs : List Row) : Going X → Type 0 where
+    all-said : {x : X} {gs : List Group} (fs : List E) → Grouped (unknown (map (λ e. part s (name e .start) (name e .len)) es) (map (rowSaid s) rs)) gs → Pointwise (GroupSays T Say s) gs fs → Holds x (es ++ fs) → GroupsAnswer T Say s es rs (on x)
+    first-faulty : {q : Refusal} {gs : List Group} → Grouped (unknown (map (λ e. part s (name e .start) (name e .len)) es) (map (rowSaid s) rs)) gs → NoGroups T s gs (error.numberOf q) (error.placeOf q) → GroupsAnswer T Say s es rs (stop-with q)
+
+  module _ (nameIn : D → Span) (with : X → D → X) (names-with : (x : X) (d : D) → names (with x d) ≡ namesWith (names x) (nameIn d))
       (items-with : (x : X) (d : D) → items (with x d) ≡ cond (ltb (names x .count) 8) (set (items x) (names x .count) d) (items x)) (name-made : (e : E) → nameIn (made e) ≡ spanOf (name e)) where
     count-past : {x : X} {es : List E} → Holds x es → 8 ≤ length es → 8 ≤ names x .count
     count-past {x} {es} h l = go (decLt 8 (length es))
@@ -110,22 +124,10 @@ module _ {X D E : Type 0} (names : X → Names) (items : X → List D) (nameIn :
       abbrev said : List Row → List says.Row
       said rs = map (rowSaid s) rs
 
-      -- the group of a row
-      abbrev groupFor : Row → Group
-      groupFor r = record { name = nameOf (rowSaid s r); rows = ofGroup (bytesOf s (r .name)) (said whole) }
-
-      pub data OneGroup (r : Row) : Type 0 where
-        one-said : (e : E) → verdictOf (r .name) ≡ verdict.Accepted → itemOf (r .name) ≡ made e → name e ≡ spanSaid (r .name) → GroupSays T Say s (groupFor r) e → OneGroup r
-        one-faulty : (q : Refusal) → verdictOf (r .name) ≡ verdict.Refused q → NoGroup T s (groupFor r .rows) (error.numberOf q) (error.placeOf q) → OneGroup r
-
       abbrev namesOf : List E → List (List ℕ)
       namesOf es = map (λ e. part s (name e .start) (name e .len)) es
 
-      pub data GroupsAnswer (es : List E) (rs : List Row) : Going X → Type 0 where
-        all-said : {x : X} {gs : List Group} (fs : List E) → Grouped (unknown (namesOf es) (said rs)) gs → Pointwise (GroupSays T Say s) gs fs → Holds x (es ++ fs) → GroupsAnswer es rs (on x)
-        first-faulty : {q : Refusal} {gs : List Group} → Grouped (unknown (namesOf es) (said rs)) gs → NoGroups T s gs (error.numberOf q) (error.placeOf q) → GroupsAnswer es rs (stop-with q)
-
-      module _ (one-group : (r : Row) → Standing s r → OneGroup r) (alike : (x y : Span) → bytesOf s x ≡ bytesOf s y → verdictOf x ≡ verdictOf y)
+      module _ (one-group : (r : Row) → Standing s r → OneGroup name made T Say s whole verdictOf itemOf r) (alike : (x y : Span) → bytesOf s x ≡ bytesOf s y → verdictOf x ≡ verdictOf y)
           (step : X → Row → Going X) (after : X → Verdict → D → Going X)
           (after-accepted : (x : X) (d : D) → after x verdict.Accepted d ≡ on (with x d)) (after-refused : (x : X) (d : D) (q : Refusal) → after x (verdict.Refused q) d ≡ stop-with q)
           (steps : (x : X) (r : Row) → step x r ≡ cond (knownIn s (names x .items) (names x .count) (bytesOf s (r .name))) (on x) (after x (verdictOf (r .name)) (itemOf (r .name)))) where
@@ -148,7 +150,7 @@ module _ {X D E : Type 0} (names : X → Names) (items : X → List D) (nameIn :
         Before es rs = (w : List ℕ) → known (namesOf es) w ≡ false → ofGroup w (said whole) ≡ ofGroup w (said rs)
 
         -- a row of a known group
-        known-on : (es : List E) (r : Row) (rs : List Row) {z : Going X} → known (namesOf es) (bytesOf s (r .name)) ≡ true → GroupsAnswer es rs z → GroupsAnswer es (r ∷ rs) z
+        known-on : (es : List E) (r : Row) (rs : List Row) {z : Going X} → known (namesOf es) (bytesOf s (r .name)) ≡ true → GroupsAnswer T Say s es rs z → GroupsAnswer T Say s es (r ∷ rs) z
         unfolding rowSaid
         known-on es r rs e (all-said {gs = gs} fs g p k) = all-said fs (subst (λ (l : List says.Row). Grouped l gs) (sym (unknown-past (namesOf es) (rowSaid s r) (said rs) e)) g) p k
         known-on es r rs e (first-faulty {gs = gs} g n) = first-faulty (subst (λ (l : List says.Row). Grouped l gs) (sym (unknown-past (namesOf es) (rowSaid s r) (said rs) e)) g) n
@@ -162,7 +164,7 @@ module _ {X D E : Type 0} (names : X → Names) (items : X → List D) (nameIn :
           abbrev group-name : List ℕ
           group-name = bytesOf s (r .name)
 
-          grouped-row : {gs : List Group} → Grouped (unknown (namesOf es ++ (group-name ∷ [])) (said rs)) gs → Grouped (unknown (namesOf es) (said (r ∷ rs))) (groupFor r ∷ gs)
+          grouped-row : {gs : List Group} → Grouped (unknown (namesOf es ++ (group-name ∷ [])) (said rs)) gs → Grouped (unknown (namesOf es) (said (r ∷ rs))) (groupFor s whole r ∷ gs)
           unfolding rowSaid
           grouped-row g = grouped-new (namesOf es) (rowSaid s r) (said rs) (said whole) e (bf group-name e) g
 
@@ -179,12 +181,12 @@ module _ {X D E : Type 0} (names : X → Names) (items : X → List D) (nameIn :
                 let g : known (namesOf es ++ (group-name ∷ [])) v ≡ false = ap (λ (K : List (List ℕ)). known K v) (sym names-so) ∙ f in
                 bf v (known-fewer (namesOf es) group-name v g) ∙ of-group-past v (namesOf es ++ (group-name ∷ [])) (rowSaid s r) (said rs) (known-last (namesOf es) group-name) g
 
-            new-on : GroupSays T Say s (groupFor r) d → {z : Going X} → GroupsAnswer (es ++ (d ∷ [])) rs z → GroupsAnswer es (r ∷ rs) z
+            new-on : GroupSays T Say s (groupFor s whole r) d → {z : Going X} → GroupsAnswer T Say s (es ++ (d ∷ [])) rs z → GroupsAnswer T Say s es (r ∷ rs) z
             new-on y (all-said {x = x} {gs = gs} fs g p k) =
                 all-said (d ∷ fs) (grouped-row (subst (λ (K : List (List ℕ)). Grouped (unknown K (said rs)) gs) names-so g)) (more y p) (subst (Holds x) (append-assoc es (d ∷ []) fs) k)
             new-on y (first-faulty {gs = gs} g k) =
                 first-faulty (grouped-row (subst (λ (K : List (List ℕ)). Grouped (unknown K (said rs)) gs) names-so g))
-                (NoGroups.later (record { xs = y .xs; entries = y .entries; whole = complete (groupFor r) (y .xs) d (y .says) }) k)
+                (NoGroups.later (record { xs = y .xs; entries = y .entries; whole = complete (groupFor s whole r) (y .xs) d (y .says) }) k)
 
         module _ (x : X) (es : List E) (h : Holds x es) where
           known-holds : (w : List ℕ) → knownIn s (names x .items) (names x .count) w ≡ true → known (namesOf es) w ≡ true
@@ -203,38 +205,38 @@ module _ {X D E : Type 0} (names : X → Names) (items : X → List D) (nameIn :
         unfolding unknown
         no-groups es = Grouped.end
 
-        collected : (x : X) (es : List E) → Holds x es → All Accepted es → (rs : List Row) → All (Standing s) rs → Before es rs → GroupsAnswer es rs (over step x rs)
-        collected x es h acc [] st bf = subst (GroupsAnswer es []) (sym (over-none step x)) (all-said [] (no-groups es) none (subst (Holds x) (sym (append-nil es)) h))
+        collected : (x : X) (es : List E) → Holds x es → All Accepted es → (rs : List Row) → All (Standing s) rs → Before es rs → GroupsAnswer T Say s es rs (over step x rs)
+        collected x es h acc [] st bf = subst (GroupsAnswer T Say s es []) (sym (over-none step x)) (all-said [] (no-groups es) none (subst (Holds x) (sym (append-nil es)) h))
         collected x es h acc (r ∷ rs) (next a st) bf = go (known (namesOf es) w) refl (knownIn s (names x .items) (names x .count) w) refl (λ y fs p q f. collected y fs p q rs st f)
           where
             w : List ℕ
             w = bytesOf s (r .name)
 
             again : known (namesOf es) w ≡ true → knownIn s (names x .items) (names x .count) w ≡ false → Dec (8 < length es)
-                → ((y : X) (fs : List E) → Holds y fs → All Accepted fs → Before fs rs → GroupsAnswer fs rs (over step y rs)) → GroupsAnswer es (r ∷ rs) (over step x (r ∷ rs))
+                → ((y : X) (fs : List E) → Holds y fs → All Accepted fs → Before fs rs → GroupsAnswer T Say s fs rs (over step y rs)) → GroupsAnswer T Say s es (r ∷ rs) (over step x (r ∷ rs))
             again e f (yes l) rec =
                 let o : step x r ≡ on (with x (itemOf (r .name))) = stepped x es h r f ∙ ap (λ (v : Verdict). after x v (itemOf (r .name))) (known-accepted acc (r .name) e) ∙ after-accepted x (itemOf (r .name)) in
-                subst (GroupsAnswer es (r ∷ rs)) (sym (over-on step x r rs o)) (known-on es r rs e (rec (with x (itemOf (r .name))) es (holds-again h l (itemOf (r .name))) acc (before-known es r rs e bf)))
+                subst (GroupsAnswer T Say s es (r ∷ rs)) (sym (over-on step x r rs o)) (known-on es r rs e (rec (with x (itemOf (r .name))) es (holds-again h l (itemOf (r .name))) acc (before-known es r rs e bf)))
             again e f (no l) rec = differ e (holds-known x es h w f (omega arith))
 
-            new : (e : known (namesOf es) w ≡ false) → knownIn s (names x .items) (names x .count) w ≡ false → OneGroup r
-                → ((y : X) (fs : List E) → Holds y fs → All Accepted fs → Before fs rs → GroupsAnswer fs rs (over step y rs)) → GroupsAnswer es (r ∷ rs) (over step x (r ∷ rs))
+            new : (e : known (namesOf es) w ≡ false) → knownIn s (names x .items) (names x .count) w ≡ false → OneGroup name made T Say s whole verdictOf itemOf r
+                → ((y : X) (fs : List E) → Holds y fs → All Accepted fs → Before fs rs → GroupsAnswer T Say s fs rs (over step y rs)) → GroupsAnswer T Say s es (r ∷ rs) (over step x (r ∷ rs))
             new e f (one-said d v i n y) rec =
                 let o : step x r ≡ on (with x (made d)) = stepped x es h r f ∙ ap₂ (after x) v i ∙ after-accepted x (made d) in
                 let q = rec (with x (made d)) (es ++ (d ∷ [])) (holds-more h d) (all-more acc (λ z k. alike z (r .name) (k ∙ named-so es r rs bf e d n) ∙ v)) (before-new es r rs bf e d n) in
-                subst (GroupsAnswer es (r ∷ rs)) (sym (over-on step x r rs o)) (new-on es r rs bf e d n y q)
+                subst (GroupsAnswer T Say s es (r ∷ rs)) (sym (over-on step x r rs o)) (new-on es r rs bf e d n y q)
             new e f (one-faulty q v n) rec =
                 let o : step x r ≡ stop-with q = stepped x es h r f ∙ ap (λ (u : Verdict). after x u (itemOf (r .name))) v ∙ after-refused x (itemOf (r .name)) q in
                 let g = grouped-always (unknown (namesOf es ++ (w ∷ [])) (said rs)) in
-                subst (GroupsAnswer es (r ∷ rs)) (sym (over-stop step x r rs o)) (first-faulty (grouped-row es r rs bf e (g .1)) (NoGroups.here n))
+                subst (GroupsAnswer T Say s es (r ∷ rs)) (sym (over-stop step x r rs o)) (first-faulty (grouped-row es r rs bf e (g .1)) (NoGroups.here n))
 
             go : (t : Bool) → known (namesOf es) w ≡ t → (u : Bool) → knownIn s (names x .items) (names x .count) w ≡ u
-                → ((y : X) (fs : List E) → Holds y fs → All Accepted fs → Before fs rs → GroupsAnswer fs rs (over step y rs)) → GroupsAnswer es (r ∷ rs) (over step x (r ∷ rs))
-            go true e true f rec = subst (GroupsAnswer es (r ∷ rs)) (sym (over-on step x r rs (stepped x es h r f))) (known-on es r rs e (rec x es h acc (before-known es r rs e bf)))
+                → ((y : X) (fs : List E) → Holds y fs → All Accepted fs → Before fs rs → GroupsAnswer T Say s fs rs (over step y rs)) → GroupsAnswer T Say s es (r ∷ rs) (over step x (r ∷ rs))
+            go true e true f rec = subst (GroupsAnswer T Say s es (r ∷ rs)) (sym (over-on step x r rs (stepped x es h r f))) (known-on es r rs e (rec x es h acc (before-known es r rs e bf)))
             go true e false f rec = again e f (decLt 8 (length es)) rec
             go false e true f rec = differ (known-holds x es h w f) e
             go false e false f rec = new e f (one-group r a) rec
 
         -- all groups of the section, from the empty struct
-        pub groups-sound : (x : X) → Holds x [] → All (Standing s) whole → GroupsAnswer [] whole (over step x whole)
+        pub groups-sound : (x : X) → Holds x [] → All (Standing s) whole → GroupsAnswer T Say s [] whole (over step x whole)
         groups-sound x h st = collected x [] h All.end whole st (λ w e. refl)

@@ -3,3 +3,5 @@ pub mod Lines
 pub mod Reading
 pub mod Names
 pub mod Collected
+pub mod Limits
+pub mod Fields

@@ -78,6 +78,26 @@ pub entries-kinded : {T : List Field} {s : List ℕ} {rs : List says.Row} {xs : 
 entries-kinded none = Kinded.end
 entries-kinded {T} (more {b = x} a p) = Kinded.next (subst (λ (w : List ℕ). OfKind (kindOf T w) (x .value)) (sym (a .name)) (reads-kind (a .value))) (entries-kinded p)
 
+-- ---- the rows of a group, in a struct G that has the marks and the values
+
+module _ {G D : Type 0} (T : List Field) (s : List ℕ) (seen : G → List Bool) (item : G → D) (with : D → Entry → D) where
+  -- the group's rows so far say xs, which g keeps; d is what it had before the first
+  pub record Keeps (d : D) (rows : List says.Row) (g : G) : Type 0 where
+    pub xs : List Entry
+    pub entries : Entries T s rows xs
+    pub marks : Marks T (seen g) xs
+    pub item-is : item g ≡ kept with d xs
+
+  pub data GroupAnswers (d : D) (rows : List says.Row) : Going G → Type 0 where
+    keeps : {g : G} → Keeps d rows g → GroupAnswers d rows (on g)
+    no-group : {q : Refusal} → NoGroup T s rows (error.numberOf q) (error.placeOf q) → GroupAnswers d rows (stop-with q)
+
+module _ {G : Type 0} (seen : G → List Bool) where
+  -- both are read, with the same marks, or both stop alike
+  pub data Alike : Going G → Going G → Type 0 where
+    both-on : {g h : G} → seen g ≡ seen h → Alike (on g) (on h)
+    both-stop : (q : Refusal) → Alike (stop-with q) (stop-with q)
+
 -- ---- a row
 
 module _ (T : List Field) {s : List ℕ} (bytes : Bytes s) where
@@ -107,26 +127,15 @@ module _ (T : List Field) {s : List ℕ} (bytes : Bytes s) where
       go true f = no-row (NoRow.repeated e (stood-repeats marks w f))
       go false f = value (new-repeats marks w f) (readAt [] (take (r .end) s) (r .value) (kindOf T w)) answers
 
-  -- ---- the rows of a group, in a struct G that has the marks and the values
+  -- ---- row after row
 
   module _ {G D : Type 0} (seen : G → List Bool) (item : G → D) (made : List Bool → D → G) (seen-made : (m : List Bool) (d : D) → seen (made m d) ≡ m) (item-made : (m : List Bool) (d : D) → item (made m d) ≡ d)
       (with : D → Entry → D) (after : G → Next → Going G)
       (after-entry : (g : G) (x : Entry) (j : ℕ) → after g (entry x j) ≡ on (made (marked (length T) (seen g) (fieldIndex T (x .name))) (with (item g) x)))
       (after-wrong : (g : G) (q : Refusal) → after g (wrong q) ≡ stop-with q)
       (w : List ℕ) (step : G → Row → Going G) (steps : (g : G) (r : Row) → step g r ≡ cond (same (bytesOf s (r .name)) w) (after g (rowLineAt T (seen g) s r)) (on g)) where
-    -- the group's rows so far say xs, which g keeps; d is what it had before the first
-    pub record Keeps (d : D) (rows : List says.Row) (g : G) : Type 0 where
-      pub xs : List Entry
-      pub entries : Entries T s rows xs
-      pub marks : Marks T (seen g) xs
-      pub item-is : item g ≡ kept with d xs
-
-    pub data GroupAnswers (d : D) (rows : List says.Row) : Going G → Type 0 where
-      keeps : {g : G} → Keeps d rows g → GroupAnswers d rows (on g)
-      no-group : {q : Refusal} → NoGroup T s rows (error.numberOf q) (error.placeOf q) → GroupAnswers d rows (stop-with q)
-
-    keeps-more : {d : D} {rows : List says.Row} {g : G} {r : says.Row} (k : Keeps d rows g) (x : Entry) → Alone T s r x → ¬ Repeats T (k .xs) (x .name)
-        → Keeps d (rows ++ (r ∷ [])) (made (marked (length T) (seen g) (fieldIndex T (x .name))) (with (item g) x))
+    keeps-more : {d : D} {rows : List says.Row} {g : G} {r : says.Row} (k : Keeps T s seen item with d rows g) (x : Entry) → Alone T s r x → ¬ Repeats T (k .xs) (x .name)
+        → Keeps T s seen item with d (rows ++ (r ∷ [])) (made (marked (length T) (seen g) (fieldIndex T (x .name))) (with (item g) x))
     keeps-more {d} {rows} {g} k x a n =
         record {
           xs = k .xs ++ (x ∷ []);
@@ -135,9 +144,9 @@ module _ (T : List Field) {s : List ℕ} (bytes : Bytes s) where
           item-is = item-made _ _ ∙ ap (λ (e : D). with e x) (k .item-is) ∙ sym (kept-more with d (k .xs) x);
         }
 
-    group-from : (d : D) (before : List says.Row) (g : G) → Keeps d before g → (rs : List Row) → All (Standing s) rs → GroupAnswers d (before ++ ofGroup w (map (rowSaid s) rs)) (over step g rs)
+    group-from : (d : D) (before : List says.Row) (g : G) → Keeps T s seen item with d before g → (rs : List Row) → All (Standing s) rs → GroupAnswers T s seen item with d (before ++ ofGroup w (map (rowSaid s) rs)) (over step g rs)
     unfolding ofGroup rowSaid
-    group-from d before g k [] st = subst (GroupAnswers d (before ++ [])) (sym (over-none step g)) (subst (λ (l : List says.Row). GroupAnswers d l (on g)) (sym (append-nil before)) (keeps k))
+    group-from d before g k [] st = subst (GroupAnswers T s seen item with d (before ++ [])) (sym (over-none step g)) (subst (λ (l : List says.Row). GroupAnswers T s seen item with d l (on g)) (sym (append-nil before)) (keeps k))
     group-from d before g k (r ∷ rs) (next a st) = go (same w (bytesOf s (r .name))) refl (λ p h q. group-from d p h q rs st)
       where
         rest : List says.Row
@@ -147,32 +156,28 @@ module _ (T : List Field) {s : List ℕ} (bytes : Bytes s) where
         stepped t e = steps g r ∙ ap (λ (u : Bool). cond u (after g (rowLineAt T (seen g) s r)) (on g)) (same-turned (bytesOf s (r .name)) w ∙ e)
 
         here : (n : Next) → rowLineAt T (seen g) s r ≡ n → RowAnswers before (k .xs) r n → step g r ≡ after g (rowLineAt T (seen g) s r)
-            → ((p : List says.Row) (h : G) → Keeps d p h → GroupAnswers d (p ++ ofGroup w (map (rowSaid s) rs)) (over step h rs)) → GroupAnswers d (before ++ (rowSaid s r ∷ rest)) (over step g (r ∷ rs))
+            → ((p : List says.Row) (h : G) → Keeps T s seen item with d p h → GroupAnswers T s seen item with d (p ++ ofGroup w (map (rowSaid s) rs)) (over step h rs)) → GroupAnswers T s seen item with d (before ++ (rowSaid s r ∷ rest)) (over step g (r ∷ rs))
         here (entry x j) e (a-row y n) f rec =
             let q = keeps-more k x y n in
             let h : G = made (marked (length T) (seen g) (fieldIndex T (x .name))) (with (item g) x) in
             let o = over-on step g r rs (f ∙ ap (after g) e ∙ after-entry g x j) in
-            subst (GroupAnswers d (before ++ (rowSaid s r ∷ rest))) (sym o) (subst (λ (l : List says.Row). GroupAnswers d l (over step h rs)) (append-assoc before (rowSaid s r ∷ []) rest) (rec (before ++ (rowSaid s r ∷ [])) h q))
+            subst (GroupAnswers T s seen item with d (before ++ (rowSaid s r ∷ rest))) (sym o) (subst (λ (l : List says.Row). GroupAnswers T s seen item with d l (over step h rs)) (append-assoc before (rowSaid s r ∷ []) rest) (rec (before ++ (rowSaid s r ∷ [])) h q))
         here (wrong q) e (no-row n) f rec =
-            subst (GroupAnswers d (before ++ (rowSaid s r ∷ rest))) (sym (over-stop step g r rs (f ∙ ap (after g) e ∙ after-wrong g q))) (no-group (bad-row before rest (rowSaid s r) refl n))
+            subst (GroupAnswers T s seen item with d (before ++ (rowSaid s r ∷ rest))) (sym (over-stop step g r rs (f ∙ ap (after g) e ∙ after-wrong g q))) (no-group (bad-row before rest (rowSaid s r) refl n))
 
-        go : (t : Bool) → same w (bytesOf s (r .name)) ≡ t → ((p : List says.Row) (h : G) → Keeps d p h → GroupAnswers d (p ++ ofGroup w (map (rowSaid s) rs)) (over step h rs))
-            → GroupAnswers d (before ++ cond t (rowSaid s r ∷ rest) rest) (over step g (r ∷ rs))
+        go : (t : Bool) → same w (bytesOf s (r .name)) ≡ t → ((p : List says.Row) (h : G) → Keeps T s seen item with d p h → GroupAnswers T s seen item with d (p ++ ofGroup w (map (rowSaid s) rs)) (over step h rs))
+            → GroupAnswers T s seen item with d (before ++ cond t (rowSaid s r ∷ rest) rest) (over step g (r ∷ rs))
         go true e rec = here (rowLineAt T (seen g) s r) refl (row-sound (k .entries) (k .marks) r a) (stepped true e) rec
-        go false e rec = subst (GroupAnswers d (before ++ rest)) (sym (over-on step g r rs (stepped false e))) (rec before g k)
+        go false e rec = subst (GroupAnswers T s seen item with d (before ++ rest)) (sym (over-on step g r rs (stepped false e))) (rec before g k)
 
     -- ---- the marks alone say whether reading stops
 
-    pub data Alike : Going G → Going G → Type 0 where
-      both-on : {g h : G} → seen g ≡ seen h → Alike (on g) (on h)
-      both-stop : (q : Refusal) → Alike (stop-with q) (stop-with q)
-
-    pub alike : (after-end : (g : G) → after g end ≡ on g) (rs : List Row) (g h : G) → seen g ≡ seen h → Alike (over step g rs) (over step h rs)
+    pub alike : (after-end : (g : G) → after g end ≡ on g) (rs : List Row) (g h : G) → seen g ≡ seen h → Alike seen (over step g rs) (over step h rs)
     unfolding over
     alike after-end [] g h e = both-on e
     alike after-end (r ∷ rs) g h e = go (same (bytesOf s (r .name)) w) refl (λ a b f. alike after-end rs a b f)
       where
-        both : (n : Next) → ((a b : G) → seen a ≡ seen b → Alike (over step a rs) (over step b rs)) → Alike (overNext (λ a. over step a rs) (after g n)) (overNext (λ a. over step a rs) (after h n))
+        both : (n : Next) → ((a b : G) → seen a ≡ seen b → Alike seen (over step a rs) (over step b rs)) → Alike seen (overNext (λ a. over step a rs) (after g n)) (overNext (λ a. over step a rs) (after h n))
         both (entry x j) rec =
             rw (after-entry g x j, after-entry h x j)
             (rec (made (marked (length T) (seen g) (fieldIndex T (x .name))) (with (item g) x)) (made (marked (length T) (seen h) (fieldIndex T (x .name))) (with (item h) x))
@@ -180,21 +185,21 @@ module _ (T : List Field) {s : List ℕ} (bytes : Bytes s) where
         both end rec = rw (after-end g, after-end h) (rec g h e)
         both (wrong q) rec = rw (after-wrong g q, after-wrong h q) (both-stop q)
 
-        turn : (t : Bool) → ((a b : G) → seen a ≡ seen b → Alike (over step a rs) (over step b rs))
-            → Alike (overNext (λ a. over step a rs) (cond t (after g (rowLineAt T (seen h) s r)) (on g))) (overNext (λ a. over step a rs) (cond t (after h (rowLineAt T (seen h) s r)) (on h)))
+        turn : (t : Bool) → ((a b : G) → seen a ≡ seen b → Alike seen (over step a rs) (over step b rs))
+            → Alike seen (overNext (λ a. over step a rs) (cond t (after g (rowLineAt T (seen h) s r)) (on g))) (overNext (λ a. over step a rs) (cond t (after h (rowLineAt T (seen h) s r)) (on h)))
         turn true rec = both (rowLineAt T (seen h) s r) rec
         turn false rec = rec g h e
 
-        go : (t : Bool) → same (bytesOf s (r .name)) w ≡ t → ((a b : G) → seen a ≡ seen b → Alike (over step a rs) (over step b rs))
-            → Alike (overNext (λ a. over step a rs) (step g r)) (overNext (λ a. over step a rs) (step h r))
+        go : (t : Bool) → same (bytesOf s (r .name)) w ≡ t → ((a b : G) → seen a ≡ seen b → Alike seen (over step a rs) (over step b rs))
+            → Alike seen (overNext (λ a. over step a rs) (step g r)) (overNext (λ a. over step a rs) (step h r))
         go t f rec =
             let p : step g r ≡ cond t (after g (rowLineAt T (seen h) s r)) (on g) = steps g r ∙ ap₂ (λ (u : Bool) (m : List Bool). cond u (after g (rowLineAt T m s r)) (on g)) f e in
             let q : step h r ≡ cond t (after h (rowLineAt T (seen h) s r)) (on h) = steps h r ∙ ap (λ (u : Bool). cond u (after h (rowLineAt T (seen h) s r)) (on h)) f in
-            subst (λ (x : Going G). Alike (overNext (λ a. over step a rs) x) (overNext (λ a. over step a rs) (step h r))) (sym p)
-            (subst (λ (x : Going G). Alike (overNext (λ a. over step a rs) (cond t (after g (rowLineAt T (seen h) s r)) (on g))) (overNext (λ a. over step a rs) x)) (sym q) (turn t rec))
+            subst (λ (x : Going G). Alike seen (overNext (λ a. over step a rs) x) (overNext (λ a. over step a rs) (step h r))) (sym p)
+            (subst (λ (x : Going G). Alike seen (overNext (λ a. over step a rs) (cond t (after g (rowLineAt T (seen h) s r)) (on g))) (overNext (λ a. over step a rs) x)) (sym q) (turn t rec))
 
     -- all rows of the group
-    pub group-sound : length T ≤ 10 → (d : D) (rs : List Row) → All (Standing s) rs → GroupAnswers d (ofGroup w (map (rowSaid s) rs)) (over step (made unseen d) rs)
+    pub group-sound : length T ≤ 10 → (d : D) (rs : List Row) → All (Standing s) rs → GroupAnswers T s seen item with d (ofGroup w (map (rowSaid s) rs)) (over step (made unseen d) rs)
     unfolding kept
     group-sound l d rs st =
         group-from d [] (made unseen d)
