@@ -1,3 +1,4 @@
 pub mod Says
 pub mod Durations
+pub mod Lines
 pub mod Sound
