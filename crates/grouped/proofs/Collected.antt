@@ -3,7 +3,7 @@
 use mathlib.Core.Path.{_≡_, refl, sym, ap, ap₂, _∙_, subst}
 use mathlib.Core.Bool.{Bool, true, false, cond}
 use mathlib.Core.List.{List, [], _∷_, _++_, map, append-nil, append-assoc}
-use Prim.Native.Nat.{ℕ, zero, suc, _+_, _-_, _≤_, _<_}
+use Prim.Native.Nat.{ℕ, _+_, _≤_, _<_}
 use native.Mathlib.Omega.{arith}
 use native.Mathlib.Decide.{decLt}
 use borrow.Author.Tests.{lt-ltb, le-ltb}
@@ -32,7 +32,7 @@ use Rattle.groups.specs.declared.Names.{Names}
 use Rattle.groups.proofs.Rows.{over-on, over-stop, over-none}
 use Rattle.grouped.specs.Said.{spanSaid, rowSaid}
 use Rattle.grouped.proofs.Lines.{Standing}
-use Rattle.grouped.proofs.Names.{known, unknown, unknown-none, of-group-past, unknown-past, grouped-new, grouped-always, known-last, known-fewer, known-so, known-not}
+use Rattle.grouped.proofs.Names.{known, unknown, of-group-past, unknown-past, grouped-new, grouped-always, known-last, known-fewer, known-so, known-not}
 
 all-more : {A : Type 0} {P : A → Type 0} {l : List A} {a : A} → All P l → P a → All P (l ++ (a ∷ []))
 all-more All.end p = next p All.end

@@ -2,11 +2,11 @@
 use mathlib.Core.Path.{_≡_, refl, sym, ap, ap₂, _∙_, subst}
 use mathlib.Core.Bool.{Bool, true, false, not, cond, _||_}
 use mathlib.Core.List.{List, [], _∷_, _++_, append-assoc}
-use Prim.Native.Nat.{ℕ, zero, suc, _+_, _-_, _≤_, _<_}
+use Prim.Native.Nat.{ℕ, suc, _+_, _-_, _<_}
 use native.Mathlib.Omega.{arith}
-use borrow.Author.Tests.{eqb-true, ne-eqb, eq-eqb, leb-false, lt-leb, not-true}
+use borrow.Author.Tests.{eqb-true, ne-eqb, eq-eqb, leb-false, lt-leb}
 use lib.Dec.{eqb, leb}
-use lib.ListN.{length, getD, take, drop, length-append, length-drop, take-append-drop, drop-of-length-le}
+use lib.ListN.{length, getD, take, drop, length-append, take-append-drop, drop-of-length-le}
 use lib.Seq.{drop-cons, drop-drop, getD-take, length-take-le}
 use Rattle.written.specs.Bytes.{bracket, unbracket, oneOf, noneOf, byteAt, Each, Ends, over, met, part}
 use Rattle.written.specs.Groups.{Bracketed}
@@ -16,7 +16,6 @@ use Rattle.laws.proofs.Runs.{byte-is}
 use Rattle.laws.proofs.Cursor.{stop-each, stop-ends}
 use Rattle.header_lines.proofs.Moves.{no as never}
 use Rattle.groups.specs.Rows.{splitAt, splitOf}
-use Rattle.groups.specs.declared.Split.{Split}
 use Rattle.groups.specs.declared.Split.the-variants as split
 
 -- ---- one byte as a set

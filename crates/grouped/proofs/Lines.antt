@@ -1,7 +1,7 @@
 -- The lines of a section that belong to groups, as they are found, are the rows that its lines say. Assumes nothing.
 use mathlib.Core.Path.{_≡_, refl, sym, ap, ap₂, _∙_, subst}
 use mathlib.Core.Bool.{Bool, true, false, not, cond, _&&_, _||_}
-use mathlib.Core.List.{List, [], _∷_, _++_, map}
+use mathlib.Core.List.{List, [], _∷_, map}
 use mathlib.Core.Logic.{_⊎_, ⊎-elim}
 use Prim.Native.Nat.{ℕ, zero, suc, _+_, _-_, _≤_, _<_}
 use native.Mathlib.Omega.{arith}
@@ -11,13 +11,14 @@ use lib.Dec.{eqb, leb}
 use lib.ListN.{length, getD, take, drop, length-drop}
 use lib.Seq.{drop-drop, length-take-le, take-take, take-nil}
 use Rattle.written.specs.Bytes.{newline, colon, dash, digit, isNewline, oneOf, noneOf, byteAt, At, Each, Ends, over, met, part, Span}
-use Rattle.written.specs.HeaderText.{Text, Led, swallowed, plain, Range, Pair, Kind, a-pair, anything, Value, unread, Reads, is-pair, is-unknown, Field, kindOf, Entry, Key, Line, NextLine, Many, none, more, Section}
+use Rattle.written.specs.HeaderText.{Text, Led, swallowed, plain, Range, Pair, Kind, a-pair, anything, Value, unread, Reads, is-pair, is-unknown, Field, kindOf, Entry, Key, NextLine, Many, none, more, Section}
 use Rattle.written.specs.Faults.{NoText}
 use Rattle.written.specs.Groups as says
 use Rattle.written.specs.Groups.{Bracketed, Rows, grouped, dropped, nameOf}
 use Rattle.written.specs.Record.{All, next}
 use Rattle.written.proofs.Tests.{differ}
 use Rattle.written.proofs.One.{text-one, line-starts}
+use Rattle.written.proofs.OneFile.{rows-one}
 use Rattle.written.proofs.Apart.{text-never}
 use Rattle.laws.specs.Runs.{stop}
 use Rattle.laws.proofs.Runs.{stop-on, stop-here, stop-end, byte-is, byte-out}
@@ -29,7 +30,6 @@ use Rattle.de.specs.declared.Text.the-variants as text
 use Rattle.de.proofs.Sound.{Answers, right, wrong, Bytes, text-sound}
 use Rattle.header_lines.specs.Lines.{keyOf, keyFrom, keyAt}
 use Rattle.header_lines.specs.declared.Key.the-variants as key
-use Rattle.header_lines.proofs.Kept.{OfKind, not-read, reads-kind}
 use Rattle.groups.specs.Rows.{bytesOf, splitOf, splitRow, keyRow, rowOf, rowAt, onwardRow, rowsFrom, rowsAt}
 use Rattle.groups.specs.declared.Split.{Split}
 use Rattle.groups.specs.declared.Split.the-variants as split
@@ -274,3 +274,7 @@ module _ (T : List Field) (ungrouped : Ungrouped T) {s : List ℕ} (b : Bytes s)
   pub section-rows : {i : ℕ} {xs : List Entry} → Section T s i xs → RowsSaid s xs (rowsAt s i)
   unfolding rowsAt
   section-rows {i} c = lines-rows (c .lines) (c .blank) (suc (length s)) (omega arith)
+
+  -- and no others: rows that its lines say are those that are found
+  pub rows-found : {i : ℕ} {xs : List Entry} {rs : List says.Row} → Section T s i xs → Rows xs rs → map (rowSaid s) (rowsAt s i) ≡ rs
+  rows-found c r = rows-one (section-rows c .rows) r

@@ -9,7 +9,7 @@ use native.Mathlib.Decide.{decLt}
 use lib.ListN.{length, getD, take}
 use lib.Seq.{length-take-le, getD-take}
 use Rattle.written.specs.Bytes.{same}
-use Rattle.written.specs.HeaderText.{Value, Reads, Field, kindOf, Entry, valuesOf, Distinct}
+use Rattle.written.specs.HeaderText.{Value, Reads, Field, kindOf, Entry, valuesOf}
 use Rattle.written.specs.Groups as says
 use Rattle.written.specs.Groups.{ofGroup, alone, Alone, Pointwise, none, more, Entries}
 use Rattle.written.specs.Record.{All, next}

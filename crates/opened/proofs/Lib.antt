@@ -1,2 +1,4 @@
 pub mod Parts
+pub mod Both
+pub mod Back
 pub mod Opened

@@ -1,15 +1,13 @@
 -- Opening a file answers as `written` says: a file that is accepted says the record that stands in the answer, a file that is refused is refused so; and
 -- since a file says at most one record, or is refused in one way, also the other way round. Assumes nothing.
-use mathlib.Core.Path.{_≡_, refl, sym, ap, ap₂, _∙_, subst}
+use mathlib.Core.Path.{_≡_, refl, sym, ap, _∙_, subst}
 use mathlib.Core.Bool.{Bool, true, false, cond}
-use mathlib.Core.List.{List, [], _∷_, map}
-use Prim.Native.Nat.{ℕ, _+_, _≤_, _<_}
-use native.Mathlib.Omega.{arith}
+use mathlib.Core.List.{List, map}
+use Prim.Native.Nat.{ℕ, _≤_}
 use borrow.Author.Tests.{ltb-true, ltb-false}
 use lib.Dec.{ltb}
 use lib.ListN.{length}
-use Rattle.written.specs.HeaderText.{Range}
-use Rattle.written.specs.Record.{file-limit, GlobalText, GlobalFits, StreamText, StreamsFit, PositionText, PositionsFit, Says}
+use Rattle.written.specs.Record.{file-limit, GlobalText, GlobalFits, StreamText, StreamsFit, Says}
 use Rattle.written.specs.Record as record-of
 use Rattle.written.specs.Sections as says-split
 use Rattle.written.specs.Faults.{NoHeader, Refused}
@@ -23,7 +21,6 @@ use Rattle.header.specs.Lists.{filled}
 use Rattle.header.specs.Record.{globalRecord, streamRecord, headerRecord}
 use Rattle.header.specs.declared.Header.{Header}
 use Rattle.de.proofs.Sound.{Bytes}
-use Rattle.header_lines.specs.declared.Verdict.{Verdict}
 use Rattle.header_lines.specs.declared.Verdict.the-variants as verdict
 use Rattle.header_lines.proofs.Moves.{no as never}
 use Rattle.header_global.specs.declared.GlobalRead.{GlobalRead}
@@ -38,6 +35,8 @@ use Rattle.parser.specs.Open.{Inside, noPositionsFor, globalOf, streamsOf, posi
 use Rattle.parser.specs.declared.Opened.{Opened}
 use Rattle.parser.specs.declared.PositionRead.{PositionRead}
 use Rattle.parser.proofs.Inside.{split-inside}
+use Rattle.opened.specs.Said.{headerSaid}
+use Rattle.opened.proofs.Back.{header-back}
 use Rattle.opened.proofs.Parts.{GlobalAnswer, global-text, no-global, global-part, StreamAnswer, stream-text, no-streams, stream-part, PositionAnswer, position-text, no-positions, position-part}
 
 pub data OpenAnswer (s : List ℕ) : Opened → Type 0 where
@@ -124,3 +123,17 @@ module _ {s : List ℕ} (bytes : Bytes s) where
       go : (o : Opened) → OpenAnswer s o → (r : Refusal) × (o ≡ refusedWith r) × (error.numberOf r ≡ n) × (error.placeOf r ≡ k)
       go o (says h y) = absurd (says-never y x)
       go o (refused r y) = let q = refused-one y x in (r, refl, q .0, q .1)
+
+  -- ---- the same of the record read back from the structs
+
+  -- an accepted file says what its structs say
+  pub open-said : openOf s .verdict ≡ verdict.Accepted → Says s (headerSaid (openOf s .header))
+  open-said e =
+      let y = open-says e in
+      subst (Says s) (sym (ap headerSaid (y .2) ∙ header-back (y .0) (y .1 .global-fits) (y .1 .streams-fit) (y .1 .positions-fit))) (y .1)
+
+  -- a file that says a record is accepted, and its structs say that record
+  pub said-open : {h : record-of.Header} → Says s h → (openOf s .verdict ≡ verdict.Accepted) × (headerSaid (openOf s .header) ≡ h)
+  said-open {h} y =
+      let o = says-open y in
+      (ap (λ (z : Opened). z .verdict) o, ap (λ (z : Opened). headerSaid (z .header)) o ∙ header-back h (y .global-fits) (y .streams-fit) (y .positions-fit))

@@ -1,15 +1,14 @@
 -- Each of the three sections of a file answers as `written` says: UTF-8 first, then its lines, missing fields, groups, and limits last. Assumes nothing.
-use mathlib.Core.Path.{_≡_, refl, sym, ap, _∙_, subst}
-use mathlib.Core.Bool.{Bool, true, false, cond}
-use mathlib.Core.List.{List, [], _∷_, map, List·Memᴰ}
-use Prim.Native.Nat.{ℕ, _+_, _≤_, _<_}
+use mathlib.Core.Path.{_≡_, refl}
+use mathlib.Core.List.{List, [], map, List·Memᴰ}
+use Prim.Native.Nat.{ℕ, _+_, _≤_}
 use native.Mathlib.Omega.{arith}
-use lib.ListN.{length, take}
+use lib.ListN.{length}
 use lib.Seq.{length-take-le}
 use Rattle.written.specs.Bytes.{part}
 use Rattle.written.specs.Rfc3629.{Octets, FirstBad}
 use Rattle.written.specs.HeaderText.{Range, Field, Entry, Section}
-use Rattle.written.specs.Record.{global-fields, stream-fields, stream-group, position-fields, position-group, GlobalText, GlobalFits, StreamText, StreamsFit, PositionText, PositionsFit}
+use Rattle.written.specs.Record.{global-fields, stream-fields, position-fields, GlobalText, GlobalFits, StreamText, StreamsFit, PositionText, PositionsFit}
 use Rattle.written.specs.Record as record-of
 use Rattle.written.specs.Faults.{Missing, Wrong, NoGlobal, NoStreams, NoPositions}
 use Rattle.error.specs.Numbers as error
@@ -36,10 +35,9 @@ use Rattle.groups.specs.Rows.{rowsAt, over}
 use Rattle.header_streams.specs.Groups as streams
 use Rattle.header_streams.specs.declared.Streams.{Streams}
 use Rattle.header_streams.specs.declared.GroupsRead as streams-read
-use Rattle.header_positions.specs.Groups as positions
 use Rattle.header_positions.specs.declared.Positions.{Positions}
 use Rattle.header_positions.specs.declared.GroupsRead as positions-read
-use Rattle.header_ungrouped.specs.Ungrouped.{noDurations, durationsIn, verdictIn}
+use Rattle.header_ungrouped.specs.Ungrouped.{durationsIn, verdictIn}
 use Rattle.header_ungrouped.specs.declared.Durations.{Durations}
 use Rattle.header_ungrouped.specs.declared.DurationsRead.{DurationsRead}
 use Rattle.grouped.specs.Said.{spanSaid}

@@ -1,9 +1,8 @@
 -- The lines of [POSITION] answer as `written` says: the durations that they say; or what is wrong with them; or a missing field. Assumes nothing.
-use mathlib.Core.Path.{_≡_, refl, sym, ap, _∙_, subst}
+use mathlib.Core.Path.{_≡_, refl}
 use mathlib.Core.Bool.{Bool, true, false, cond}
 use mathlib.Core.List.{List}
-use Prim.Native.Nat.{ℕ, _≤_, _<_}
-use native.Mathlib.Omega.{arith}
+use Prim.Native.Nat.{ℕ, _≤_}
 use lib.ListN.{length}
 use Rattle.written.specs.HeaderText.{Range, Entry, Section}
 use Rattle.written.specs.Record.{position-fields, SaysDurations}

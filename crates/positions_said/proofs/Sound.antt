@@ -1,10 +1,10 @@
 -- The groups of [POSITION] answer as `written` says: the positions that they say, in the struct, within the limits; or the first group that has a fault; or 12.
 -- Assumes nothing.
-use mathlib.Core.Path.{_≡_, refl, sym, ap, ap₂, _∙_, subst}
+use mathlib.Core.Path.{_≡_, refl, sym, ap, _∙_, subst}
 use mathlib.Core.Bool.{Bool, true, false, cond}
-use mathlib.Core.List.{List, [], _∷_, _++_, map}
+use mathlib.Core.List.{List, [], map}
 use mathlib.Core.Logic.{_⊎_, inl, inr}
-use Prim.Native.Nat.{ℕ, zero, suc, _≤_, _<_}
+use Prim.Native.Nat.{ℕ, _≤_, _<_}
 use native.Mathlib.Omega.{arith}
 use native.Mathlib.Decide.{decLt}
 use borrow.Author.Tests.{ltb-true, ltb-false}
@@ -14,29 +14,27 @@ use Rattle.written.specs.Bytes.{bytes, unbracket, oneOf, same}
 use Rattle.written.specs.HeaderText.{anything, a-pair, kindOf, Field, Entry, Section}
 use Rattle.written.specs.Groups as says
 use Rattle.written.specs.Groups.{Bracketed, Group, Grouped, ofGroup, Pointwise}
-use Rattle.written.specs.Record.{position-fields, position-group, SaysPosition, positionSays, All, GroupSays, GroupsOf, PositionsFit}
+use Rattle.written.specs.Record.{position-fields, position-group, positionSays, All, GroupSays, GroupsOf, PositionsFit}
 use Rattle.written.specs.Record as record-of
-use Rattle.written.specs.Faults.{Missing, NoGroup, NoGroups}
+use Rattle.written.specs.Faults.{NoGroup, NoGroups}
 use Rattle.written.proofs.Tests.{unbracketed}
 use Rattle.verdicts.proofs.Total.{same-true}
 use Rattle.written.proofs.ApartFile.{position-whole}
 use Rattle.error.specs.Numbers as error
 use Rattle.error.specs.declared.Refusal.{Refusal}
 use Rattle.error.specs.declared.Refusal.the-variants as refusal
-use Rattle.header.specs.Empty.{emptyPosition, noSpan}
-use Rattle.header.specs.Lists.{filled, spanOf}
+use Rattle.header.specs.Empty.{emptyPosition}
+use Rattle.header.specs.Lists.{filled}
 use Rattle.header.specs.Record.{positionRecord}
 use Rattle.header.specs.declared.Span.{Span}
 use Rattle.header.specs.declared.PositionData.{PositionData}
 use Rattle.de.proofs.Sound.{Bytes}
-use Rattle.header_fields.specs.Fields.{fieldIndex, anyMissing}
-use Rattle.header_lines.specs.Lines.{Next, entry, wrong, marked, unseen}
+use Rattle.header_fields.specs.Fields.{anyMissing}
 use Rattle.header_lines.specs.declared.Verdict.{Verdict}
 use Rattle.header_lines.specs.declared.Verdict.the-variants as verdict
 use Rattle.header_lines.proofs.Kept.{missing-so, missing-not}
-use Rattle.groups.specs.Rows.{bytesOf, rowsAt, Going, on, stop-with, over, noNames, namesWith}
+use Rattle.groups.specs.Rows.{bytesOf, rowsAt, Going, on, stop-with, over, noNames}
 use Rattle.groups.specs.declared.Row.{Row}
-use Rattle.groups.specs.declared.Names.{Names}
 use Rattle.header_position.specs.Group.{withLine, emptyOf, named, afterLine, withRow, groupIn}
 use Rattle.header_position.specs.Group as one
 use Rattle.header_position.specs.declared.Group as of-group

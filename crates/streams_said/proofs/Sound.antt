@@ -1,40 +1,37 @@
 -- The groups of [STREAM] answer as `written` says: the streams that they say, in the struct, within the limits; or the first group that has a fault; or 12.
 -- Assumes nothing.
-use mathlib.Core.Path.{_≡_, refl, sym, ap, ap₂, _∙_, subst}
+use mathlib.Core.Path.{_≡_, refl, sym, ap, _∙_, subst}
 use mathlib.Core.Bool.{Bool, true, false, cond}
-use mathlib.Core.List.{List, [], _∷_, _++_, map}
-use mathlib.Core.Logic.{_⊎_, inl}
-use Prim.Native.Nat.{ℕ, zero, suc, _≤_, _<_}
+use mathlib.Core.List.{List, [], map}
+use mathlib.Core.Logic.{inl}
+use Prim.Native.Nat.{ℕ, _≤_, _<_}
 use native.Mathlib.Omega.{arith}
 use native.Mathlib.Decide.{decLt}
 use borrow.Author.Tests.{ltb-true, ltb-false}
 use lib.Dec.{ltb}
 use lib.ListN.{length}
-use Rattle.written.specs.Bytes as written
-use Rattle.written.specs.HeaderText.{anything, a-pair, kindOf, Field, Entry, Section}
+use Rattle.written.specs.HeaderText.{kindOf, Field, Entry, Section}
 use Rattle.written.specs.Groups as says
 use Rattle.written.specs.Groups.{Group, Grouped, ofGroup, Pointwise}
-use Rattle.written.specs.Record.{stream-fields, stream-group, SaysStream, streamSays, All, GroupSays, GroupsOf, StreamsFit}
+use Rattle.written.specs.Record.{stream-fields, stream-group, streamSays, All, GroupSays, GroupsOf, StreamsFit}
 use Rattle.written.specs.Record as record-of
-use Rattle.written.specs.Faults.{Missing, NoGroup, NoGroups}
+use Rattle.written.specs.Faults.{NoGroup, NoGroups}
 use Rattle.written.proofs.ApartFile.{stream-whole}
 use Rattle.error.specs.Numbers as error
 use Rattle.error.specs.declared.Refusal.{Refusal}
 use Rattle.error.specs.declared.Refusal.the-variants as refusal
-use Rattle.header.specs.Empty.{emptyStream, noSpan}
-use Rattle.header.specs.Lists.{filled, spanOf}
+use Rattle.header.specs.Empty.{emptyStream}
+use Rattle.header.specs.Lists.{filled}
 use Rattle.header.specs.Record.{streamRecord}
 use Rattle.header.specs.declared.Span.{Span}
 use Rattle.header.specs.declared.StreamData.{StreamData}
 use Rattle.de.proofs.Sound.{Bytes}
-use Rattle.header_fields.specs.Fields.{fieldIndex, anyMissing}
-use Rattle.header_lines.specs.Lines.{Next, entry, wrong, marked, unseen}
+use Rattle.header_fields.specs.Fields.{anyMissing}
 use Rattle.header_lines.specs.declared.Verdict.{Verdict}
 use Rattle.header_lines.specs.declared.Verdict.the-variants as verdict
 use Rattle.header_lines.proofs.Kept.{missing-so, missing-not}
-use Rattle.groups.specs.Rows.{bytesOf, rowsAt, Going, on, stop-with, over, noNames, namesWith}
+use Rattle.groups.specs.Rows.{bytesOf, rowsAt, Going, on, stop-with, over, noNames}
 use Rattle.groups.specs.declared.Row.{Row}
-use Rattle.groups.specs.declared.Names.{Names}
 use Rattle.header_stream.specs.Group.{withLine, emptyOf, named, afterLine, withRow, groupIn}
 use Rattle.header_stream.specs.Group as one
 use Rattle.header_stream.specs.declared.Group as of-group
