@@ -2,3 +2,4 @@ pub mod Parts
 pub mod Both
 pub mod Back
 pub mod Opened
+pub mod Comment
