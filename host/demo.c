@@ -92,6 +92,17 @@ static int answers_to(const struct model *m, uint64_t tree, uint64_t record, uin
     return found;
 }
 
+/* Answers in the order of the question rows. */
+static void show_questions(const struct voice *v, const struct model *m) {
+    struct bytes data = data_of(v);
+    for (uint64_t i = 0; i < rows_of(m, QUESTIONS); i++) {
+        const uint64_t *q = row_of(m, QUESTIONS, i);
+        struct bytes name = part(data, q[0], q[1]);
+        printf("%s%.*s", i == 0 ? "    questions " : " ", (int)name.len, (const char *)name.at);
+    }
+    putchar('\n');
+}
+
 static void show_reference(struct bytes reference) {
     printf("%.*s", (int)reference.len, (const char *)reference.at);
 }
@@ -130,16 +141,18 @@ static void show_walk(const struct model *m, uint64_t tree, const uint8_t *answe
  * last line says and the first one doesn't, and none ended otherwise. */
 static int show_walks(const struct model *m, const struct doubled *d) {
     const uint64_t *t = row_of(m, TREES, d->tree);
-    const uint64_t *winner = row_of(m, RECORDS, t[1] + d->last);
+    uint64_t asked_last = row_of(m, RECORDS, t[1] + d->last)[1], asked_first = row_of(m, RECORDS, t[1] + d->first)[1];
     uint8_t *answers = calloc((size_t)rows_of(m, QUESTIONS) + 1, 1);
     int found, last_wins = 0, otherwise = 0;
     if (answers == NULL)
         stop("there is not enough memory for the answers");
+    answers[asked_first] = 1;
     found = answers_to(m, d->tree, d->last, answers);
     for (int yes = 1; found && yes >= 0; yes--) {
-        struct bytes last = yes ? d->later.yes : d->later.no, first = yes ? d->earlier.yes : d->earlier.no;
+        struct bytes last = yes ? d->later.yes : d->later.no, first;
         uint64_t out[LARSAVIM_WALK_OUT];
-        answers[winner[1]] = (uint8_t)yes;
+        answers[asked_last] = (uint8_t)yes;
+        first = answers[asked_first] ? d->earlier.yes : d->earlier.no;
         show_walk(m, d->tree, answers, out);
         printf("; line %" PRIu64 " says ", d->last);
         show_reference(last);
@@ -164,10 +177,11 @@ static int show_doubled(const struct voice *v, uint64_t which, const struct mode
     show_line(d.first, &d.earlier);
     show_line(d.last, &d.later);
     puts("(id, question, where `no` goes, where `yes` goes)\n\nWalks over the loaded tree to that id:");
+    show_questions(v, m);
     *clear = show_walks(m, &d);
     if (*clear)
-        puts("\nThe last line wins: a reference goes to the last line that bears its id, as in the program with which the voice was made. A loader\n"
-             "that took the first one would speak another sound here without any complaint, and a clear wrong number is worse than silence.");
+        puts("\nThe last line wins: a reference goes to the last line that bears its id. A loader that went to the first one would speak another sound\n"
+             "here, without any complaint; and a clear wrong number is worse than silence.");
     else
         puts("\nThese walks don't show that the last line wins.");
     return 1;
