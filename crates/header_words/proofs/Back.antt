@@ -1,0 +1,1 @@
+-- The round trip: the record of a record's words is the record. Assumes nothing.
