@@ -72,16 +72,17 @@ module _ (g : ℕ → List ℕ) (w n i : ℕ) (t₀ : List ℕ) where
       record { within = omega arith; long = refl; laid = ap₂ (λ (j m : ℕ). sets t₀ j (flat g 0 m)) z e }
 
   module _ (t : List ℕ) (k : ℕ) (s : Laying g w n i t₀ t k) where
-    pub laying-more : length (g k) ≡ w → k < n → Laying g w n i t₀ (sets t (i + w * k) (g k)) (k + 1)
+    pub laying-more : (u : List ℕ) → u ≡ sets t (i + w * k) (g k) → length (g k) ≡ w → k < n → Laying g w n i t₀ u (k + 1)
     unfolding flat
-    laying-more l h =
+    laying-more u q l h =
         let e : n - k ≡ suc (n - (k + 1)) = omega arith in
         let j : i + w * (k + 1) ≡ i + w * k + length (g k) = omega arith in
         record {
           within = omega arith;
-          long = length-sets t (i + w * k) (g k) ∙ s .long;
+          long = ap length q ∙ length-sets t (i + w * k) (g k) ∙ s .long;
           laid =
-              ap₂ (λ (a b : ℕ). sets (sets t (i + w * k) (g k)) a (flat g b (n - (k + 1)))) j (add-one k)
+              ap (λ (v : List ℕ). sets v (i + w * (k + 1)) (flat g (k + 1) (n - (k + 1)))) q
+              ∙ ap₂ (λ (a b : ℕ). sets (sets t (i + w * k) (g k)) a (flat g b (n - (k + 1)))) j (add-one k)
               ∙ sets-append t (i + w * k) (g k) (flat g (suc k) (n - (k + 1)))
               ∙ sym (ap (λ (m : ℕ). sets t (i + w * k) (flat g k m)) e) ∙ s .laid;
         }
@@ -90,9 +91,12 @@ module _ (g : ℕ → List ℕ) (w n i : ℕ) (t₀ : List ℕ) where
     unfolding flat
     laying-done h = let e : n - k ≡ 0 = omega arith in sym (ap (λ (m : ℕ). sets t (i + w * k) (flat g k m)) e) ∙ s .laid
 
--- one run of stores behind another is one
-pub laid-after : (t : List ℕ) (i j : ℕ) (xs ys : List ℕ) → j ≡ i + length xs → sets (sets t i xs) j ys ≡ sets t i (xs ++ ys)
-laid-after t i j xs ys e = ap (λ (m : ℕ). sets (sets t i xs) m ys) e ∙ sets-append t i xs ys
+-- words laid behind others are one run with them
+pub laid-before : (t u : List ℕ) (i j : ℕ) (xs ys : List ℕ) → u ≡ sets t i xs → j ≡ i + length xs → sets u j ys ≡ sets t i (xs ++ ys)
+laid-before t u i j xs ys q e = ap (λ (l : List ℕ). sets l j ys) q ∙ ap (λ (m : ℕ). sets (sets t i xs) m ys) e ∙ sets-append t i xs ys
+
+pub laid-long : (t u : List ℕ) (i : ℕ) (xs : List ℕ) → u ≡ sets t i xs → length u ≡ length t
+laid-long t u i xs q = ap length q ∙ length-sets t i xs
 
 -- ---- what stands in words from a place on
 

@@ -1,58 +1,53 @@
+-- `header_put::put_positions`: what is left to write gives the whole. Assumes nothing.
+use Prim.Native.Nat.{_+_, _-_, _*_}
+use native.Mathlib.Omega.{arith}
+use borrow.Author.Needs.{needs}
+use lib.ListN.{length, getD}
+use Rattle.header_fits.specs.Fits.{noPosition}
+use Rattle.header_words.specs.Words.{positionWords}
+use Rattle.header_words.proofs.Back.{length-position}
+use Rattle.header_words.proofs.Items.{Laying, laying-none, laying-more, laying-done}
 use Rattle.header_put.proofs.put_positions.Statement.{statement}
 use Rattle.header_put.proofs.put_positions.Tie as tie
-use Rattle.header_put.proofs.put_positions.Reads as reads
-use Rattle.header_put.proofs.put_positions.Lts as lts
-use Rattle.header_put.proofs.put_position.Reads as put-position-reads
 
 abbrev Inv-loop : tie.InvT-loop
-Inv-loop words₀ at items k₀ words k = ?
+Inv-loop words₀ at items k₀ words k = Laying (λ j. positionWords (getD items j noPosition)) 29 8 at words₀ words k
 
 abbrev μ-loop : tie.MeasureT-loop
-μ-loop words₀ at items k₀ words k = ?
+μ-loop words₀ at items k₀ words k = 8 - k
 
--- src/lib.rt:206:5
 loop-holds : tie.Need-loop-holds Inv-loop μ-loop
-loop-holds c = ?
+loop-holds c = laying-none _ _ _ _ _
 
--- src/lib.rt:207:17
 mul-x : tie.Need-mul-x Inv-loop μ-loop
-mul-x c = ?
+mul-x c = search needs
 
--- src/lib.rt:207:17
 array-copy-out-x : tie.Need-array-copy-out-x Inv-loop μ-loop
-array-copy-out-x c = ?
+array-copy-out-x c = search needs
 
--- src/lib.rt:208:34
 mul-put-position : tie.Need-mul-put-position Inv-loop μ-loop
-mul-put-position c = ?
+mul-put-position c = search needs
 
--- src/lib.rt:208:29
 add-put-position : tie.Need-add-put-position Inv-loop μ-loop
-add-put-position c = ?
+add-put-position c = search needs
 
--- src/lib.rt:208:9
 put-position-requires : tie.Need-put-position-requires Inv-loop μ-loop
-put-position-requires c κs = ?
+put-position-requires c κs = omega (arith, c .before .before .before .loop .inv .long, c .before .before .loop-test .taken, c .before .before .before .before .before .pre)
 
--- src/lib.rt:209:13
 add-k : tie.Need-add-k Inv-loop μ-loop
-add-k c = ?
+add-k c = search needs
 
--- src/lib.rt:206:5
 loop-less : tie.Need-loop-less Inv-loop μ-loop
-loop-less c = ?
+loop-less c = omega (arith, c .before .before .before .before .before .loop-test .taken)
 
--- src/lib.rt:206:5
 loop-again : tie.Need-loop-again Inv-loop μ-loop
-loop-again c = ?
+loop-again c = laying-more _ _ _ _ _ _ _ (c .before .before .before .before .before .before .loop .inv) _ (c .before .before .put-position .ensures) (length-position _) (c .before .before .before .before .before .loop-test .taken)
 
--- src/lib.rt:201:1
 same-length : tie.Need-same-length Inv-loop μ-loop
-same-length c = ?
+same-length c = c .before .loop .inv .long
 
--- src/lib.rt:201:1
 returns : tie.Need-returns Inv-loop μ-loop
-returns c = ?
+returns c = laying-done _ _ _ _ _ _ _ (c .before .loop .inv) (c .loop-test .left)
 
 pub put-positions-spec : {M : Type 1} → statement M
 put-positions-spec =

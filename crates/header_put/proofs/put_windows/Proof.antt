@@ -1,6 +1,5 @@
 -- `header_put::put_windows`: what is left to write gives the whole. Assumes nothing.
 use mathlib.Core.Path.{refl}
-use mathlib.Core.Path.{ap, _∙_}
 use Prim.Native.Nat.{_+_, _-_, _*_}
 use native.Mathlib.Omega.{arith}
 use borrow.Author.Needs.{needs}
@@ -42,7 +41,7 @@ loop-less : tie.Need-loop-less Inv-loop μ-loop
 loop-less c = omega (arith, c .before .before .before .before .before .loop-test .taken)
 
 loop-again : tie.Need-loop-again Inv-loop μ-loop
-loop-again c = rw (c .before .words .given, c .before .before .put2 .ensures) (laying-more _ _ _ _ _ _ _ (c .before .before .before .before .before .before .loop .inv) refl (c .before .before .before .before .before .loop-test .taken))
+loop-again c = laying-more _ _ _ _ _ _ _ (c .before .before .before .before .before .before .loop .inv) _ (c .before .before .put2 .ensures) refl (c .before .before .before .before .before .loop-test .taken)
 
 same-length : tie.Need-same-length Inv-loop μ-loop
 same-length c = c .before .loop .inv .long
