@@ -1,2 +1,4 @@
 pub mod Words
 pub mod OneTree
+pub mod OneModel
+pub mod AllTrees
