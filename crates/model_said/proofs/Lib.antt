@@ -2,3 +2,4 @@ pub mod Words
 pub mod OneTree
 pub mod OneModel
 pub mod AllTrees
+pub mod Text
