@@ -3,3 +3,4 @@ pub mod OneTree
 pub mod OneModel
 pub mod AllTrees
 pub mod Text
+pub mod Walks
