@@ -3,4 +3,5 @@ pub mod OneTree
 pub mod OneModel
 pub mod AllTrees
 pub mod Text
+pub mod Tables
 pub mod Walks

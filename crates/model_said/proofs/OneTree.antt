@@ -37,7 +37,7 @@ use Rattle.model_tree.proofs.Joined as joined
 use Rattle.model_tree.proofs.Joined.{Stand, work-says}
 use Rattle.rows.proofs.Stand.{length-flat}
 use Rattle.rows.proofs.Fours.{fours-records}
-use Rattle.model_said.proofs.Words.{parted-long, name-stands, words-small}
+use Rattle.model_said.proofs.Words.{zipped-length, name-stands, words-small}
 
 -- what `written` says of a tree that ends so, with these words
 abbrev pub Verdict : List Question → Body → Filled → List ℕ → Type 0
@@ -103,7 +103,7 @@ module _ (s words : List ℕ) (qs : List Question) (named : (e : ℕ) (q : Quest
             let z = lines-size s words (length qs) (zipWith lineOf ls ws) {a = M} {b = N} (ap (λ (r : Result). r .ends) same ∙ ap (linkEnds N M) e) in
             let w : length (linesResult s words (length qs) (zipWith lineOf ls ws) .rows) ≡ length (linkedRows W N) = ap (λ (r : Result). length (r .rows)) same ∙ ap (λ (r : Link). length (rowsAfter r (linkedRows W N) (4 * M))) e in
             let many : length (d .0) ≡ M = omega (arith, length-flat (d .0) (fours-records (d .1)), ap length (d .2), w, z .1) in
-            (d .0, d .1, d .2, many, subst (LinesOf (braces ls)) (sym (parted-long lineOf p .0)) (T.LinesOf.lines o))
+            (d .0, d .1, d .2, many, subst (LinesOf (braces ls)) (sym (zipped-length lineOf p)) (T.LinesOf.lines o))
         go (link.NodeRef k) e = link-node qs W N room small ls (work-says s words qs named ls ws (stand p)) k e o
         go (link.QuestionRef k) e = link-question qs W N room small ls (work-says s words qs named ls ws (stand p)) k e o
 

@@ -9,9 +9,9 @@ use Rattle.written.specs.Said as said
 use Rattle.written.specs.Said.{Text, Layout, QuestionPlace}
 use Rattle.written.specs.TreeText.{Parted, Parting, QuestionAt, TreeAt, trees, Says, without, with-questions}
 use Rattle.written.specs.Linking.{Nth, Row, Records, Refused}
-use Rattle.written.specs.Tables.{LinesOf, TreeRows, ModelRefused, Negative}
+use Rattle.written.specs.Tables.{patternRows, questionRows, LinesOf, TreeRows, ModelRefused, Negative}
 use Rattle.written.proofs.Walk.{nth-once, no-row}
-use Rattle.laws.specs.Steps.{doneAt}
+use Rattle.laws.specs.Steps.{Ending, doneAt, brokenAt}
 use Rattle.order.specs.Keys.{nameAt}
 use Rattle.question.specs.Questions.{questionsAt}
 use Rattle.tree.specs.Trees.{Tree, treeOf, treesAt}
@@ -19,7 +19,9 @@ use Rattle.tree_survey.specs.Survey as survey
 use Rattle.tree_survey.specs.Survey.{textRead, textAt}
 use Rattle.tree_survey.specs.Said.{textOf}
 use Rattle.tree_survey.proofs.Joined.{says-read}
-use Rattle.model_questions.specs.Words.{questionWords}
+use Rattle.tree_survey.proofs.Said.{same-length}
+use Rattle.model_questions.specs.Words.{patternWords, questionWords}
+use Rattle.model_questions.proofs.Rows.{questions-joined, patterns-joined}
 use Rattle.model_tree.specs.Bodies.{Result, bodyResult}
 use Rattle.model_tree.specs.declared.Filled.{Filled}
 use Rattle.model_tree.specs.declared.Filled.the-variants as filled
@@ -28,7 +30,7 @@ use Rattle.model_trees.specs.declared.Linked.{Linked}
 use Rattle.model_trees.specs.declared.Linked.the-variants.{Done, NodeRef, QuestionRef, LoneNode}
 use Rattle.model_text.specs.Text.{wordsAt, endAt, treesStored, recordsStored}
 use Rattle.model_said.specs.Refusals.{RefusedAs, node, question, lone}
-use Rattle.model_said.proofs.Words.{parted-nth, parted-long, question-named, questions-few}
+use Rattle.model_said.proofs.Words.{parted-nth, question-named, questions-few}
 use Rattle.model_said.proofs.OneTree.{Verdict, tree-verdict}
 use Rattle.model_said.proofs.OneModel.{model-rows-once, model-refused-once, model-never-both}
 use Rattle.model_said.proofs.AllTrees.{ModelVerdict, trees-verdict}
@@ -47,7 +49,18 @@ record Parts (s : List ℕ) (t : Text) (l : Layout) : Type 0 where
 parts : {s : List ℕ} {i : ℕ} {t : Text} {l : Layout} → length s < 2 ^ 63 → Says s i t l → Parts s t l
 parts short (without (trees a p b)) = record { asked = refl; few = omega arith; named = λ e q h. absurd (no-row h); begin = _; end = _; stand = p }
 parts {s} short (with-questions q (trees a p b)) =
-    record { asked = parted-long (λ x y. y) q .1; few = omega (arith, questions-few s q); named = question-named s q; begin = _; end = _; stand = p }
+    record { asked = sym (same-length q); few = omega (arith, questions-few s q); named = question-named s q; begin = _; end = _; stand = p }
+
+-- such a text has a first tree, so that what is said below of f is said of every such text
+pub says-begins : {s : List ℕ} {i : ℕ} {t : Text} {l : Layout} → Says s i t l → (f : ℕ) × (questionsAt s i .ending ≡ doneAt f)
+unfolding textAt
+says-begins {s} {i} says = go (questionsAt s i .ending) refl (ap (λ (r : survey.Text). r .ending) (says-read s says))
+  where
+    go : (e : Ending) → questionsAt s i .ending ≡ e → textRead s (questionsAt s i .items) (questionsAt s i .ending) .ending ≡ doneAt (length s) → (f : ℕ) × (questionsAt s i .ending ≡ doneAt f)
+    go (doneAt f) q h = (f, q)
+    go (brokenAt k) q h =
+        let z : brokenAt k ≡ doneAt (length s) = sym (ap (λ (e : Ending). textRead s (questionsAt s i .items) e .ending) q) ∙ h in
+        let u : _≡_ {A = ℕ} 0 1 = cc in absurd (omega arith)
 
 refused-as : {o : Linked} {c d a b k m : ℕ} → RefusedAs o c a k → c ≡ d → a ≡ b → k ≡ m → RefusedAs o d b m
 refused-as {o} {c} {d} {a} {b} {k} {m} r p q e = subst (λ (j : ℕ). RefusedAs o d b j) e (subst (λ (j : ℕ). RefusedAs o d j k) q (subst (λ (j : ℕ). RefusedAs o j a k) p r))
@@ -62,6 +75,15 @@ module _ {s : List ℕ} {i f : ℕ} {t : Text} {l : Layout} (says : Says s i t l
 
   trees-are : treesAt s f .items ≡ zipWith treeOf (t .trees) (l .trees)
   trees-are = ap (λ (r : survey.Text). r .trees) read
+
+  -- ---- questions and patterns
+
+  -- the question rows are those of the layout
+  pub text-questions : wordsAt s i ≡ flatten (questionRows 0 (l .questions))
+  text-questions = ap (questionWords 0) questions-are ∙ questions-joined 0 (l .questions)
+
+  pub text-patterns : patternWords (questionsAt s i .items) ≡ flatten (patternRows (l .questions))
+  text-patterns = ap patternWords questions-are ∙ patterns-joined (l .questions)
 
   -- ---- 1. one tree
 

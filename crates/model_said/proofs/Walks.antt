@@ -8,7 +8,7 @@ use Prim.Native.Nat.{ℕ, suc, _+_, _*_, _^_, _≤_, _<_}
 use native.Mathlib.Omega.{arith}
 use lib.Dec.{ltb}
 use lib.ListN.{length, getD, take, drop}
-use lib.Seq.{sets, take-all, drop-at}
+use lib.Seq.{take-all, drop-at}
 use Rattle.written.specs.Said as said
 use Rattle.written.specs.Said.{Text, Layout}
 use Rattle.written.specs.TreeText.{Says}
@@ -19,7 +19,6 @@ use Rattle.written.proofs.Link.{records-linked}
 use Rattle.written.proofs.Walk.{nth-append}
 use Rattle.laws.specs.Steps.{doneAt}
 use Rattle.laws.proofs.Nth.{nth-inside}
-use Rattle.laws.proofs.Tables.{part-sets}
 use Rattle.question.specs.Questions.{questionsAt}
 use Rattle.model_trees.specs.declared.Linked.the-variants.{Done}
 use Rattle.model_text.specs.Text.{endAt, treesStored, recordsStored}
@@ -31,19 +30,9 @@ use Rattle.walk.specs.Answer.{answerOf, endingAnswer}
 use Rattle.walk.specs.declared.Walked.{Walked}
 use Rattle.walk.proofs.Demand.{walk-demand₃}
 use Rattle.model_said.proofs.Text.{text-done}
+use Rattle.model_said.proofs.Tables.{Front}
 
 -- ---- words in the front of a table
-
-abbrev pub Front : List ℕ → List ℕ → Type 0
-Front words t = take (length words) t ≡ words
-
--- of the table that they are
-pub front-exact : (words : List ℕ) → Front words words
-front-exact words = take-all (length words) words (omega arith)
-
--- of a table into which they were stored
-pub front-stored : (words t : List ℕ) → length words ≤ length t → Front words (sets t 0 words)
-front-stored words t h = part-sets t 0 words (omega arith)
 
 front-stands : {words t : List ℕ} (rows : List Row) → Fours rows → words ≡ flatten rows → Front words t → Standing t 0 rows
 front-stands {words} {t} rows f e h =

@@ -46,11 +46,12 @@ parted-nth (next t p r) here = (_, _, _, here, t)
 parted-nth (last t) (there h) = elim h [ ]
 parted-nth (next t p r) (there h) = let f = parted-nth r h in (f .0, f .1, f .2, there (f .3), f .4)
 
-pub parted-long : {A B C : Type 0} {Part : ℕ → ℕ → Type 0} {Item : ℕ → ℕ → A → B → Type 0} (code : A → B → C) {i j : ℕ} {xs : List A} {ys : List B}
-    → Parted Part Item i j xs ys → (length (zipWith code xs ys) ≡ length xs) × (length ys ≡ length xs)
+-- as many in code as are said
+pub zipped-length : {A B C : Type 0} {Part : ℕ → ℕ → Type 0} {Item : ℕ → ℕ → A → B → Type 0} (code : A → B → C) {i j : ℕ} {xs : List A} {ys : List B}
+    → Parted Part Item i j xs ys → length (zipWith code xs ys) ≡ length xs
 unfolding zipWith
-parted-long code (last t) = (refl, refl)
-parted-long code (next t p r) = let f = parted-long code r in (ap suc (f .0), ap suc (f .1))
+zipped-length code (last t) = refl
+zipped-length code (next t p r) = ap suc (zipped-length code r)
 
 module _ (s : List ℕ) where
   -- ---- names
