@@ -1,8 +1,8 @@
 -- What is stored of a list of trees is their `TreeRows`, and where linking ends at a tree it is `ModelRefused` there, with that number and line.
 -- Assumes of the questions what `OneTree` does, and that no state is negative.
-use mathlib.Core.Path.{_≡_, refl, sym, ap, ap₂, _∙_, subst}
+use mathlib.Core.Path.{_≡_, refl, sym, ap₂, _∙_, subst}
 use mathlib.Core.List.{List, [], _∷_, _++_, zipWith, flatten}
-use Prim.Native.Nat.{ℕ, zero, suc, _+_, _^_, _<_}
+use Prim.Native.Nat.{ℕ, suc, _+_, _^_, _<_}
 use native.Mathlib.Omega.{arith}
 use lib.IntN.{ℤ, pos, negsuc}
 use lib.ListN.{length}
@@ -14,7 +14,6 @@ use Rattle.written.specs.Tables as T
 use Rattle.written.specs.Tables.{TreeRows, ModelRefused, Negative, negative}
 use Rattle.laws.proofs.Nth.{flatten-append}
 use Rattle.order.specs.Keys.{nameAt}
-use Rattle.tree.specs.Trees as read
 use Rattle.tree.specs.Trees.{treeOf}
 use Rattle.link_refs.specs.Lines.{natOf}
 use Rattle.model_tree.specs.Bodies.{bodyResult}

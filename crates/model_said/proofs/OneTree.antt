@@ -1,15 +1,15 @@
 -- What is done with one tree is what `written` says of it: with records exactly `Records`, in as many records and lines; refused exactly `Refused`, with that number and line.
 -- Assumes that the question rows have the questions' names, and that the questions are fewer than 2^63: `Words` has both of a text.
-use mathlib.Core.Path.{_≡_, refl, sym, ap, ap₂, _∙_, subst}
+use mathlib.Core.Path.{_≡_, refl, sym, ap, _∙_, subst}
 use mathlib.Core.Bool.{Bool, true, false, cond}
-use mathlib.Core.List.{List, [], _∷_, _++_, zipWith, flatten, Forall₂·nil}
-use Prim.Native.Nat.{ℕ, _+_, _*_, _^_, _≤_, _<_}
+use mathlib.Core.List.{List, [], _∷_, zipWith, flatten, Forall₂·nil}
+use Prim.Native.Nat.{ℕ, _*_, _^_, _≤_, _<_}
 use native.Mathlib.Omega.{arith}
 use lib.IntN.{ℤ, pos}
 use lib.Signed.{mag}
 use lib.ListN.{length, getD}
 use Rattle.written.specs.Bytes.{Span}
-use Rattle.written.specs.Said.{Ref, node, pdf, Line, Body, lone, braces, Tree, TreePlace, Question}
+use Rattle.written.specs.Said.{Ref, node, pdf, Line, Body, braces, Tree, TreePlace, Question}
 use Rattle.written.specs.TreeText.{Parted, last, next, LineParting, LineAt, line, BodyAt, one, none, lines, TreeAt, tree}
 use Rattle.written.specs.Linking as L
 use Rattle.written.specs.Linking.{Nth, Single, alone, alike, NotSingle, Row, leaf, times, pdfs, Records, Refused}
@@ -20,7 +20,6 @@ use Rattle.order.specs.Keys.{nameAt}
 use Rattle.tree_reference.specs.References.{indexOf, sameIndex}
 use Rattle.tree_reference.proofs.Same.{same-index, index-same}
 use Rattle.tree_line.specs.Lines.{lineOf}
-use Rattle.tree.specs.Trees as read
 use Rattle.tree.specs.Trees.{bodyOf, treeOf}
 use Rattle.line_survey.specs.Counts.{recordsOf}
 use Rattle.link.specs.Linked.{linkOutcome, linkedRows, rowsAfter}

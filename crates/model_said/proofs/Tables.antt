@@ -1,5 +1,5 @@
 -- The words of a text that is linked have the room that `Fits` asks for, so that they stand in the front of the tables that filling leaves. Assumes nothing.
-use mathlib.Core.Path.{_≡_, refl, sym, ap, ap₂, _∙_, subst}
+use mathlib.Core.Path.{_≡_, refl, sym, ap, _∙_, subst}
 use mathlib.Core.List.{List, [], _∷_, _++_}
 use Prim.Native.Nat.{ℕ, suc, _+_, _*_, _≤_}
 use native.Mathlib.Omega.{arith}
@@ -57,15 +57,16 @@ module _ (s words : List ℕ) (n : ℕ) where
       go (filled.QuestionRef j) q e rest = let u : _≡_ {A = ℕ} 0 1 = cc in absurd (omega arith)
       go filled.LoneNode q e rest = let u : _≡_ {A = ℕ} 0 1 = cc in absurd (omega arith)
 
--- ---- the tables that filling leaves
+-- ---- the tables that filling leaves, where it is done: `fill_text`'s contract has `is` and the two equations
 
-module _ (s : List ℕ) (i f n : ℕ) (trees records : List ℕ) {q p w : ℕ} (h : Fits s i f n q p (length trees) (length records) w) (done : endAt s i f ≡ Done) where
-  pub trees-front : Front (treesStored s i f) (kept (endAt s i f) trees (treesStored s i f))
-  trees-front =
-      subst (λ (o : Linked). Front (treesStored s i f) (kept o trees (treesStored s i f))) (sym done)
-      (front-stored (treesStored s i f) trees (omega (arith, h .tree-room, stored-length s (wordsAt s i) (length (questionsAt s i .items)) 0 0 (treesAt s f .items) done .0)))
+module _ (s : List ℕ) (i f n : ℕ) (trees₀ records₀ : List ℕ) {q p w : ℕ} (h : Fits s i f n q p (length trees₀) (length records₀) w) {o : Linked} (is : o ≡ endAt s i f) (done : o ≡ Done) where
+  sizes : (length (treesStored s i f) ≡ 4 * length (treesAt s f .items)) × (length (recordsStored s i f) ≡ 4 * total treeRecords (treesAt s f .items))
+  sizes = stored-length s (wordsAt s i) (length (questionsAt s i .items)) 0 0 (treesAt s f .items) (sym is ∙ done)
 
-  pub records-front : Front (recordsStored s i f) (kept (endAt s i f) records (recordsStored s i f))
-  records-front =
-      subst (λ (o : Linked). Front (recordsStored s i f) (kept o records (recordsStored s i f))) (sym done)
-      (front-stored (recordsStored s i f) records (omega (arith, h .record-room, stored-length s (wordsAt s i) (length (questionsAt s i .items)) 0 0 (treesAt s f .items) done .1)))
+  pub trees-front : (trees : List ℕ) → trees ≡ kept o trees₀ (treesStored s i f) → Front (treesStored s i f) trees
+  trees-front trees e =
+      subst (Front (treesStored s i f)) (sym (e ∙ ap (λ (r : Linked). kept r trees₀ (treesStored s i f)) done)) (front-stored (treesStored s i f) trees₀ (omega (arith, h .tree-room, sizes .0)))
+
+  pub records-front : (records : List ℕ) → records ≡ kept o records₀ (recordsStored s i f) → Front (recordsStored s i f) records
+  records-front records e =
+      subst (Front (recordsStored s i f)) (sym (e ∙ ap (λ (r : Linked). kept r records₀ (recordsStored s i f)) done)) (front-stored (recordsStored s i f) records₀ (omega (arith, h .record-room, sizes .1)))

@@ -1,13 +1,13 @@
 -- What loading a tree text stores is the rows of what the text says, and it is refused exactly where `written` refuses the model: each tree, all trees, both ways.
 -- Assumes of the text only that s from i on says t, that its first tree stands at f, that no state is negative and that s is shorter than 2^63 bytes.
 use mathlib.Core.Path.{_≡_, refl, sym, ap, _∙_, subst}
-use mathlib.Core.List.{List, [], zipWith, flatten}
+use mathlib.Core.List.{List, zipWith, flatten}
 use Prim.Native.Nat.{ℕ, _+_, _^_, _<_}
 use native.Mathlib.Omega.{arith}
 use lib.ListN.{length}
 use Rattle.written.specs.Said as said
 use Rattle.written.specs.Said.{Text, Layout, QuestionPlace}
-use Rattle.written.specs.TreeText.{Parted, Parting, QuestionAt, TreeAt, trees, Says, without, with-questions}
+use Rattle.written.specs.TreeText.{Parted, Parting, TreeAt, trees, Says, without, with-questions}
 use Rattle.written.specs.Linking.{Nth, Row, Records, Refused}
 use Rattle.written.specs.Tables.{patternRows, questionRows, LinesOf, TreeRows, ModelRefused, Negative}
 use Rattle.written.proofs.Walk.{nth-once, no-row}

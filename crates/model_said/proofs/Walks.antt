@@ -1,19 +1,19 @@
 -- Demand 3 of a loaded tree text: over tables in whose front the stored words stand, every tree's records are linked to what the text says of it, and the walk
 -- ends as the written walk of it, for every assignment and limit. The tables may be longer than the words, or exactly them.
 -- Assumes of the text what `Text` does, and that linking it is done.
-use mathlib.Core.Path.{_≡_, refl, sym, ap, ap₂, _∙_, subst}
-use mathlib.Core.Bool.{Bool, true}
+use mathlib.Core.Path.{_≡_, refl, sym, ap, _∙_, subst}
+use mathlib.Core.Bool.{Bool}
 use mathlib.Core.List.{List, [], _∷_, _++_, flatten}
 use Prim.Native.Nat.{ℕ, suc, _+_, _*_, _^_, _≤_, _<_}
 use native.Mathlib.Omega.{arith}
 use lib.Dec.{ltb}
-use lib.ListN.{length, getD, take, drop}
+use lib.ListN.{length, getD, take}
 use lib.Seq.{take-all, drop-at}
 use Rattle.written.specs.Said as said
 use Rattle.written.specs.Said.{Text, Layout}
 use Rattle.written.specs.TreeText.{Says}
 use Rattle.written.specs.Linking.{Nth, here, there, Row, Records, Linked}
-use Rattle.written.specs.Tables.{TreeRows, none, more, Negative}
+use Rattle.written.specs.Tables.{TreeRows, more, Negative}
 use Rattle.written.specs.Walks.{Ending, Written, isYes, Answers}
 use Rattle.written.proofs.Link.{records-linked}
 use Rattle.written.proofs.Walk.{nth-append}
