@@ -50,13 +50,28 @@ fn room(
     requires { ⌜ p .entries * p .width < 2 ^ 63 ⌝ }
     ensures { λ r. ⌜ r ≡ roomFor p questions patterns trees records blocks values work ⌝ }
 {
-    p.questions <= questions / 4
-        && p.patterns <= patterns / 2
-        && p.trees <= trees / 4
-        && p.records <= records / 4
-        && p.trees <= blocks / 2
-        && p.entries * p.width <= values as u64
-        && p.lines <= work / 6
+    if questions / 4 < p.questions {
+        return false;
+    }
+    if patterns / 2 < p.patterns {
+        return false;
+    }
+    if trees / 4 < p.trees {
+        return false;
+    }
+    if records / 4 < p.records {
+        return false;
+    }
+    if blocks / 2 < p.trees {
+        return false;
+    }
+    if (values as u64) < p.entries * p.width {
+        return false;
+    }
+    if work / 6 < p.lines {
+        return false;
+    }
+    true
 }
 
 // The block rows and the values of a block that ends with the slice.
@@ -123,13 +138,14 @@ fn fill(
         records,
         work,
     );
+    let loaded = answer(p, linked);
     match linked {
         Linked::Done => fill_block(up_to(d, p.block_end), p, blocks, values),
         Linked::NodeRef { tree: _, line: _ } => zero_block(blocks, values),
         Linked::QuestionRef { tree: _, line: _ } => zero_block(blocks, values),
         Linked::LoneNode { tree: _ } => zero_block(blocks, values),
     }
-    answer(p, linked)
+    loaded
 }
 
 // Loads the model asked for.

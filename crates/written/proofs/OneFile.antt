@@ -113,7 +113,7 @@ pub bracketed-one : {key f g n m : List ℕ} → Bracketed key f n → Bracketed
 bracketed-one {key} {f} {g} {n} {m} a b =
     let h = first-one bracket f g (a .first) (b .first) (sym (a .whole) ∙ b .whole) in (h .0, last-one unbracket n m (h .1))
 
-rows-one : {xs : List Entry} {rs qs : List Row} → Rows xs rs → Rows xs qs → rs ≡ qs
+pub rows-one : {xs : List Entry} {rs qs : List Row} → Rows xs rs → Rows xs qs → rs ≡ qs
 rows-one Rows.end Rows.end = refl
 rows-one (grouped {at = at} {v = v} a p) (grouped b q) =
     let h = bracketed-one a b in let r = rows-one p q in λ i. record { at = at; field = h .0 i; group = h .1 i; value = v } ∷ r i

@@ -1,44 +1,38 @@
+-- `model::answer`: each way that linking ends. Assumes nothing.
+use mathlib.Core.Path.{sym, ap}
+use Rattle.model.specs.Load.{answerFor}
 use borrow.Author.Needs.{needs}
 use Rattle.model.proofs.answer.Statement.{statement}
 use Rattle.model.proofs.answer.Tie as tie
 use Rattle.model.proofs.answer.Reads as reads
 use Rattle.model.proofs.answer.Lts as lts
 
--- src/lib.rt:92:21
 enum-told : tie.Need-enum-told
 enum-told c = search needs
 
--- src/lib.rt:92:21
 mul-t9 : tie.Need-mul-t9
 mul-t9 c = search needs
 
--- src/lib.rt:94:27
 enum-known-linked : tie.Need-enum-known-linked
 enum-known-linked c = search needs
 
--- src/lib.rt:95:31
 enum-known-linked-2 : tie.Need-enum-known-linked-2
 enum-known-linked-2 c = search needs
 
--- src/lib.rt:96:28
 enum-known-linked-3 : tie.Need-enum-known-linked-3
 enum-known-linked-3 c = search needs
 
--- src/lib.rt:81:1
 returns : tie.Need-returns
-returns c = ?
+returns c = sym (ap (answerFor (c .before .before .before .args .p)) (c .before .enum-told .given .1))
 
--- src/lib.rt:81:1
 returns-2 : tie.Need-returns-2
-returns-2 c = ?
+returns-2 c = sym (ap (answerFor (c .before .before .before .args .p)) (c .before .linked .given .1))
 
--- src/lib.rt:81:1
 returns-3 : tie.Need-returns-3
-returns-3 c = ?
+returns-3 c = sym (ap (answerFor (c .before .before .before .args .p)) (c .before .linked2 .given .1))
 
--- src/lib.rt:81:1
 returns-4 : tie.Need-returns-4
-returns-4 c = ?
+returns-4 c = sym (ap (answerFor (c .before .before .before .args .p)) (c .before .linked3 .given .1))
 
 pub answer-spec : {M : Type 1} → statement M
 answer-spec =

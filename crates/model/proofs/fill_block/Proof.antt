@@ -1,3 +1,5 @@
+-- `model::fill_block`: the block's size gives the room. Assumes nothing.
+use Rattle.model.proofs.Laws.{rows-fit, values-fit}
 use borrow.Author.Needs.{needs}
 use Rattle.model.proofs.fill_block.Statement.{statement}
 use Rattle.model.proofs.fill_block.Tie as tie
@@ -6,31 +8,24 @@ use Rattle.model.proofs.fill_block.Lts as lts
 use Rattle.block_values.proofs.fill_blocks.Reads as fill-blocks-reads
 use Rattle.block_values.proofs.fill_values.Reads as fill-values-reads
 
--- src/lib.rt:67:27
 mul-first : tie.Need-mul-first
 mul-first c = search needs
 
--- src/lib.rt:67:17
 add-first : tie.Need-add-first
 add-first c = search needs
 
--- src/lib.rt:68:5
 fill-blocks-requires : tie.Need-fill-blocks-requires
-fill-blocks-requires c κs = ?
+fill-blocks-requires c κs = rows-fit _ _ (c .before .before .before .before .before .before .pre)
 
--- src/lib.rt:69:5
 fill-values-requires : tie.Need-fill-values-requires
-fill-values-requires c κs = ?
+fill-values-requires c κs = values-fit _ _ (c .before .before .before .before .before .before .before .before .before .before .pre)
 
--- src/lib.rt:63:1
 same-length : tie.Need-same-length
 same-length c = search needs
 
--- src/lib.rt:63:1
 same-length-2 : tie.Need-same-length-2
 same-length-2 c = search needs
 
--- src/lib.rt:63:1
 returns : tie.Need-returns
 returns c = search needs
 

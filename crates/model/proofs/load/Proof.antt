@@ -1,3 +1,10 @@
+-- `model::load`: refused before the tables are looked at, for want of room, or filled. Assumes nothing.
+use mathlib.Core.Path.{sym, _∙_, subst}
+use native.Mathlib.Omega.{arith}
+use borrow.Author.Tests.{not-true, not-false}
+use Rattle.model_plan.specs.Plans.{Sound}
+use Rattle.model_plan.proofs.Laws.{needs-sound}
+use Rattle.model.proofs.Laws.{part-short, small-values, load-refused, load-room, load-filled}
 use borrow.Author.Needs.{needs}
 use Rattle.model.proofs.load.Statement.{statement}
 use Rattle.model.proofs.load.Tie as tie
@@ -8,69 +15,59 @@ use Rattle.model.proofs.room.Reads as room-reads
 use Rattle.model_plan.proofs.data_of.Reads as data-of-reads
 use Rattle.model_plan.proofs.needs.Reads as needs-reads
 
--- src/lib.rt:150:11
 needs-requires : tie.Need-needs-requires
 needs-requires c κs = search needs
 
--- src/lib.rt:151:26
 enum-known-refusal : tie.Need-enum-known-refusal
 enum-known-refusal c = search needs
 
--- src/lib.rt:152:24
 enum-known-p : tie.Need-enum-known-p
 enum-known-p c = search needs
 
--- src/lib.rt:153:17
 room-requires : tie.Need-room-requires
-room-requires c κs = ?
+room-requires c κs =
+    let a = c .before .before .before .before .before .before .before .before .before .before .before .args in
+    let s = needs-sound (a .file .now) (a .header) (a .which) _ (sym (c .before .p .given .1) ∙ c .before .before .before .needs .ensures) in
+    small-values _ _ s (omega (arith, part-short (a .file .now) (a .header .«data_start») (a .header .«data_len»), c .before .before .before .before .before .before .before .before .before .before .before .good))
 
--- src/lib.rt:163:17
 returns : tie.Need-returns
-returns c = ?
+returns c = let a = c .before .before .before .before .before .before .before .before .before .before .before .before .before .args in load-room (a .file .now) (a .header) (a .which) (a .questions .now) (a .patterns .now) (a .trees .now) (a .records .now) (a .blocks .now) (a .values .now) (a .work .now) _ (sym (c .before .before .before .p .given .1) ∙ c .before .before .before .before .before .needs .ensures) (c .before .room .ensures) (not-true _ (c .if1 .taken))
 
--- src/lib.rt:166:17
 data-of-requires : tie.Need-data-of-requires
 data-of-requires c κs = search needs
 
--- src/lib.rt:165:13
 fill-requires : tie.Need-fill-requires
-fill-requires c κs = ?
+fill-requires c κs =
+    let a = c .before .before .before .before .before .before .before .before .before .before .before .before .before .before .before .before .before .before .before .before .before .args in
+    let s = needs-sound (a .file .now) (a .header) (a .which) _ (sym (c .before .before .before .before .before .before .before .before .before .before .before .p .given .1) ∙ c .before .before .before .before .before .before .before .before .before .before .before .before .before .needs .ensures) in
+    (subst (λ d. Sound d (c .before .before .before .before .before .before .before .before .before .before .before .p .given .0 .0)) (sym (c .before .before .before .before .before .before .before .data-of .ensures)) s, sym (c .before .before .before .before .before .before .before .before .before .room .ensures) ∙ not-false _ (c .before .before .before .before .before .before .before .before .if1 .left))
 
--- src/lib.rt:136:1
 returns-2 : tie.Need-returns-2
-returns-2 c = ?
+returns-2 c = let a = c .before .before .before .before .before .before .before .before .before .before .before .args in load-refused (a .file .now) (a .header) (a .which) (a .questions .now) (a .patterns .now) (a .trees .now) (a .records .now) (a .blocks .now) (a .values .now) (a .work .now) (sym (c .before .refusal .given .1) ∙ c .before .before .before .needs .ensures)
 
--- src/lib.rt:136:1
 same-length : tie.Need-same-length
 same-length c = search needs
 
--- src/lib.rt:136:1
 same-length-2 : tie.Need-same-length-2
 same-length-2 c = search needs
 
--- src/lib.rt:136:1
 same-length-3 : tie.Need-same-length-3
 same-length-3 c = search needs
 
--- src/lib.rt:136:1
 same-length-4 : tie.Need-same-length-4
 same-length-4 c = search needs
 
--- src/lib.rt:136:1
 same-length-5 : tie.Need-same-length-5
 same-length-5 c = search needs
 
--- src/lib.rt:136:1
 same-length-6 : tie.Need-same-length-6
 same-length-6 c = search needs
 
--- src/lib.rt:136:1
 same-length-7 : tie.Need-same-length-7
 same-length-7 c = search needs
 
--- src/lib.rt:136:1
 returns-3 : tie.Need-returns-3
-returns-3 c = ?
+returns-3 c = let a = c .before .before .before .before .before .before .before .before .before .before .before .before .before .before .before .before .before .before .before .before .before .before .before .before .before .before .before .before .before .before .before .before .before .before .before .args in load-filled (a .file .now) (a .header) (a .which) (a .questions .now) (a .patterns .now) (a .trees .now) (a .records .now) (a .blocks .now) (a .values .now) (a .work .now) _ (sym (c .before .before .before .before .before .before .before .before .before .before .before .before .before .before .before .before .before .before .before .before .before .before .before .before .before .p .given .1) ∙ c .before .before .before .before .before .before .before .before .before .before .before .before .before .before .before .before .before .before .before .before .before .before .before .before .before .before .before .needs .ensures) (c .before .before .before .before .before .before .before .before .before .before .before .before .before .before .before .before .before .before .before .before .before .before .before .room .ensures) (not-false _ (c .before .before .before .before .before .before .before .before .before .before .before .before .before .before .before .before .before .before .before .before .before .before .if1 .left)) (c .before .before .before .before .before .before .before .before .before .before .before .before .before .before .before .before .before .before .before .before .before .data-of .ensures) (c .before .before .before .before .before .before .before .before .before .before .before .before .before .fill .ensures)
 
 pub load-spec : {M : Type 1} → statement M
 load-spec =

@@ -1,20 +1,58 @@
+-- `model::room`: each table in turn. Assumes nothing.
+use mathlib.Core.Path.{refl}
+use borrow.Author.Tests.{le-leb, lt-leb}
+use Rattle.model.specs.Load.{roomFor}
 use borrow.Author.Needs.{needs}
 use Rattle.model.proofs.room.Statement.{statement}
 use Rattle.model.proofs.room.Tie as tie
 use Rattle.model.proofs.room.Reads as reads
 use Rattle.model.proofs.room.Lts as lts
 
--- src/lib.rt:58:12
+returns : tie.Need-returns
+unfolding roomFor
+returns c = rw (lt-leb _ _ (c .if1 .taken)) refl
+
+returns-2 : tie.Need-returns-2
+unfolding roomFor
+returns-2 c = rw (le-leb _ _ (c .before .before .if1 .left), lt-leb _ _ (c .if2 .taken)) refl
+
+returns-3 : tie.Need-returns-3
+unfolding roomFor
+returns-3 c = rw (le-leb _ _ (c .before .before .before .before .if1 .left), le-leb _ _ (c .before .before .if2 .left), lt-leb _ _ (c .if3 .taken)) refl
+
+returns-4 : tie.Need-returns-4
+unfolding roomFor
+returns-4 c = rw (le-leb _ _ (c .before .before .before .before .before .before .if1 .left), le-leb _ _ (c .before .before .before .before .if2 .left), le-leb _ _ (c .before .before .if3 .left), lt-leb _ _ (c .if4 .taken)) refl
+
+returns-5 : tie.Need-returns-5
+unfolding roomFor
+returns-5 c = rw (le-leb _ _ (c .before .before .before .before .before .before .before .before .if1 .left), le-leb _ _ (c .before .before .before .before .before .before .if2 .left), le-leb _ _ (c .before .before .before .before .if3 .left), le-leb _ _ (c .before .before .if4 .left), lt-leb _ _ (c .if5 .taken)) refl
+
 mul-if6 : tie.Need-mul-if6
 mul-if6 c = search needs
 
--- src/lib.rt:40:1
-returns : tie.Need-returns
-returns c = ?
+returns-6 : tie.Need-returns-6
+unfolding roomFor
+returns-6 c = rw (le-leb _ _ (c .before .before .before .before .before .before .before .before .before .before .if1 .left), le-leb _ _ (c .before .before .before .before .before .before .before .before .if2 .left), le-leb _ _ (c .before .before .before .before .before .before .if3 .left), le-leb _ _ (c .before .before .before .before .if4 .left), le-leb _ _ (c .before .before .if5 .left), lt-leb _ _ (c .if6 .taken)) refl
 
--- src/lib.rt:40:1
-returns-2 : tie.Need-returns-2
-returns-2 c = ?
+returns-7 : tie.Need-returns-7
+unfolding roomFor
+returns-7 c = rw (le-leb _ _ (c .before .before .before .before .before .before .before .before .before .before .before .before .if1 .left), le-leb _ _ (c .before .before .before .before .before .before .before .before .before .before .if2 .left), le-leb _ _ (c .before .before .before .before .before .before .before .before .if3 .left), le-leb _ _ (c .before .before .before .before .before .before .if4 .left), le-leb _ _ (c .before .before .before .before .if5 .left), le-leb _ _ (c .before .before .if6 .left), lt-leb _ _ (c .if7 .taken)) refl
+
+returns-8 : tie.Need-returns-8
+unfolding roomFor
+returns-8 c = rw (le-leb _ _ (c .before .before .before .before .before .before .before .before .before .before .before .before .if1 .left), le-leb _ _ (c .before .before .before .before .before .before .before .before .before .before .if2 .left), le-leb _ _ (c .before .before .before .before .before .before .before .before .if3 .left), le-leb _ _ (c .before .before .before .before .before .before .if4 .left), le-leb _ _ (c .before .before .before .before .if5 .left), le-leb _ _ (c .before .before .if6 .left), le-leb _ _ (c .if7 .left)) refl
 
 pub room-spec : {M : Type 1} → statement M
-room-spec = tie.close (tie.spec mul-if6 returns returns-2)
+room-spec =
+    tie.close
+    (tie.spec
+    returns
+    returns-2
+    returns-3
+    returns-4
+    returns-5
+    mul-if6
+    returns-6
+    returns-7
+    returns-8)

@@ -1,0 +1,5 @@
+pub mod Parts
+pub mod Both
+pub mod Back
+pub mod Opened
+pub mod Comment

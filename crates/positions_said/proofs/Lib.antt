@@ -1,0 +1,4 @@
+pub mod Says
+pub mod Durations
+pub mod Lines
+pub mod Sound

@@ -1,0 +1,1 @@
+// [POSITION] answers as `written` says: the durations, its groups and their limits. No code.

@@ -1,0 +1,1 @@
+// [STREAM] answers as `written` says: its groups and their limits. No code.
