@@ -141,7 +141,7 @@ module _ (d : List ℕ) (p : Plan) (s : Sound d p) (q a t r b v w : ℕ) (h : ro
 
 -- ---- no product wraps
 
-take-short : (n : ℕ) (l : List ℕ) → length (take n l) ≤ length l
+pub take-short : (n : ℕ) (l : List ℕ) → length (take n l) ≤ length l
 take-short zero l = omega arith
 take-short (suc n) [] = omega arith
 take-short (suc n) (x ∷ l) = omega (arith, take-short n l)

@@ -1,0 +1,7 @@
+pub mod Words
+pub mod OneTree
+pub mod OneModel
+pub mod AllTrees
+pub mod Text
+pub mod Tables
+pub mod Walks
