@@ -23,14 +23,21 @@ static void explain_range(FILE *to, const struct voice *v, uint64_t which) {
     fprintf(to, ", isn't inside the data, which has %" PRIu64 " bytes", len);
 }
 
-/* Where the tree text stands in the file. */
-static void put_text_range(FILE *to, const struct voice *v, uint64_t which) {
-    struct pair r = {0, 0};
+/* A range of the data, as bytes of the file. */
+static void put_file_range(FILE *to, const struct voice *v, struct pair r) {
     uint64_t start = number_of(v, LARSAVIM_DATA_START);
+    if (r.first > r.second)
+        fputs("(no bytes)", to);
+    else
+        fprintf(to, "(bytes %" PRIu64 " to %" PRIu64 " of the file)", start + r.first, start + r.second);
+}
+
+static void explain_text(FILE *to, const struct voice *v, uint64_t which) {
+    struct pair r = {0, 0};
     tree_range(v, which, &r);
-    fprintf(to, "its tree text, range ");
-    put_range(to, r);
-    fprintf(to, " of [DATA], which starts at byte %" PRIu64 " of the file", start + r.first);
+    fputs("its tree text ", to);
+    put_file_range(to, v, r);
+    fputs(" is not in the grammar of questions and trees", to);
 }
 
 static uint64_t count_trees(struct bytes text) {
@@ -47,9 +54,9 @@ static uint64_t count_trees(struct bytes text) {
 static void explain_block(FILE *to, const struct voice *v, uint64_t which) {
     struct pair r = {0, 0};
     pdf_range(v, which, &r);
-    fprintf(to, "its PDF block, range ");
-    put_range(to, r);
-    fprintf(to, " of [DATA], has %" PRIu64 " bytes, which are not a count of 4 bytes for each of its %" PRIu64 " trees and the entries that these counts announce",
+    fputs("its PDF block ", to);
+    put_file_range(to, v, r);
+    fprintf(to, " has %" PRIu64 " bytes, which are not a count of 4 bytes for each of its %" PRIu64 " trees and the entries that these counts announce",
             r.second + 1 - r.first, count_trees(tree_text_of(v, which)));
 }
 
@@ -157,7 +164,7 @@ void explain_load(FILE *to, const struct voice *v, uint64_t which, const uint64_
     case LARSAVIM_NOSTREAM: fputs("[STREAM] has nothing for this stream", to); break;
     case LARSAVIM_USEGV: explain_gv(to, v, which); break;
     case LARSAVIM_RANGE: explain_range(to, v, which); break;
-    case LARSAVIM_TEXT: put_text_range(to, v, which); fputs(", is not in the grammar of questions and trees", to); break;
+    case LARSAVIM_TEXT: explain_text(to, v, which); break;
     case LARSAVIM_STATE: explain_state(to, v, which); break;
     case LARSAVIM_BLOCK: explain_block(to, v, which); break;
     case LARSAVIM_NODEREF:
