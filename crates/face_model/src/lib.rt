@@ -1,10 +1,7 @@
 // The calls on a model and on loaded tables, their answers in numbers (host/larsavim.h): what a model needs, a load, a walk. The exports of `larsavim` write
 // these answers out. Any file, any words, any tables, any numbers. Assumes nothing.
-use error::Refusal;
 use face_open::judged;
 use header_take::read_header;
-use model::Loaded;
-use model::load;
 use model_plan::Plan;
 use model_plan::Planned;
 use model_plan::needs;
@@ -13,10 +10,7 @@ use walk::walk;
 use which::Which;
 ghost use mathlib.Core.Path.{_≡_};
 ghost use Prim.Native.Nat.{_*_, _<_, _^_};
-ghost use Rattle.error.specs.Numbers.{numberOf, placeOf, lineOf};
-ghost use Rattle.header_words.specs.Words.{headerAt};
-ghost use Rattle.model.specs.Load.{loadOf};
-ghost use Rattle.face_model.specs.Answers.{whichOf, workFor, notNeeded, neededFor, neededBy, neededOf, noRows, rowsBy, endedOf};
+ghost use Rattle.face_model.specs.Answers.{whichOf, workFor, notNeeded, neededFor, neededOf, endedOf};
 
 // What a model needs: rows of each table, values, numbers of work, and the values in an entry.
 #[repr(C)]
