@@ -1,12 +1,10 @@
 // A load by the words of a record, its answer in numbers (host/larsavim.h). Any file, any words, any tables, any numbers. Assumes nothing.
-use error::Refusal;
 use face_model::Rows;
 use face_model::which_of;
 use face_open::judged;
 use header_take::read_header;
 use model::Loaded;
 use model::load;
-use which::Which;
 ghost use mathlib.Core.Path.{_≡_};
 ghost use Rattle.face_model.specs.Answers.{noRows, rowsBy};
 ghost use Rattle.face_load.specs.Answers.{filledOf};

@@ -1,74 +1,55 @@
+-- `face_load::load_said`: by how the words are judged. Assumes nothing.
+use mathlib.Core.Path.{sym, _∙_}
+use Rattle.face_open.proofs.Laws.{judged-room}
+use Rattle.face_load.proofs.Laws.{load-fit, load-unfit}
 use borrow.Author.Needs.{needs}
 use Rattle.face_load.proofs.load_said.Statement.{statement}
 use Rattle.face_load.proofs.load_said.Tie as tie
-use Rattle.face_load.proofs.load_said.Reads as reads
-use Rattle.face_load.proofs.load_said.Lts as lts
-use Rattle.face_load.proofs.no_rows.Reads as no-rows-reads
-use Rattle.face_load.proofs.rows_of.Reads as rows-of-reads
-use Rattle.face_model.proofs.which_of.Reads as which-of-reads
-use Rattle.face_open.proofs.judged.Reads as judged-reads
-use Rattle.header_take.proofs.read_header.Reads as read-header-reads
-use Rattle.model.proofs.load.Reads as load-reads
 
--- src/lib.rt:76:9
 judged-requires : tie.Need-judged-requires
 judged-requires c κs = search needs
 
--- src/lib.rt:78:13
 read-header-requires : tie.Need-read-header-requires
-read-header-requires c κs = ?
+read-header-requires c κs = judged-room _ (sym (c .if1 .taken) ∙ c .before .judged .ensures)
 
--- src/lib.rt:82:13
 which-of-requires : tie.Need-which-of-requires
 which-of-requires c κs = search needs
 
--- src/lib.rt:79:13
 load-requires : tie.Need-load-requires
 load-requires c κs = search needs
 
--- src/lib.rt:91:9
 rows-of-requires : tie.Need-rows-of-requires
 rows-of-requires c κs = search needs
 
--- src/lib.rt:91:9
 same-length : tie.Need-same-length
 same-length c = search needs
 
--- src/lib.rt:91:9
 same-length-2 : tie.Need-same-length-2
 same-length-2 c = search needs
 
--- src/lib.rt:91:9
 same-length-3 : tie.Need-same-length-3
 same-length-3 c = search needs
 
--- src/lib.rt:91:9
 same-length-4 : tie.Need-same-length-4
 same-length-4 c = search needs
 
--- src/lib.rt:91:9
 same-length-5 : tie.Need-same-length-5
 same-length-5 c = search needs
 
--- src/lib.rt:91:9
 same-length-6 : tie.Need-same-length-6
 same-length-6 c = search needs
 
--- src/lib.rt:91:9
 same-length-7 : tie.Need-same-length-7
 same-length-7 c = search needs
 
--- src/lib.rt:91:9
 returns : tie.Need-returns
-returns c = ?
+returns c = let a = c .before .before .before .before .before .before .before .before .before .before .before .before .before .before .before .before .before .before .before .before .before .before .before .before .before .before .before .before .before .before .before .before .before .before .args in load-fit (a .file .now) (a .words .now) (a .which) (a .questions .now) (a .patterns .now) (a .trees .now) (a .records .now) (a .blocks .now) (a .values .now) (a .work .now) (c .before .before .before .before .before .before .before .before .before .before .before .before .before .before .before .before .before .before .before .before .before .before .before .before .before .judged .ensures) (c .before .before .before .before .before .before .before .before .before .before .before .before .before .before .before .before .before .before .before .before .before .before .before .before .if1 .taken) (c .before .before .before .before .before .before .before .before .before .before .before .before .before .before .before .before .before .before .before .before .before .before .before .read-header .ensures) (c .before .before .before .before .before .before .before .before .before .before .before .before .before .before .before .before .before .before .before .before .before .before .which-of .ensures) (c .before .before .before .before .before .before .before .before .before .before .before .before .before .before .load .ensures) (c .rows-of .ensures)
 
--- src/lib.rt:93:5
 no-rows-requires : tie.Need-no-rows-requires
 no-rows-requires c κs = search needs
 
--- src/lib.rt:62:1
 returns-2 : tie.Need-returns-2
-returns-2 c = ?
+returns-2 c = let a = c .before .before .before .before .before .before .before .before .before .before .before .args in load-unfit (a .file .now) (a .words .now) (a .which) (a .questions .now) (a .patterns .now) (a .trees .now) (a .records .now) (a .blocks .now) (a .values .now) (a .work .now) (c .before .before .judged .ensures) (c .before .if1 .left) (c .no-rows .ensures)
 
 pub load-said-spec : {M : Type 1} → statement M
 load-said-spec =
