@@ -29,8 +29,7 @@ module _ (s u : List ℕ) (n : ℕ) (q a t r b v : List ℕ) (w : List ℤ) {j :
   load-fit {h} {k} z f g i y =
       let E : filledBy (loadOf s h k q a t r b v w) ≡ filledOf s u n q a t r b v w =
       ap₂ (λ (h : Header) (k : Which). filledBy (loadOf s h k q a t r b v w)) f g
-      ∙ sym (ap (λ (c : Bool). cond c (filledBy (loadOf s (headerAt u) (whichOf n) q a t r b v w)) (untouched (judgedOf u) q a t r b v w)) (fit u e z)) in
-      (
+      ∙ sym (ap (λ (c : Bool). cond c (filledBy (loadOf s (headerAt u) (whichOf n) q a t r b v w)) (untouched (judgedOf u) q a t r b v w)) (fit u e z)) in (
         y ∙ ap rowsBy (i .0) ∙ ap (λ (x : Filled). x .rows) E,
         i .1 ∙ ap (λ (x : Filled). x .questions) E,
         i .2 ∙ ap (λ (x : Filled). x .patterns) E,
@@ -46,8 +45,7 @@ module _ (s u : List ℕ) (n : ℕ) (q a t r b v : List ℕ) (w : List ℤ) {j :
   load-unfit z y =
       let E : untouched j q a t r b v w ≡ filledOf s u n q a t r b v w =
       ap (λ (i : ℕ). untouched i q a t r b v w) e
-      ∙ sym (ap (λ (c : Bool). cond c (filledBy (loadOf s (headerAt u) (whichOf n) q a t r b v w)) (untouched (judgedOf u) q a t r b v w)) (unfit u e z)) in
-      (
+      ∙ sym (ap (λ (c : Bool). cond c (filledBy (loadOf s (headerAt u) (whichOf n) q a t r b v w)) (untouched (judgedOf u) q a t r b v w)) (unfit u e z)) in (
         y ∙ ap (λ (x : Filled). x .rows) E,
         ap (λ (x : Filled). x .questions) E,
         ap (λ (x : Filled). x .patterns) E,

@@ -33,8 +33,7 @@ module _ (s w : List ℕ) {o : Opened} (e : o ≡ openOf s) where
   unfolding openSaid openWords
   open-few v h =
       let f : openOf s .verdict ≡ Accepted = sym (ap (λ (y : Opened). y .verdict) e) ∙ v in
-      let t : ltb (length w) 647 ≡ true = lt-ltb (length w) 647 h in
-      (
+      let t : ltb (length w) 647 ≡ true = lt-ltb (length w) 647 h in (
         sym (ap (openSaidBy (length w)) f ∙ ap (λ (b : Bool). cond b (said 20 0) (said 0 0)) t),
         sym (ap (openWordsBy w (openOf s .header)) f ∙ ap (λ (b : Bool). cond b w (sets w 0 (headerWords (openOf s .header)))) t),
       )
@@ -43,8 +42,7 @@ module _ (s w : List ℕ) {o : Opened} (e : o ≡ openOf s) where
   unfolding openSaid openWords
   open-done {w′} v h q =
       let f : openOf s .verdict ≡ Accepted = sym (ap (λ (y : Opened). y .verdict) e) ∙ v in
-      let t : ltb (length w) 647 ≡ false = le-ltb (length w) 647 h in
-      (
+      let t : ltb (length w) 647 ≡ false = le-ltb (length w) 647 h in (
         sym (ap (openSaidBy (length w)) f ∙ ap (λ (b : Bool). cond b (said 20 0) (said 0 0)) t),
         q ∙ ap (λ (y : Opened). sets w 0 (headerWords (y .header))) e ∙ sym (ap (openWordsBy w (openOf s .header)) f ∙ ap (λ (b : Bool). cond b w (sets w 0 (headerWords (openOf s .header)))) t),
       )

@@ -1,14 +1,10 @@
 // The face: the public calls exported to C, on numbers and slices alone (host/larsavim.h documents each). No call has a requirement: any bytes, any words, any
 // numbers, slices of any length. A slice for an answer that is too short is 20 before all else, with nothing written. Assumes nothing.
 use face_load::load_said;
-use face_model::Ended;
 use face_model::Needed;
 use face_model::Rows;
 use face_model::needs_said;
 use face_model::walk_said;
-use face_open::Pair;
-use face_open::Part;
-use face_open::Said;
 use face_open::comment_said;
 use face_open::get_said;
 use face_open::open_words;
@@ -112,7 +108,12 @@ pub extern "C" fn larsavim_open(file: &[u8], words: &mut [u64], out: &mut [u64])
 
 // COMMENT, of a file and a fallback of so many bytes.
 #[no_mangle]
-pub extern "C" fn larsavim_comment(file_len: u64, words: &[u64], fallback_len: u64, out: &mut [u64]) -> u64
+pub extern "C" fn larsavim_comment(
+    file_len: u64,
+    words: &[u64],
+    fallback_len: u64,
+    out: &mut [u64],
+) -> u64
     ensures { λ r. ⌜ (r ≡ answered (length (now (out .entry))) 4 (commentSaid «file_len» (now (words .entry)) «fallback_len» .number)) × (now (out .exit) ≡ written (now (out .entry)) 4 (partNumbers (commentSaid «file_len» (now (words .entry)) «fallback_len»))) ⌝ }
 {
     if out.len() < COMMENT_OUT {
@@ -183,7 +184,16 @@ pub extern "C" fn larsavim_load(
         return ROOM;
     }
     let rows = load_said(
-        file, words, which, questions, patterns, trees, records, blocks, values, work,
+        file,
+        words,
+        which,
+        questions,
+        patterns,
+        trees,
+        records,
+        blocks,
+        values,
+        work,
     );
     put_rows(out, rows);
     rows.number
