@@ -17,7 +17,8 @@ use Rattle.header.specs.declared.StreamData.{StreamData}
 use Rattle.header.specs.declared.PositionData.{PositionData}
 use Rattle.header.specs.declared.Header.{Header}
 use Rattle.laws.proofs.Tables.{sets-at}
-use Rattle.header_words.specs.Words.{run, flat, flagWord, spanWords, rangeWords, spansWords, rangesWords, globalWords, streamWords, positionWords, streamsWords, positionsWords, headerWords, wordAt, flagAt, spanAt, rangeAt, spansAt, rangesAt, globalAt, streamAt, positionAt, streamsAt, positionsAt, headerAt}
+use Rattle.leaves.proofs.Every.{both, each-all}
+use Rattle.header_words.specs.Words.{run, flat, flagWord, spanWords, rangeWords, spansWords, rangesWords, globalWords, streamWords, positionWords, streamsWords, positionsWords, headerWords, wordAt, flagAt, spanAt, rangeAt, spansAt, rangesAt, globalAt, streamAt, positionAt, streamsAt, positionsAt, headerAt, isFlag, groupFlags, flagsFit}
 use Rattle.header_words.proofs.Items.{Stands, stands-left, stands-right, stands-item, run-back}
 use Rattle.header_words.proofs.Lengths.{length-spans, length-global, length-stream, length-position, length-streams, length-positions, length-header}
 
@@ -193,6 +194,50 @@ module _ (t : List ℕ) where
 
 -- ---- the round trip: reading the words that were written gives the record
 
+stands-written : (w : List ℕ) (h : Header) → 647 ≤ length w → Stands (sets w 0 (headerWords h)) 0 (headerWords h)
+stands-written w h l = record { each = λ k q. sets-at (headerWords h) w 0 k 0 q (omega (arith, length-header h)) }
+
 pub read-written : (w : List ℕ) (h : Header) → 647 ≤ length w → Shaped h → headerAt (sets w 0 (headerWords h)) ≡ h
-read-written w h l f =
-    header-back (sets w 0 (headerWords h)) h f (record { each = λ k q. sets-at (headerWords h) w 0 k 0 q (omega (arith, length-header h)) })
+read-written w h l f = header-back (sets w 0 (headerWords h)) h f (stands-written w h l)
+
+-- ---- the words of a record are judged to be a record: each flag is 0 or 1
+
+flag-fits : (b : Bool) → isFlag (flagWord b) ≡ true
+flag-fits true = refl
+flag-fits false = refl
+
+module _ (t : List ℕ) (h : Header) (s : Stands t 0 (headerWords h)) where
+  group-fits : (i : ℕ) → i < 8 → groupFlags t i ≡ true
+  unfolding headerWords groupFlags streamWords positionWords flat
+  group-fits i l =
+      let last : List ℕ = h .«position_count» ∷ h .«data_start» ∷ h .«data_len» ∷ [] in
+      let mid : List ℕ = h .«stream_count» ∷ h .«duration_pdf» .from ∷ h .«duration_pdf» .to ∷ h .«duration_tree» .from ∷ h .«duration_tree» .to ∷ [] in
+      let global : List ℕ = globalWords (h .global) in
+      let streams : List ℕ = streamsWords (h .streams) in
+      let positions : List ℕ = positionsWords (h .positions) in
+      let r₁ : Stands t 95 (streams ++ (mid ++ (positions ++ last))) = stands-right t 0 global (streams ++ (mid ++ (positions ++ last))) s 95 (omega (arith, length-global (h .global))) in
+      let r₂ : Stands t 407 (mid ++ (positions ++ last)) = stands-right t 95 streams (mid ++ (positions ++ last)) r₁ 407 (omega (arith, length-streams (h .streams))) in
+      let r₃ : Stands t 412 (positions ++ last) = stands-right t 407 mid (positions ++ last) r₂ 412 refl in
+      let d : StreamData = getD (h .streams) (0 + i) noStream in
+      let p : PositionData = getD (h .positions) (0 + i) noPosition in
+      let x : Stands t (95 + 39 * i) (streamWords d) = stands-item t (λ k. streamWords (getD (h .streams) k noStream)) 39 (λ j. length-stream (getD (h .streams) j noStream)) 95 0 8 (stands-left t 95 streams (mid ++ (positions ++ last)) r₁) i l in
+      let y : Stands t (412 + 29 * i) (positionWords p) = stands-item t (λ k. positionWords (getD (h .positions) k noPosition)) 29 (λ j. length-position (getD (h .positions) j noPosition)) 412 0 8 (stands-left t 412 positions last r₃) i l in
+      both (ap isFlag (word t (95 + 39 * i) 4 (streamWords d) x (omega arith) (95 + 39 * i + 4) refl) ∙ flag-fits (d .«is_msd»))
+      (both (ap isFlag (word t (95 + 39 * i) 5 (streamWords d) x (omega arith) (95 + 39 * i + 5) refl) ∙ flag-fits (d .«use_gv»))
+      (both (ap isFlag (word t (412 + 29 * i) 25 (positionWords p) y (omega arith) (412 + 29 * i + 25) refl) ∙ flag-fits (p .«has_gv_pdf»))
+      (ap isFlag (word t (412 + 29 * i) 28 (positionWords p) y (omega arith) (412 + 29 * i + 28) refl) ∙ flag-fits (p .«has_gv_tree»))))
+
+  comment-flag : isFlag (wordAt t 94) ≡ true
+  unfolding headerWords globalWords flat
+  comment-flag =
+      let last : List ℕ = h .«position_count» ∷ h .«data_start» ∷ h .«data_len» ∷ [] in
+      let mid : List ℕ = h .«stream_count» ∷ h .«duration_pdf» .from ∷ h .«duration_pdf» .to ∷ h .«duration_tree» .from ∷ h .«duration_tree» .to ∷ [] in
+      let x : Stands t 0 (globalWords (h .global)) = stands-left t 0 (globalWords (h .global)) (streamsWords (h .streams) ++ (mid ++ (positionsWords (h .positions) ++ last))) s in
+      ap isFlag (word t 0 94 (globalWords (h .global)) x (omega arith) 94 refl) ∙ flag-fits (h .global .«has_comment»)
+
+  flags-fit : flagsFit t ≡ true
+  unfolding flagsFit
+  flags-fit = both comment-flag (each-all (groupFlags t) 0 8 (λ i a l. group-fits i (omega arith)))
+
+pub written-flags : (w : List ℕ) (h : Header) → 647 ≤ length w → flagsFit (sets w 0 (headerWords h)) ≡ true
+written-flags w h l = flags-fit (sets w 0 (headerWords h)) h (stands-written w h l)
