@@ -184,7 +184,16 @@ fn compare(
     work: &mut [i64],
 ) -> Stored {
     let loaded = load(
-        text, header, which, questions, patterns, trees, records, blocks, values, work,
+        text,
+        header,
+        which,
+        questions,
+        patterns,
+        trees,
+        records,
+        blocks,
+        values,
+        work,
     );
     match loaded {
         Loaded::Refused(why) => {
