@@ -1,3 +1,4 @@
 pub mod Every
 pub mod Judged
 pub mod Conditions
+pub mod Once

@@ -2,7 +2,8 @@
 // It opens each file and loads each of its models four ways: into tables that are longer than needed, into tables that are exactly full, and with each table
 // in turn a row short; all are filled with other numbers before. It says how many lines there are and how many differ in a number, a place, a row, a
 // value, the leaf check, or in what stands in the tables where nothing is to be written. The lines are three of each five of the stored lists, one after the
-// other: all of them don't fit its room. Assumes that the lines fit its room, and a file 4,096 bytes; a line that doesn't differs.
+// other: all of them don't fit its room. Assumes that the lines fit its room, a file 4,096 bytes,
+// and its models the tables of `long`; a line that doesn't differs.
 use error::Refusal;
 use header::Header;
 use header_lines::Verdict;
@@ -250,20 +251,20 @@ fn attempt(
     against: Against,
     lent: Lent,
 ) -> Stored {
-    let mut questions = [0x5a5a_5a5a_5a5a_5a5au64; 2048];
-    let mut patterns = [0x5a5a_5a5a_5a5a_5a5au64; 4096];
-    let mut trees = [0x5a5a_5a5a_5a5a_5a5au64; 2048];
-    let mut records = [0x5a5a_5a5a_5a5a_5a5au64; 8192];
-    let mut blocks = [0x5a5a_5a5a_5a5a_5a5au64; 1024];
-    let mut values = [0x5a5a_5a5a_5a5a_5a5au64; 1024];
-    let mut work = [0x5a5a_5a5a_5a5a_5a5ai64; 4096];
-    let q = least(lent.questions, 2048);
-    let p = least(lent.patterns, 4096);
-    let t = least(lent.trees, 2048);
-    let r = least(lent.records, 8192);
-    let b = least(lent.blocks, 1024);
-    let v = least(lent.values, 1024);
-    let w = least(lent.work, 4096);
+    let mut questions = [0x5a5a_5a5a_5a5a_5a5au64; 64];
+    let mut patterns = [0x5a5a_5a5a_5a5a_5a5au64; 64];
+    let mut trees = [0x5a5a_5a5a_5a5a_5a5au64; 64];
+    let mut records = [0x5a5a_5a5a_5a5a_5a5au64; 256];
+    let mut blocks = [0x5a5a_5a5a_5a5a_5a5au64; 32];
+    let mut values = [0x5a5a_5a5a_5a5a_5a5au64; 128];
+    let mut work = [0x5a5a_5a5a_5a5a_5a5ai64; 64];
+    let q = least(lent.questions, 64);
+    let p = least(lent.patterns, 64);
+    let t = least(lent.trees, 64);
+    let r = least(lent.records, 256);
+    let b = least(lent.blocks, 32);
+    let v = least(lent.values, 128);
+    let w = least(lent.work, 64);
     compare(
         c,
         s,
@@ -284,13 +285,13 @@ fn attempt(
 // All the room there is.
 fn long() -> Lent {
     Lent {
-        questions: 2048,
-        patterns: 4096,
-        trees: 2048,
-        records: 8192,
-        blocks: 1024,
-        values: 1024,
-        work: 4096,
+        questions: 64,
+        patterns: 64,
+        trees: 64,
+        records: 256,
+        blocks: 32,
+        values: 128,
+        work: 64,
     }
 }
 
