@@ -114,8 +114,17 @@ fn words(c: Stored, s: &[u8], t: &[u64], n: usize) -> Stored {
 
 // The front of a table.
 fn front(t: &[u64], n: usize) -> &[u64] {
-    let end = least(n, t.len());
-    &t[..end]
+    if t.len() <= n {
+        return t;
+    }
+    &t[..n]
+}
+
+fn front_work(t: &[i64], n: usize) -> &[i64] {
+    if t.len() <= n {
+        return t;
+    }
+    &t[..n]
 }
 
 // What a load is to be held against: the stored numbers, and the numbers of work and the width that come behind the rows; or a table is a row short.
@@ -168,25 +177,20 @@ fn refused(c: Stored, s: &[u8], why: Refusal) -> Stored {
     pair(pair(pair(said, s, 0, 0), s, 0, 0), s, 0, 0)
 }
 
-// A load into tables that are lent so long, compared with what is stored.
-fn compare(
+// What a load answered and left in its tables, compared with what is stored.
+fn judge(
     c: Stored,
     s: &[u8],
-    text: &[u8],
-    header: Header,
-    which: Which,
+    loaded: Loaded,
     against: Against,
-    questions: &mut [u64],
-    patterns: &mut [u64],
-    trees: &mut [u64],
-    records: &mut [u64],
-    blocks: &mut [u64],
-    values: &mut [u64],
-    work: &mut [i64],
+    questions: &[u64],
+    patterns: &[u64],
+    trees: &[u64],
+    records: &[u64],
+    blocks: &[u64],
+    values: &[u64],
+    work: &[i64],
 ) -> Stored {
-    let loaded = load(
-        text, header, which, questions, patterns, trees, records, blocks, values, work,
-    );
     match loaded {
         Loaded::Refused(why) => {
             let untouched = all_kept(questions, patterns, trees, records, blocks, values, work);
@@ -241,7 +245,58 @@ fn compare(
     }
 }
 
-// The same, with tables filled before.
+// A load into the fronts of the tables, so many numbers of each.
+fn run(
+    c: Stored,
+    s: &[u8],
+    text: &[u8],
+    header: Header,
+    which: Which,
+    against: Against,
+    lent: Lent,
+    questions: &mut [u64],
+    patterns: &mut [u64],
+    trees: &mut [u64],
+    records: &mut [u64],
+    blocks: &mut [u64],
+    values: &mut [u64],
+    work: &mut [i64],
+) -> Stored {
+    let q = least(lent.questions, questions.len());
+    let p = least(lent.patterns, patterns.len());
+    let t = least(lent.trees, trees.len());
+    let r = least(lent.records, records.len());
+    let b = least(lent.blocks, blocks.len());
+    let v = least(lent.values, values.len());
+    let w = least(lent.work, work.len());
+    let loaded = load(
+        text,
+        header,
+        which,
+        &mut questions[0..q],
+        &mut patterns[0..p],
+        &mut trees[0..t],
+        &mut records[0..r],
+        &mut blocks[0..b],
+        &mut values[0..v],
+        &mut work[0..w],
+    );
+    judge(
+        c,
+        s,
+        loaded,
+        against,
+        front(questions, q),
+        front(patterns, p),
+        front(trees, t),
+        front(records, r),
+        front(blocks, b),
+        front(values, v),
+        front_work(work, w),
+    )
+}
+
+// A load into tables that are filled before.
 fn attempt(
     c: Stored,
     s: &[u8],
@@ -258,27 +313,21 @@ fn attempt(
     let mut blocks = [0x5a5a_5a5a_5a5a_5a5au64; 32];
     let mut values = [0x5a5a_5a5a_5a5a_5a5au64; 128];
     let mut work = [0x5a5a_5a5a_5a5a_5a5ai64; 64];
-    let q = least(lent.questions, 64);
-    let p = least(lent.patterns, 64);
-    let t = least(lent.trees, 64);
-    let r = least(lent.records, 256);
-    let b = least(lent.blocks, 32);
-    let v = least(lent.values, 128);
-    let w = least(lent.work, 64);
-    compare(
+    run(
         c,
         s,
         text,
         header,
         which,
         against,
-        &mut questions[0..q],
-        &mut patterns[0..p],
-        &mut trees[0..t],
-        &mut records[0..r],
-        &mut blocks[0..b],
-        &mut values[0..v],
-        &mut work[0..w],
+        lent,
+        &mut questions,
+        &mut patterns,
+        &mut trees,
+        &mut records,
+        &mut blocks,
+        &mut values,
+        &mut work,
     )
 }
 

@@ -1,21 +1,21 @@
+-- `replay_voices::front`: a part of the table. Assumes nothing.
+use mathlib.Core.Path.{sym}
+use native.Mathlib.Omega.{arith}
+use lib.Seq.{length-take-le}
 use borrow.Author.Needs.{needs}
 use Rattle.replay_voices.proofs.front.Statement.{statement}
 use Rattle.replay_voices.proofs.front.Tie as tie
 use Rattle.replay_voices.proofs.front.Reads as reads
 use Rattle.replay_voices.proofs.front.Lts as lts
-use Rattle.replay_voices.proofs.least.Reads as least-reads
 
--- src/main.rt:116:9
-least-requires : tie.Need-least-requires
-least-requires c κs = search needs
-
--- src/main.rt:117:5
-slice-aggregate-result : tie.Need-slice-aggregate-result
-slice-aggregate-result c = ?
-
--- src/main.rt:115:1
 returns : tie.Need-returns
 returns c = search needs
 
+slice-aggregate-result : tie.Need-slice-aggregate-result
+slice-aggregate-result c = sym (length-take-le _ _ (omega arith))
+
+returns-2 : tie.Need-returns-2
+returns-2 c = search needs
+
 pub front-spec : {M : Type 1} → statement M
-front-spec = tie.close (tie.spec least-requires slice-aggregate-result returns)
+front-spec = tie.close (tie.spec returns slice-aggregate-result returns-2)
