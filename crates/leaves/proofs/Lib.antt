@@ -1,4 +1,3 @@
 pub mod Every
 pub mod Judged
 pub mod Conditions
-pub mod Once
