@@ -1,0 +1,92 @@
+// A load by the words of a record, its answer in numbers (host/larsavim.h). Any file, any words, any tables, any numbers. Assumes nothing.
+use face_model::Rows;
+use face_model::which_of;
+use face_open::judged;
+use header_take::read_header;
+use model::Loaded;
+use model::load;
+ghost use mathlib.Core.Path.{_≡_};
+ghost use Rattle.face_model.specs.Answers.{noRows, rowsBy};
+ghost use Rattle.face_load.specs.Answers.{filledOf};
+
+fn no_rows(number: u64, place: u64, line: u64) -> Rows
+    ensures { λ r. ⌜ r ≡ noRows number place line ⌝ }
+{
+    Rows {
+        number,
+        place,
+        line,
+        questions: 0,
+        patterns: 0,
+        trees: 0,
+        records: 0,
+        blocks: 0,
+        values: 0,
+    }
+}
+
+// A load's answer in numbers.
+fn rows_of(loaded: Loaded) -> Rows
+    ensures { λ r. ⌜ r ≡ rowsBy loaded ⌝ }
+{
+    match loaded {
+        Loaded::Done {
+            questions,
+            patterns,
+            trees,
+            records,
+            blocks,
+            values,
+        } => Rows {
+            number: 0,
+            place: 0,
+            line: 0,
+            questions: questions as u64,
+            patterns: patterns as u64,
+            trees: trees as u64,
+            records: records as u64,
+            blocks: blocks as u64,
+            values,
+        },
+        Loaded::Refused(refusal) => no_rows(
+            refusal.number(),
+            refusal.place() as u64,
+            refusal.line() as u64,
+        ),
+    }
+}
+
+// Loads the model that a number names.
+pub fn load_said(
+    file: &[u8],
+    words: &[u64],
+    which: u64,
+    questions: &mut [u64],
+    patterns: &mut [u64],
+    trees: &mut [u64],
+    records: &mut [u64],
+    blocks: &mut [u64],
+    values: &mut [u64],
+    work: &mut [i64],
+) -> Rows
+    ensures { λ r. ⌜ (r ≡ filledOf (now (file .entry)) (now (words .entry)) which (now (questions .entry)) (now (patterns .entry)) (now (trees .entry)) (now (records .entry)) (now (blocks .entry)) (now (values .entry)) (now (work .entry)) .rows) × (now (questions .exit) ≡ filledOf (now (file .entry)) (now (words .entry)) which (now (questions .entry)) (now (patterns .entry)) (now (trees .entry)) (now (records .entry)) (now (blocks .entry)) (now (values .entry)) (now (work .entry)) .questions) × (now (patterns .exit) ≡ filledOf (now (file .entry)) (now (words .entry)) which (now (questions .entry)) (now (patterns .entry)) (now (trees .entry)) (now (records .entry)) (now (blocks .entry)) (now (values .entry)) (now (work .entry)) .patterns) × (now (trees .exit) ≡ filledOf (now (file .entry)) (now (words .entry)) which (now (questions .entry)) (now (patterns .entry)) (now (trees .entry)) (now (records .entry)) (now (blocks .entry)) (now (values .entry)) (now (work .entry)) .trees) × (now (records .exit) ≡ filledOf (now (file .entry)) (now (words .entry)) which (now (questions .entry)) (now (patterns .entry)) (now (trees .entry)) (now (records .entry)) (now (blocks .entry)) (now (values .entry)) (now (work .entry)) .records) × (now (blocks .exit) ≡ filledOf (now (file .entry)) (now (words .entry)) which (now (questions .entry)) (now (patterns .entry)) (now (trees .entry)) (now (records .entry)) (now (blocks .entry)) (now (values .entry)) (now (work .entry)) .blocks) × (now (values .exit) ≡ filledOf (now (file .entry)) (now (words .entry)) which (now (questions .entry)) (now (patterns .entry)) (now (trees .entry)) (now (records .entry)) (now (blocks .entry)) (now (values .entry)) (now (work .entry)) .values) × (now (work .exit) ≡ filledOf (now (file .entry)) (now (words .entry)) which (now (questions .entry)) (now (patterns .entry)) (now (trees .entry)) (now (records .entry)) (now (blocks .entry)) (now (values .entry)) (now (work .entry)) .work) ⌝ }
+{
+    let number = judged(words);
+    if number == 0 {
+        let header = read_header(words);
+        let loaded = load(
+            file,
+            header,
+            which_of(which),
+            questions,
+            patterns,
+            trees,
+            records,
+            blocks,
+            values,
+            work,
+        );
+        return rows_of(loaded);
+    }
+    no_rows(number, 0, 0)
+}

@@ -1,0 +1,63 @@
+-- How answers are written, and what a slice that is too short leaves. Assumes nothing.
+use mathlib.Core.Path.{_≡_, refl, sym, ap, _∙_}
+use mathlib.Core.Bool.{Bool, cond}
+use mathlib.Core.List.{List, [], _∷_}
+use Prim.Native.Nat.{ℕ, _≤_, _<_}
+use borrow.Author.Tests.{lt-ltb, le-ltb}
+use lib.Dec.{ltb}
+use lib.ListN.{length}
+use lib.Seq.{sets}
+use Rattle.face_model.specs.declared.Needed.{Needed}
+use Rattle.face_model.specs.declared.Rows.{Rows}
+use Rattle.larsavim.specs.Face.{answered, written, left, neededNumbers, rowsNumbers}
+
+module _ (k n : ℕ) where
+  pub answer-short : (x : ℕ) → k < n → 20 ≡ answered k n x
+  unfolding answered
+  answer-short x h = sym (ap (λ (b : Bool). cond b 20 x) (lt-ltb k n h))
+
+  pub answer-full : (y x : ℕ) → n ≤ k → y ≡ x → y ≡ answered k n x
+  unfolding answered
+  answer-full y x h e = e ∙ sym (ap (λ (b : Bool). cond b 20 x) (le-ltb k n h))
+
+module _ (out : List ℕ) (n : ℕ) where
+  pub out-short : (l : List ℕ) → length out < n → out ≡ written out n l
+  unfolding written
+  out-short l h = sym (ap (λ (b : Bool). cond b out (sets out 0 l)) (lt-ltb (length out) n h))
+
+  pub out-full : (o l : List ℕ) → n ≤ length out → o ≡ sets out 0 l → o ≡ written out n l
+  unfolding written
+  out-full o l h e = e ∙ sym (ap (λ (b : Bool). cond b out (sets out 0 l)) (le-ltb (length out) n h))
+
+  module _ {A : Type 0} (t u : List A) where
+    pub left-short : length out < n → t ≡ left out n t u
+    unfolding left
+    left-short h = sym (ap (λ (b : Bool). cond b t u) (lt-ltb (length out) n h))
+
+    pub left-full : (v : List A) → n ≤ length out → v ≡ u → v ≡ left out n t u
+    unfolding left
+    left-full v h e = e ∙ sym (ap (λ (b : Bool). cond b t u) (le-ltb (length out) n h))
+
+  -- a call that writes its answer alone
+  pub short : (x : ℕ) (l : List ℕ) → length out < n → (20 ≡ answered (length out) n x) × (out ≡ written out n l)
+  short x l h = (answer-short (length out) n x h, out-short l h)
+
+  pub full : {A : Type 0} (number : A → ℕ) (numbers : A → List ℕ) (a b : A) (o : List ℕ) → n ≤ length out → a ≡ b → o ≡ sets out 0 (numbers a)
+      → (number a ≡ answered (length out) n (number b)) × (o ≡ written out n (numbers b))
+  full {A} number numbers a b o h e q =
+      (answer-full (length out) n (number a) (number b) h (ap number e), out-full o (numbers b) h (q ∙ ap (λ (x : A). sets out 0 (numbers x)) e))
+
+-- ---- answers written part by part
+
+pub rows-written : (x : Rows) (t t₁ t₂ t₃ : List ℕ) → t₁ ≡ sets t 0 (x .number ∷ x .place ∷ x .line ∷ []) → t₂ ≡ sets t₁ 3 (x .questions ∷ x .patterns ∷ x .trees ∷ x .records ∷ [])
+    → t₃ ≡ sets t₂ 7 (x .blocks ∷ x .values ∷ []) → t₃ ≡ sets t 0 (rowsNumbers x)
+rows-written x t t₁ t₂ t₃ e₁ e₂ e₃ =
+    e₃
+    ∙ ap (λ (u : List ℕ). sets u 7 (x .blocks ∷ x .values ∷ [])) (e₂ ∙ ap (λ (u : List ℕ). sets u 3 (x .questions ∷ x .patterns ∷ x .trees ∷ x .records ∷ [])) e₁)
+
+pub needed-written : (x : Needed) (t t₁ t₂ t₃ : List ℕ) → t₁ ≡ sets t 0 (x .number ∷ x .place ∷ x .line ∷ []) → t₂ ≡ sets t₁ 3 (x .questions ∷ x .patterns ∷ x .trees ∷ x .records ∷ [])
+    → t₃ ≡ sets t₂ 7 (x .blocks ∷ x .values ∷ x .work ∷ x .width ∷ []) → t₃ ≡ sets t 0 (neededNumbers x)
+needed-written x t t₁ t₂ t₃ e₁ e₂ e₃ =
+    e₃
+    ∙ ap (λ (u : List ℕ). sets u 7 (x .blocks ∷ x .values ∷ x .work ∷ x .width ∷ []))
+    (e₂ ∙ ap (λ (u : List ℕ). sets u 3 (x .questions ∷ x .patterns ∷ x .trees ∷ x .records ∷ [])) e₁)

@@ -1,0 +1,61 @@
+-- `larsavim::larsavim_load`: too short, or written. Assumes nothing.
+use mathlib.Core.Path.{ap, _∙_}
+use lib.Seq.{sets}
+use Rattle.larsavim.specs.Face.{rowsNumbers}
+use Rattle.larsavim.proofs.Laws.{answer-short, answer-full, out-short, out-full, left-short, left-full}
+use borrow.Author.Needs.{needs}
+use Rattle.larsavim.proofs.larsavim_load.Statement.{statement}
+use Rattle.larsavim.proofs.larsavim_load.Tie as tie
+
+returns : tie.Need-returns
+returns c = (answer-short _ _ _ (c .if1 .taken), left-short _ _ _ _ (c .if1 .taken), left-short _ _ _ _ (c .if1 .taken), left-short _ _ _ _ (c .if1 .taken), left-short _ _ _ _ (c .if1 .taken), left-short _ _ _ _ (c .if1 .taken), left-short _ _ _ _ (c .if1 .taken), left-short _ _ _ _ (c .if1 .taken), out-short _ _ _ (c .if1 .taken))
+
+load-said-requires : tie.Need-load-said-requires
+load-said-requires c κs = search needs
+
+put-rows-requires : tie.Need-put-rows-requires
+put-rows-requires c κs = search needs
+
+same-length : tie.Need-same-length
+same-length c = search needs
+
+same-length-2 : tie.Need-same-length-2
+same-length-2 c = search needs
+
+same-length-3 : tie.Need-same-length-3
+same-length-3 c = search needs
+
+same-length-4 : tie.Need-same-length-4
+same-length-4 c = search needs
+
+same-length-5 : tie.Need-same-length-5
+same-length-5 c = search needs
+
+same-length-6 : tie.Need-same-length-6
+same-length-6 c = search needs
+
+same-length-7 : tie.Need-same-length-7
+same-length-7 c = search needs
+
+same-length-8 : tie.Need-same-length-8
+same-length-8 c = search needs
+
+returns-2 : tie.Need-returns-2
+returns-2 c = (answer-full _ _ _ _ (c .before .before .before .before .before .before .before .before .before .before .before .before .before .before .before .before .before .before .before .before .before .before .before .before .before .if1 .left) (ap (λ x. x .number) (c .before .before .before .before .before .before .before .before .before .before .before .before .before .before .before .before .before .load-said .ensures .0)), left-full _ _ _ _ _ (c .before .before .before .before .before .before .before .before .before .before .before .before .before .before .before .before .before .before .before .before .before .before .before .before .before .if1 .left) (c .before .before .before .before .before .before .before .before .before .before .before .before .before .before .before .before .before .load-said .ensures .1), left-full _ _ _ _ _ (c .before .before .before .before .before .before .before .before .before .before .before .before .before .before .before .before .before .before .before .before .before .before .before .before .before .if1 .left) (c .before .before .before .before .before .before .before .before .before .before .before .before .before .before .before .before .before .load-said .ensures .2), left-full _ _ _ _ _ (c .before .before .before .before .before .before .before .before .before .before .before .before .before .before .before .before .before .before .before .before .before .before .before .before .before .if1 .left) (c .before .before .before .before .before .before .before .before .before .before .before .before .before .before .before .before .before .load-said .ensures .3), left-full _ _ _ _ _ (c .before .before .before .before .before .before .before .before .before .before .before .before .before .before .before .before .before .before .before .before .before .before .before .before .before .if1 .left) (c .before .before .before .before .before .before .before .before .before .before .before .before .before .before .before .before .before .load-said .ensures .4), left-full _ _ _ _ _ (c .before .before .before .before .before .before .before .before .before .before .before .before .before .before .before .before .before .before .before .before .before .before .before .before .before .if1 .left) (c .before .before .before .before .before .before .before .before .before .before .before .before .before .before .before .before .before .load-said .ensures .5), left-full _ _ _ _ _ (c .before .before .before .before .before .before .before .before .before .before .before .before .before .before .before .before .before .before .before .before .before .before .before .before .before .if1 .left) (c .before .before .before .before .before .before .before .before .before .before .before .before .before .before .before .before .before .load-said .ensures .6), left-full _ _ _ _ _ (c .before .before .before .before .before .before .before .before .before .before .before .before .before .before .before .before .before .before .before .before .before .before .before .before .before .if1 .left) (c .before .before .before .before .before .before .before .before .before .before .before .before .before .before .before .before .before .load-said .ensures .7), out-full _ _ _ _ (c .before .before .before .before .before .before .before .before .before .before .before .before .before .before .before .before .before .before .before .before .before .before .before .before .before .if1 .left) (c .before .before .put-rows .ensures ∙ ap (λ x. sets (c .before .before .before .before .before .before .before .before .before .before .before .before .before .before .before .before .before .before .before .before .before .before .before .before .before .before .before .before .before .before .before .before .before .before .before .args .out .now) 0 (rowsNumbers x)) (c .before .before .before .before .before .before .before .before .before .before .before .before .before .before .before .before .before .load-said .ensures .0)))
+
+pub larsavim-load-spec : {M : Type 1} → statement M
+larsavim-load-spec =
+    tie.close
+    (tie.spec
+    returns
+    load-said-requires
+    put-rows-requires
+    same-length
+    same-length-2
+    same-length-3
+    same-length-4
+    same-length-5
+    same-length-6
+    same-length-7
+    same-length-8
+    returns-2)

@@ -1,0 +1,213 @@
+/* larsavim.h: a loader for HTS voice files (.htsvoice) that takes no memory of its own and trusts no byte of its input.
+ *
+ * This header is all that a program needs. Behind it stands a static library (crate `larsavim`) whose calls are proved to answer as
+ * is written here, for any bytes, any words, any numbers and any lengths. Two things no call can check, and the caller sees to them:
+ *
+ *   1. each pointer is good for its length: that many bytes or 8-byte numbers can be read there (and written, where the parameter
+ *      is not const), at an address that suits their type, and nobody else writes them until the call returns. A length of 0 asks
+ *      nothing of its pointer, which may be null;
+ *   2. nothing that is lent for writing (`words` of larsavim_open, the tables and the work of larsavim_load, every `out`) overlaps
+ *      another slice of the same call.
+ *
+ * Numbers are 64 bits wide; a slice is a pointer and, behind it, how many bytes or numbers it has. No call keeps a pointer.
+ * 01 is docs/01-scope.md, whose words are used here; docs/INTEGRATION.md shows the calls at work.
+ */
+#ifndef LARSAVIM_H
+#define LARSAVIM_H
+
+#include <stdint.h>
+
+#ifdef __cplusplus
+extern "C" {
+#endif
+
+/* ---- Numbers the loader gives ------------------------------------------------------------------------------------------------ */
+
+#define LARSAVIM_SUCCESS 0
+#define LARSAVIM_SPLIT 1      /* the file doesn't split into [GLOBAL], [STREAM], [POSITION] and [DATA] */
+#define LARSAVIM_UTF8 2       /* a header section is no UTF-8; place: the start of the first bad sequence */
+#define LARSAVIM_EOF 3        /* unexpected end of input; place: the end of the section or group value */
+#define LARSAVIM_BOOL 4       /* expected bool (0 or 1); place, as in 5 to 8: the first byte not accepted */
+#define LARSAVIM_INTEGER 5    /* expected integer value */
+#define LARSAVIM_COMMA 6      /* expected comma as an array delimiter */
+#define LARSAVIM_COLON 7      /* expected colon as map delimiter */
+#define LARSAVIM_NEWLINE 8    /* expected newline as map delimiter */
+#define LARSAVIM_FIELD 9      /* a field is missing or stands twice, or a pair has fewer than two numbers */
+#define LARSAVIM_NUMBER 10    /* a header number is 2^64 or more; place: its first digit */
+#define LARSAVIM_TRAILING 11  /* header text is left over */
+#define LARSAVIM_LIMIT 12     /* a limit below is exceeded */
+#define LARSAVIM_NOPOS 13     /* a STREAM_TYPE name has no entry in [POSITION], or there is no such stream number */
+#define LARSAVIM_NOSTREAM 14  /* a STREAM_TYPE name has no entry in [STREAM] */
+#define LARSAVIM_USEGV 15     /* GV is asked for, and USE_GV is 0 or GV_TREE or GV_PDF is absent */
+#define LARSAVIM_RANGE 16     /* a range isn't inside the data, or the record doesn't fit its limits or the file; or words that are no record */
+#define LARSAVIM_TEXT 17      /* tree text outside the grammar */
+#define LARSAVIM_STATE 18     /* tree text in the grammar, but a state is negative */
+#define LARSAVIM_BLOCK 19     /* the length of a PDF block is wrong */
+#define LARSAVIM_ROOM 20      /* a lent table, the work, the words or the answer's slice is smaller than needed */
+#define LARSAVIM_NODEREF 21   /* a line refers to an id that no line bears; place: the tree; line: the line */
+#define LARSAVIM_QUESTREF 22  /* a line asks a question that isn't there; place and line as in 21 */
+#define LARSAVIM_LONENODE 23  /* a tree's one reference is a node; place and line as in 21 */
+#define LARSAVIM_WALKTABLE 24 /* no such tree or no record in it, a record met outside its tree, the tables or the kinds, or no answer for its question */
+#define LARSAVIM_STEPS 25     /* another question would pass the walk's limit */
+
+/* A place is a file offset, counted from 0, for 2 to 8 and 10; the tree, counted from 0, for 21 to 23; otherwise 0. A line is
+ * counted from 0 within its tree, for 21 to 23; otherwise 0. */
+
+/* ---- Limits ------------------------------------------------------------------------------------------------------------------- */
+
+#define LARSAVIM_FILE_LIMIT 16777216      /* bytes of a file */
+#define LARSAVIM_STREAM_LIMIT 8           /* names in STREAM_TYPE; bracketed names in [STREAM]; and in [POSITION] */
+#define LARSAVIM_WINDOW_LIMIT 8           /* ranges in STREAM_WIN */
+#define LARSAVIM_OPTION_LIMIT 16          /* items of OPTION */
+#define LARSAVIM_GV_OFF_CONTEXT_LIMIT 32  /* items of GV_OFF_CONTEXT */
+#define LARSAVIM_WIDTH_LIMIT 4096         /* values in an entry of a PDF block */
+
+/* ---- Answers -------------------------------------------------------------------------------------------------------------------
+ * A call with an `out` writes its answer there, so many numbers as its constant says, all of them in every case, and returns the
+ * first one, which is 0 or why it refuses. Numbers of `out` beyond the answer are unchanged. Where `out` is shorter, the call
+ * returns 20 before it looks at anything else, and writes nothing anywhere. */
+
+#define LARSAVIM_OPEN_OUT 2     /* number, place */
+#define LARSAVIM_COMMENT_OUT 4  /* number, slice, start, length */
+#define LARSAVIM_GET_OUT 2      /* number, value */
+#define LARSAVIM_PAIR_OUT 3     /* number, first, second */
+#define LARSAVIM_NEEDS_OUT 11   /* number, place, line, questions, patterns, trees, records, blocks, values, work, width */
+#define LARSAVIM_LOAD_OUT 9     /* number, place, line, questions, patterns, trees, records, blocks, values */
+#define LARSAVIM_WALK_OUT 3     /* number, PDF number, questions asked */
+
+/* ---- Opening -------------------------------------------------------------------------------------------------------------------
+ * The header record crosses as words: LARSAVIM_WORDS numbers that an opening writes and later calls take back. Words that no
+ * opening wrote are judged like any record. Every call that takes words says 20 where there are fewer than LARSAVIM_WORDS (before
+ * all else but a short `out`), then 16 where a flag is neither 0 nor 1; words beyond LARSAVIM_WORDS are neither read nor written. */
+
+#define LARSAVIM_WORDS 647
+
+/* Opens a file. out: number (0, 1 to 12, 20), place. On 0 the words hold the record. A refused opening leaves the words unchanged;
+ * fewer words than LARSAVIM_WORDS is 20, after every refusal of the file. */
+uint64_t larsavim_open(const uint8_t *file, uint64_t file_len, uint64_t *words, uint64_t words_len, uint64_t *out, uint64_t out_len);
+
+/* The value of COMMENT. out: number (0, 16, 20), slice, start, length: `length` bytes from `start` on, without quotes, of the file
+ * (slice 0), or of the caller's own fallback text of `fallback_len` bytes, whole (slice 1, start 0), where the key is missing. A
+ * record that points past the file counts as missing, an empty value doesn't. Refused: slice, start and length are 0. */
+uint64_t larsavim_comment(uint64_t file_len, const uint64_t *words, uint64_t words_len, uint64_t fallback_len, uint64_t *out, uint64_t out_len);
+
+/* ---- The record ----------------------------------------------------------------------------------------------------------------
+ * A field is named by a constant below. larsavim_get reads a number, a count or a flag, out: number (0, 16, 20), value.
+ * larsavim_pair reads a string or a range, out: number (0, 16, 20), first, second: of a string its start, counted from the file's
+ * first byte, and its length, without quotes; of a range its first and its last byte, counted from the first data byte, the last
+ * one included: 5-5 is one byte, 5-4 is none. A field that the record doesn't have is 16; refused, the values are 0. What stands
+ * past a list's count or beside a flag of 0 is 0 in words that an opening wrote. */
+
+uint64_t larsavim_get(const uint64_t *words, uint64_t words_len, uint64_t field, uint64_t *out, uint64_t out_len);
+uint64_t larsavim_pair(const uint64_t *words, uint64_t words_len, uint64_t field, uint64_t *out, uint64_t out_len);
+
+/* [GLOBAL] */
+#define LARSAVIM_HTS_VOICE_VERSION 0         /* string */
+#define LARSAVIM_SAMPLING_FREQUENCY 2        /* number */
+#define LARSAVIM_FRAME_PERIOD 3              /* number */
+#define LARSAVIM_NUM_STATES 4                /* number */
+#define LARSAVIM_NUM_STREAMS 5               /* number */
+#define LARSAVIM_STREAM_TYPE 6               /* strings: k-th at + 2 * k */
+#define LARSAVIM_STREAM_TYPE_COUNT 22        /* count */
+#define LARSAVIM_FULLCONTEXT_FORMAT 23       /* string */
+#define LARSAVIM_FULLCONTEXT_VERSION 25      /* string */
+#define LARSAVIM_GV_OFF_CONTEXT 27           /* strings: k-th at + 2 * k */
+#define LARSAVIM_GV_OFF_CONTEXT_COUNT 91     /* count */
+#define LARSAVIM_COMMENT 92                  /* string, where HAS_COMMENT is 1 */
+#define LARSAVIM_HAS_COMMENT 94              /* flag */
+
+/* [STREAM]: group i, by first appearance, at LARSAVIM_STREAM(i) + .. */
+#define LARSAVIM_STREAMS 95
+#define LARSAVIM_STREAM_WORDS 39
+#define LARSAVIM_STREAM(i) (LARSAVIM_STREAMS + LARSAVIM_STREAM_WORDS * (uint64_t)(i))
+#define LARSAVIM_STREAM_NAME 0               /* string, in brackets in the file */
+#define LARSAVIM_VECTOR_LENGTH 2             /* number */
+#define LARSAVIM_NUM_WINDOWS 3               /* number */
+#define LARSAVIM_IS_MSD 4                    /* flag */
+#define LARSAVIM_USE_GV 5                    /* flag */
+#define LARSAVIM_OPTION 6                    /* strings: k-th at + 2 * k */
+#define LARSAVIM_OPTION_COUNT 38             /* count */
+#define LARSAVIM_STREAM_COUNT 407            /* count of groups */
+
+/* [POSITION] */
+#define LARSAVIM_DURATION_PDF 408            /* range */
+#define LARSAVIM_DURATION_TREE 410           /* range */
+
+/* [POSITION]: group i, by first appearance, at LARSAVIM_POSITION(i) + .. */
+#define LARSAVIM_POSITIONS 412
+#define LARSAVIM_POSITION_WORDS 29
+#define LARSAVIM_POSITION(i) (LARSAVIM_POSITIONS + LARSAVIM_POSITION_WORDS * (uint64_t)(i))
+#define LARSAVIM_POSITION_NAME 0             /* string, in brackets in the file */
+#define LARSAVIM_STREAM_WIN 2                /* ranges: k-th at + 2 * k */
+#define LARSAVIM_STREAM_WIN_COUNT 18         /* count */
+#define LARSAVIM_STREAM_PDF 19               /* range */
+#define LARSAVIM_STREAM_TREE 21              /* range */
+#define LARSAVIM_GV_PDF 23                   /* range, where HAS_GV_PDF is 1 */
+#define LARSAVIM_HAS_GV_PDF 25               /* flag */
+#define LARSAVIM_GV_TREE 26                  /* range, where HAS_GV_TREE is 1 */
+#define LARSAVIM_HAS_GV_TREE 28              /* flag */
+#define LARSAVIM_POSITION_COUNT 644          /* count of groups */
+
+/* [DATA], in the file */
+#define LARSAVIM_DATA_START 645              /* number */
+#define LARSAVIM_DATA_LEN 646                /* number; both as a string at LARSAVIM_DATA_START */
+
+/* ---- Loading a model -----------------------------------------------------------------------------------------------------------
+ * `which` names a model: the duration model, or the model or GV model of the i-th name in STREAM_TYPE. */
+
+#define LARSAVIM_DURATION 0
+#define LARSAVIM_STREAM_MODEL(i) (2 * (uint64_t)(i) + 1)
+#define LARSAVIM_GV_MODEL(i) (2 * (uint64_t)(i) + 2)
+
+/* Tables are rows of so many numbers, row i from the (width * i)-th on. A table has length div width rows; a rest is never read.
+ *   question  name start, name length, first pattern, patterns
+ *   pattern   start, length
+ *   tree      state, first record, records, lines
+ *   record    0, question, yes, no   (a line: yes and no count from the tree's first record)
+ *             1, PDF number, 0, 0    (a leaf)
+ *   block     first value, entries
+ * String starts count from the first data byte. Values are binary64 bit patterns: each entry of a tree as mean, variance, mean,
+ * variance, .., and msd where the width is odd. */
+#define LARSAVIM_QUESTION_ROW 4
+#define LARSAVIM_PATTERN_ROW 2
+#define LARSAVIM_TREE_ROW 4
+#define LARSAVIM_RECORD_ROW 4
+#define LARSAVIM_BLOCK_ROW 2
+#define LARSAVIM_WORK_A_LINE 6  /* numbers of work for each line of the longest tree */
+
+/* What a model needs, without tables. out: number (0, 12 to 19, 20), place, line, then rows of questions, patterns, trees, records
+ * and blocks, values, numbers of work, and the width (values in an entry). Refused: all but the number are 0. */
+uint64_t larsavim_needs(const uint8_t *file, uint64_t file_len, const uint64_t *words, uint64_t words_len, uint64_t which, uint64_t *out, uint64_t out_len);
+
+/* Loads a model into the lent tables. out: number (0, 12 to 23), place, line, then rows needed of questions, patterns, trees,
+ * records and blocks, and values; these six are 0 when refused. Order: 20 for `out` and words, 16 for the record, 13, 14, 15, the
+ * width's limit (12), tree 16, 17, 18, PDF 16, 19, room 20, then linking, 21 to 23.
+ * Success: the rows stand at the front of each table, what is beyond them is unchanged, the work is zero over its whole length.
+ * Refused up to 20: everything lent but `out` is unchanged. 21 to 23: every table and the work are zero over their whole length.
+ * Later calls take the tables cut to the rows that the load returned. */
+uint64_t larsavim_load(const uint8_t *file, uint64_t file_len, const uint64_t *words, uint64_t words_len, uint64_t which,
+                       uint64_t *questions, uint64_t questions_len, uint64_t *patterns, uint64_t patterns_len,
+                       uint64_t *trees, uint64_t trees_len, uint64_t *records, uint64_t records_len,
+                       uint64_t *blocks, uint64_t blocks_len, uint64_t *values, uint64_t values_len,
+                       int64_t *work, uint64_t work_len, uint64_t *out, uint64_t out_len);
+
+/* ---- Loaded tables -------------------------------------------------------------------------------------------------------------- */
+
+/* Walks one tree from its first record on, with one answer byte a question (0 is no, any other is yes) and a limit on the
+ * questions asked. out: number (0, 20, 24, 25), PDF number, questions asked; both are 0 when refused. Only records met are judged:
+ * inside the tree's records and the table, kind, answer byte (24), then the limit (25). */
+uint64_t larsavim_walk(const uint64_t *trees, uint64_t trees_len, const uint64_t *records, uint64_t records_len, uint64_t tree,
+                       const uint8_t *answers, uint64_t answers_len, uint64_t limit, uint64_t *out, uint64_t out_len);
+
+/* The leaf check: 1 where, for each tree, there is a block row, its records, their questions and its values at the width given stand
+ * inside their tables, each yes and no inside its records, kinds are 0 or 1, and every leaf's number is at most its entry count;
+ * otherwise 0. */
+uint64_t larsavim_leaves(const uint64_t *questions, uint64_t questions_len, const uint64_t *trees, uint64_t trees_len,
+                         const uint64_t *records, uint64_t records_len, const uint64_t *blocks, uint64_t blocks_len,
+                         const uint64_t *values, uint64_t values_len, uint64_t width);
+
+#ifdef __cplusplus
+}
+#endif
+
+#endif
