@@ -11,7 +11,7 @@ use Rattle.header.specs.declared.PositionData.{PositionData}
 use Rattle.header.specs.declared.Header.{Header}
 use Rattle.header_words.specs.Words.{flagWord, spanWords, rangeWords, spansWords, rangesWords, globalWords, streamWords, positionWords, streamsWords, positionsWords, headerWords}
 use Rattle.header_words.proofs.Items.{laid-before}
-use Rattle.header_words.proofs.Back.{length-spans, length-ranges, length-global, length-streams, length-positions}
+use Rattle.header_words.proofs.Lengths.{length-spans, length-ranges, length-global, length-streams, length-positions}
 
 pub global-laid : (g : Global) (i : ℕ) (t t₁ t₂ t₃ t₄ t₅ t₆ t₇ : List ℕ)
     → t₁ ≡ sets t i (spanWords (g .«hts_voice_version»))

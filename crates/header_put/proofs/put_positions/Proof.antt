@@ -5,7 +5,7 @@ use borrow.Author.Needs.{needs}
 use lib.ListN.{length, getD}
 use Rattle.header_fits.specs.Fits.{noPosition}
 use Rattle.header_words.specs.Words.{positionWords}
-use Rattle.header_words.proofs.Back.{length-position}
+use Rattle.header_words.proofs.Lengths.{length-position}
 use Rattle.header_words.proofs.Items.{Laying, laying-none, laying-more, laying-done}
 use Rattle.header_put.proofs.put_positions.Statement.{statement}
 use Rattle.header_put.proofs.put_positions.Tie as tie

@@ -5,7 +5,7 @@ use borrow.Author.Needs.{needs}
 use lib.ListN.{length, getD}
 use Rattle.header_fits.specs.Fits.{noStream}
 use Rattle.header_words.specs.Words.{streamWords}
-use Rattle.header_words.proofs.Back.{length-stream}
+use Rattle.header_words.proofs.Lengths.{length-stream}
 use Rattle.header_words.proofs.Items.{Laying, laying-none, laying-more, laying-done}
 use Rattle.header_put.proofs.put_streams.Statement.{statement}
 use Rattle.header_put.proofs.put_streams.Tie as tie

@@ -1,14 +1,10 @@
--- The round trip: the record that stands in a record's words is the record, where its arrays are as long as their limits, which those of a Rattle value always are;
--- and how many words each part has. Assumes nothing.
-use mathlib.Core.Path.{_≡_, refl, sym, ap, _∙_}
-use mathlib.Core.Bool.{Bool, true, false, not}
+-- How many words each part of the record has. Assumes nothing.
+use mathlib.Core.Path.{_≡_, refl}
 use mathlib.Core.List.{List, [], _∷_, _++_}
-use Prim.Native.Nat.{ℕ, zero, suc, _+_, _*_, _<_}
+use Prim.Native.Nat.{ℕ, _*_}
 use native.Mathlib.Omega.{arith}
-use lib.Dec.{eqb}
 use lib.ListN.{length, getD, length-append}
-use lib.Seq.{sets}
-use Rattle.header.specs.Empty.{span, range, noSpan, noRange}
+use Rattle.header.specs.Empty.{noSpan, noRange}
 use Rattle.header_fits.specs.Fits.{noStream, noPosition}
 use Rattle.header.specs.declared.Span.{Span}
 use Rattle.header.specs.declared.Range.{Range}
@@ -16,10 +12,8 @@ use Rattle.header.specs.declared.Global.{Global}
 use Rattle.header.specs.declared.StreamData.{StreamData}
 use Rattle.header.specs.declared.PositionData.{PositionData}
 use Rattle.header.specs.declared.Header.{Header}
-use Rattle.header_words.specs.Words.{run, flat, flagWord, spanWords, rangeWords, spansWords, rangesWords, globalWords, streamWords, positionWords, streamsWords, positionsWords, headerWords, wordAt, flagAt, spanAt, rangeAt, spansAt, rangesAt, globalAt, streamAt, positionAt, streamsAt, positionsAt, headerAt}
-use Rattle.header_words.proofs.Items.{length-flat, Stands, stands-left, stands-right, stands-item, stands-whole, run-back}
-
--- ---- lengths
+use Rattle.header_words.specs.Words.{flat, spanWords, rangeWords, spansWords, rangesWords, globalWords, streamWords, positionWords, streamsWords, positionsWords, headerWords}
+use Rattle.header_words.proofs.Items.{length-flat}
 
 pub length-spans : (n : ℕ) (l : List Span) → length (spansWords n l) ≡ 2 * n
 length-spans n l = length-flat (λ k. spanWords (getD l k noSpan)) 2 (λ j. refl) 0 n

@@ -1,0 +1,167 @@
+/* host.h: what the parts of the program `larsavim` share. The program shows what the library behind larsavim.h says of a voice file;
+ * it decides nothing about a file by itself. Where it reads a file's text again, that is for the wording of a message alone. */
+#ifndef LARSAVIM_HOST_H
+#define LARSAVIM_HOST_H
+
+#include <stdint.h>
+#include <stdio.h>
+
+#include "larsavim.h"
+
+/* Exit statuses. */
+enum {
+    ALL_WELL = 0, /* what was asked for was done, and nothing was refused */
+    REFUSED = 1,  /* the library refused the voice, a model or a walk, or a leaf check failed */
+    TROUBLE = 2   /* wrong arguments, a file that can't be read, no memory */
+};
+
+/* ---- bytes (bytes.c) ---------------------------------------------------------------------------------------------------------- */
+
+struct bytes {
+    const uint8_t *at;
+    uint64_t len;
+};
+
+/* A part of some bytes; empty where it doesn't lie inside them. */
+struct bytes part(struct bytes whole, uint64_t start, uint64_t len);
+int same(struct bytes a, struct bytes b);
+int same_text(struct bytes a, const char *text);
+int starts_with(struct bytes a, const char *text);
+
+/* In `"`, with \n \t \r \" \\ and \xHH for bytes outside 0x20 to 0x7e. */
+void put_quoted(FILE *to, struct bytes s);
+
+/* A decimal number of 0 to 2^64 - 1 and nothing else: 1 and the number, or 0. */
+int read_number(const char *text, uint64_t *number);
+
+/* A sentence on standard error, and exit status 2. For what is nobody's input: no memory, a library that contradicts itself. */
+void stop(const char *sentence);
+
+/* ---- files (files.c) ---------------------------------------------------------------------------------------------------------- */
+
+/* Maps a whole file. 1; or 0 after a sentence on standard error: unreadable, no ordinary file, empty, over the limit. */
+int map_file(const char *path, struct bytes *file);
+void unmap_file(struct bytes file);
+
+/* ---- voices (voice.c) --------------------------------------------------------------------------------------------------------- */
+
+struct pair {
+    uint64_t first, second;
+};
+
+/* A file that the library opened, or refused with a number and a place. */
+struct voice {
+    struct bytes file;
+    uint64_t number, place;
+    uint64_t words[LARSAVIM_WORDS];
+};
+
+void open_voice(struct voice *v, struct bytes file);
+
+/* Fields of an opened voice, by the constants of larsavim.h. */
+uint64_t number_of(const struct voice *v, uint64_t field);
+struct pair pair_of(const struct voice *v, uint64_t field);
+struct bytes string_of(const struct voice *v, uint64_t field);
+struct bytes data_of(const struct voice *v);
+
+/* Models are counted as in larsavim.h: 0 duration, 2i + 1 stream i, 2i + 2 its GV. */
+uint64_t models_of(const struct voice *v);
+int is_gv(uint64_t which);
+struct bytes stream_name(const struct voice *v, uint64_t which);
+void put_model_name(FILE *to, const struct voice *v, uint64_t which);
+
+/* The field at which the [STREAM] or [POSITION] group of a model's stream starts: the last of that name. 0: there is none. */
+uint64_t stream_group(const struct voice *v, uint64_t which);
+uint64_t position_group(const struct voice *v, uint64_t which);
+
+/* The ranges of a model's tree text and PDF block. 1 and the range, or 0 where the header has none. */
+int tree_range(const struct voice *v, uint64_t which, struct pair *range);
+int pdf_range(const struct voice *v, uint64_t which, struct pair *range);
+struct bytes tree_text_of(const struct voice *v, uint64_t which);
+
+/* A GV that USE_GV doesn't ask for: no part of the voice, though it is refused (15) if one asks. */
+int is_unasked_gv(const struct voice *v, uint64_t which);
+
+/* ---- models (model.c) --------------------------------------------------------------------------------------------------------- */
+
+enum { QUESTIONS, PATTERNS, TREES, RECORDS, BLOCKS, VALUES, TABLES };
+
+/* Where the answers of larsavim_needs and larsavim_load have what. */
+enum { OUT_NUMBER, OUT_PLACE, OUT_LINE, OUT_ROWS, OUT_WORK = OUT_ROWS + TABLES, OUT_WIDTH };
+
+/* A model and the tables lent for it. */
+struct model {
+    uint64_t which;
+    uint64_t needs[LARSAVIM_NEEDS_OUT];
+    uint64_t loaded[LARSAVIM_LOAD_OUT];
+    uint64_t *table[TABLES];
+    uint64_t lent[TABLES]; /* numbers of each table */
+    int64_t *work;
+    uint64_t work_lent;
+};
+
+extern const uint64_t row_width[TABLES]; /* numbers in a row; 1 for values */
+extern const char *const table_name[TABLES];
+
+#define UNTOUCHED UINT64_C(0x5a5a5a5a5a5a5a5a) /* what tables and work hold before a load */
+
+/* Loads a model into tables of the rows that it needs and so many more, and as many lines of work more. Its number is loaded[0]. */
+void load_model(const struct voice *v, uint64_t which, uint64_t spare, struct model *m);
+void free_model(struct model *m);
+
+uint64_t rows_of(const struct model *m, int table);
+uint64_t width_of(const struct model *m);
+const uint64_t *row_of(const struct model *m, int table, uint64_t i);
+int leaves_fit(const struct model *m);
+
+/* A walk over a loaded model's tables; out: number, PDF number, questions asked. */
+void walk_model(const struct model *m, uint64_t tree, struct bytes answers, uint64_t limit, uint64_t out[LARSAVIM_WALK_OUT]);
+
+/* ---- tree text, read again for messages (treetext.c) -------------------------------------------------------------------------- */
+
+/* Only texts in the grammar are read: the library has said so before. Any other bytes give some answer, and harm nothing. */
+struct reader {
+    struct bytes text;
+    uint64_t at;
+};
+
+struct written_line {
+    struct bytes whole, id, question, no, yes;
+    uint64_t start; /* in the text */
+};
+
+struct written_tree {
+    struct bytes state, lone; /* lone: the one reference of a tree without braces */
+    int braced;
+    uint64_t start;
+};
+
+struct reader trees_of(struct bytes text);
+int next_tree(struct reader *r, struct written_tree *t);
+int next_line(struct reader *r, struct written_line *l); /* of the braced tree just read; 0 behind the last */
+int find_tree(struct bytes text, uint64_t tree, struct reader *r, struct written_tree *t);
+int find_line(struct bytes text, uint64_t tree, uint64_t line, struct written_line *l);
+int node_id(struct bytes reference, int64_t *id); /* 1 where the reference is a node, and its id */
+int bears_id(struct bytes text, uint64_t tree, int64_t id);
+int has_question(struct bytes text, struct bytes name);
+uint64_t line_of(struct bytes text, uint64_t at);   /* counted from 1 */
+uint64_t column_of(struct bytes text, uint64_t at); /* in bytes, counted from 1 */
+
+/* ---- refusals in words (explain.c, explain_load.c) ---------------------------------------------------------------------------- */
+
+void explain_open(FILE *to, const struct voice *v);
+void explain_load(FILE *to, const struct voice *v, uint64_t which, const uint64_t *out);
+void explain_walk(FILE *to, uint64_t number);
+
+/* ---- the verbs ---------------------------------------------------------------------------------------------------------------- */
+
+int inspect(const char *path);                             /* inspect.c */
+int check(int files, char **paths);                        /* inspect.c */
+int dump(const char *path);                                /* dump.c */
+void dump_voice(struct bytes file);                        /* dump.c */
+int hex(void);                                             /* hex.c */
+int walk(char **words);                                    /* walk.c */
+int demo(const char *path);                                /* demo.c */
+int walk_line(struct bytes file, uint64_t which, uint64_t tree, struct bytes answers, uint64_t limit, FILE *why); /* walk.c */
+
+#endif

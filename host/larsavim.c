@@ -1,0 +1,56 @@
+/* larsavim.c: a program that shows what the library says of voice files, and the one place that knows the command line. */
+#include <string.h>
+
+#include "host.h"
+
+static const char usage[] =
+    "usage: larsavim inspect FILE                          the header, what each model needs, and what is wrong\n"
+    "       larsavim check FILE..                          status 0 if every model of every file loads and passes the leaf check\n"
+    "       larsavim walk FILE MODEL TREE ANSWERS LIMIT    one walk; ANSWERS is a 0 or 1 for each question, - for none\n"
+    "       larsavim dump FILE                             everything, one fact a line, for comparing\n"
+    "       larsavim hex                                   the dump of each line of hex on standard input, then END\n"
+    "       larsavim demo FILE                             a voice in which two lines bear one id, and which of them wins\n"
+    "MODEL counts from 0: duration, then each stream of STREAM_TYPE and its GV in turn. TREE counts from 0.\n"
+    "Exit status: 0 nothing was refused, 1 something was, 2 wrong arguments or a file that can't be read.\n";
+
+static int wrong(const char *sentence, const char *word) {
+    fprintf(stderr, "larsavim: %s%s%s\n%s", sentence, word == NULL ? "" : ": ", word == NULL ? "" : word, usage);
+    return TROUBLE;
+}
+
+/* Runs a verb with `n` words behind it. */
+static int run(const char *verb, int n, char **words) {
+    if (strcmp(verb, "inspect") == 0)
+        return n == 1 ? inspect(words[0]) : wrong("inspect takes one FILE", NULL);
+    if (strcmp(verb, "check") == 0)
+        return n >= 1 ? check(n, words) : wrong("check takes one FILE or more", NULL);
+    if (strcmp(verb, "walk") == 0)
+        return n == 5 ? walk(words) : wrong("walk takes FILE MODEL TREE ANSWERS LIMIT", NULL);
+    if (strcmp(verb, "dump") == 0)
+        return n == 1 ? dump(words[0]) : wrong("dump takes one FILE", NULL);
+    if (strcmp(verb, "hex") == 0)
+        return n == 0 ? hex() : wrong("hex takes no word: its input stands on standard input", NULL);
+    if (strcmp(verb, "demo") == 0)
+        return n == 1 ? demo(words[0]) : wrong("demo takes one FILE", NULL);
+    return wrong("there is no such command", verb);
+}
+
+/* A pipe that is closed or a disk that is full must not pass for a good answer. */
+static int output_failed(void) {
+    if (fflush(stdout) == 0 && !ferror(stdout))
+        return 0;
+    fputs("larsavim: standard output can't be written\n", stderr);
+    return 1;
+}
+
+int main(int argc, char **argv) {
+    int status;
+    if (argc < 2)
+        return wrong("what is to be done?", NULL);
+    if (strcmp(argv[1], "help") == 0 || strcmp(argv[1], "--help") == 0 || strcmp(argv[1], "-h") == 0) {
+        fputs(usage, stdout);
+        return output_failed() ? TROUBLE : ALL_WELL;
+    }
+    status = run(argv[1], argc - 2, argv + 2);
+    return output_failed() ? TROUBLE : status;
+}

@@ -1,0 +1,76 @@
+/* model.c: a model in tables of the size that the library asks for. The library has no heap; this program has one, and lends from it. */
+#include <stdlib.h>
+#include <string.h>
+
+#include "host.h"
+
+const uint64_t row_width[TABLES] = {LARSAVIM_QUESTION_ROW, LARSAVIM_PATTERN_ROW, LARSAVIM_TREE_ROW, LARSAVIM_RECORD_ROW, LARSAVIM_BLOCK_ROW, 1};
+const char *const table_name[TABLES] = {"questions", "patterns", "trees", "records", "blocks", "values"};
+
+/* Memory for `rows` rows of `width` numbers, none of which is 0; every number as UNTOUCHED. */
+static void *lend(uint64_t rows, uint64_t width, uint64_t *numbers) {
+    uint64_t *at;
+    if (rows > SIZE_MAX / 8 / width)
+        stop("there is not enough memory for the model's tables");
+    *numbers = rows * width;
+    at = malloc((size_t)*numbers * 8 + 8); /* 8 more, so that no rows are no null pointer either */
+    if (at == NULL)
+        stop("there is not enough memory for the model's tables");
+    for (uint64_t i = 0; i < *numbers; i++)
+        at[i] = UNTOUCHED;
+    return at;
+}
+
+/* The library tells what a model needs in two calls, and they must tell the same. */
+static int agree(const struct model *m) {
+    if (m->needs[OUT_NUMBER] != LARSAVIM_SUCCESS)
+        return m->loaded[OUT_NUMBER] == m->needs[OUT_NUMBER];
+    if (m->loaded[OUT_NUMBER] != LARSAVIM_SUCCESS)
+        return m->loaded[OUT_NUMBER] > LARSAVIM_ROOM;
+    return memcmp(m->loaded, m->needs, sizeof m->loaded) == 0;
+}
+
+void load_model(const struct voice *v, uint64_t which, uint64_t spare, struct model *m) {
+    m->which = which;
+    larsavim_needs(v->file.at, v->file.len, v->words, LARSAVIM_WORDS, which, m->needs, LARSAVIM_NEEDS_OUT);
+    for (int t = 0; t < TABLES; t++)
+        m->table[t] = lend(m->needs[OUT_ROWS + t] + spare, row_width[t], &m->lent[t]);
+    m->work = lend(m->needs[OUT_WORK] + spare * LARSAVIM_WORK_A_LINE, 1, &m->work_lent);
+    larsavim_load(v->file.at, v->file.len, v->words, LARSAVIM_WORDS, which, m->table[QUESTIONS], m->lent[QUESTIONS], m->table[PATTERNS], m->lent[PATTERNS],
+                  m->table[TREES], m->lent[TREES], m->table[RECORDS], m->lent[RECORDS], m->table[BLOCKS], m->lent[BLOCKS], m->table[VALUES], m->lent[VALUES],
+                  m->work, m->work_lent, m->loaded, LARSAVIM_LOAD_OUT);
+    if (!agree(m))
+        stop("larsavim_needs and larsavim_load contradict each other");
+}
+
+void free_model(struct model *m) {
+    for (int t = 0; t < TABLES; t++)
+        free(m->table[t]);
+    free(m->work);
+}
+
+uint64_t rows_of(const struct model *m, int table) {
+    return m->loaded[OUT_ROWS + table];
+}
+
+uint64_t width_of(const struct model *m) {
+    return m->needs[OUT_WIDTH];
+}
+
+const uint64_t *row_of(const struct model *m, int table, uint64_t i) {
+    return m->table[table] + row_width[table] * i;
+}
+
+/* Numbers in the rows that a load returned: later calls take the tables cut to these. */
+static uint64_t used(const struct model *m, int table) {
+    return rows_of(m, table) * row_width[table];
+}
+
+int leaves_fit(const struct model *m) {
+    return larsavim_leaves(m->table[QUESTIONS], used(m, QUESTIONS), m->table[TREES], used(m, TREES), m->table[RECORDS], used(m, RECORDS), m->table[BLOCKS],
+                           used(m, BLOCKS), m->table[VALUES], used(m, VALUES), width_of(m)) == 1;
+}
+
+void walk_model(const struct model *m, uint64_t tree, struct bytes answers, uint64_t limit, uint64_t out[LARSAVIM_WALK_OUT]) {
+    larsavim_walk(m->table[TREES], used(m, TREES), m->table[RECORDS], used(m, RECORDS), tree, answers.at, answers.len, limit, out, LARSAVIM_WALK_OUT);
+}

@@ -1,0 +1,229 @@
+/* calls.c: the calls of larsavim.h as a careless caller makes them: slices too short, null with length 0, words that no opening wrote, tables a row
+ * short. The program larsavim makes no such call, and larsavim.h says what each of them does. The sample voice is the argument; prints what differs,
+ * and how many checks passed and failed. */
+#include <stdio.h>
+#include <stdlib.h>
+#include <string.h>
+
+#include "larsavim.h"
+
+enum { ROOM = 4096, TABLES = 6, STREAM_MCP = 1 };
+
+#define PAINT UINT64_C(0x5a5a5a5a5a5a5a5a)
+
+static uint8_t file[65536];
+static uint64_t file_len, good[LARSAVIM_WORDS], words[LARSAVIM_WORDS + 8], out[16], table[TABLES][ROOM], needs[LARSAVIM_NEEDS_OUT];
+static int64_t work[ROOM];
+static const uint64_t width[TABLES] = {LARSAVIM_QUESTION_ROW, LARSAVIM_PATTERN_ROW, LARSAVIM_TREE_ROW, LARSAVIM_RECORD_ROW, LARSAVIM_BLOCK_ROW, 1};
+static unsigned passed, failed;
+
+static void expect(int holds, const char *name) {
+    if (holds) {
+        passed++;
+        return;
+    }
+    failed++;
+    printf("calls: %s\n", name);
+}
+
+static void paint(uint64_t *at, uint64_t n) {
+    for (uint64_t i = 0; i < n; i++)
+        at[i] = PAINT;
+}
+
+static int painted(const uint64_t *at, uint64_t from, uint64_t to) {
+    for (uint64_t i = from; i < to; i++)
+        if (at[i] != PAINT)
+            return 0;
+    return 1;
+}
+
+static int all_zero(const uint64_t *at, uint64_t from, uint64_t to) {
+    for (uint64_t i = from; i < to; i++)
+        if (at[i] != 0)
+            return 0;
+    return 1;
+}
+
+static void paint_all(void) {
+    paint(out, 16);
+    for (int t = 0; t < TABLES; t++)
+        paint(table[t], ROOM);
+    memset(work, 0x5a, sizeof work);
+}
+
+static int lent_is_painted(void) {
+    for (int t = 0; t < TABLES; t++)
+        if (!painted(table[t], 0, ROOM))
+            return 0;
+    for (int i = 0; i < ROOM; i++)
+        if ((uint64_t)work[i] != PAINT)
+            return 0;
+    return 1;
+}
+
+/* A refusal: the number comes back, stands first, and what stands behind it up to `n` is 0; numbers beyond are as they were. */
+static int refused(uint64_t got, uint64_t number, uint64_t n) {
+    return got == number && out[0] == number && all_zero(out, 1, n) && painted(out, n, 16);
+}
+
+/* A load into tables of so many rows each. */
+static uint64_t load(const uint64_t *w, uint64_t w_len, const uint64_t rows[TABLES], uint64_t work_len, uint64_t out_len) {
+    return larsavim_load(file, file_len, w, w_len, STREAM_MCP, table[0], rows[0] * width[0], table[1], rows[1] * width[1], table[2], rows[2] * width[2], table[3],
+                         rows[3] * width[3], table[4], rows[4] * width[4], table[5], rows[5], work, work_len, out, out_len);
+}
+
+/* ---- answers too short: 20 before all else, and nothing written -------------------------------------------------------------------- */
+
+static void short_answers(void) {
+    paint_all();
+    paint(words, LARSAVIM_WORDS + 8);
+    expect(larsavim_open(file, file_len, words, LARSAVIM_WORDS, out, LARSAVIM_OPEN_OUT - 1) == LARSAVIM_ROOM, "open, short out");
+    expect(larsavim_open(NULL, 0, words, LARSAVIM_WORDS, out, LARSAVIM_OPEN_OUT - 1) == LARSAVIM_ROOM, "open of nothing, short out");
+    expect(larsavim_comment(file_len, good, LARSAVIM_WORDS, 3, out, LARSAVIM_COMMENT_OUT - 1) == LARSAVIM_ROOM, "comment, short out");
+    expect(larsavim_get(good, LARSAVIM_WORDS, LARSAVIM_NUM_STATES, out, LARSAVIM_GET_OUT - 1) == LARSAVIM_ROOM, "get, short out");
+    expect(larsavim_pair(good, LARSAVIM_WORDS, LARSAVIM_DURATION_PDF, out, LARSAVIM_PAIR_OUT - 1) == LARSAVIM_ROOM, "pair, short out");
+    expect(larsavim_needs(file, file_len, good, LARSAVIM_WORDS, STREAM_MCP, out, LARSAVIM_NEEDS_OUT - 1) == LARSAVIM_ROOM, "needs, short out");
+    expect(load(good, LARSAVIM_WORDS, needs + 3, needs[9], LARSAVIM_LOAD_OUT - 1) == LARSAVIM_ROOM, "load, short out");
+    expect(larsavim_walk(NULL, 0, NULL, 0, 0, NULL, 0, 0, out, LARSAVIM_WALK_OUT - 1) == LARSAVIM_ROOM, "walk, short out");
+    expect(larsavim_open(file, file_len, words, LARSAVIM_WORDS, NULL, 0) == LARSAVIM_ROOM, "open, no out at all");
+    expect(painted(out, 0, 16) && painted(words, 0, LARSAVIM_WORDS + 8) && lent_is_painted(), "a short out: something was written");
+}
+
+/* ---- words -------------------------------------------------------------------------------------------------------------------------- */
+
+static void opening(void) {
+    paint_all();
+    paint(words, LARSAVIM_WORDS + 8);
+    expect(refused(larsavim_open(NULL, 0, words, LARSAVIM_WORDS, out, 16), LARSAVIM_SPLIT, LARSAVIM_OPEN_OUT), "open of nothing");
+    paint_all();
+    expect(refused(larsavim_open(file, file_len - 1 > 40 ? 40 : 0, NULL, 0, out, 16), LARSAVIM_SPLIT, LARSAVIM_OPEN_OUT), "a file's refusal comes before too few words");
+    paint_all();
+    expect(refused(larsavim_open(file, file_len, words, LARSAVIM_WORDS - 1, out, 16), LARSAVIM_ROOM, LARSAVIM_OPEN_OUT), "open, too few words");
+    expect(painted(words, 0, LARSAVIM_WORDS + 8), "a refused opening leaves the words");
+    paint_all();
+    expect(larsavim_open(file, file_len, words, LARSAVIM_WORDS + 8, out, 16) == LARSAVIM_SUCCESS && all_zero(out, 0, 2) && painted(out, 2, 16), "open");
+    expect(memcmp(words, good, sizeof good) == 0 && painted(words, LARSAVIM_WORDS, LARSAVIM_WORDS + 8), "words beyond are as they were");
+}
+
+/* Every call that takes words refuses these with the number. */
+static void words_refused(const uint64_t *w, uint64_t w_len, uint64_t number, const char *name) {
+    paint_all();
+    expect(refused(larsavim_comment(file_len, w, w_len, 3, out, 16), number, LARSAVIM_COMMENT_OUT), name);
+    paint_all();
+    expect(refused(larsavim_get(w, w_len, LARSAVIM_NUM_STATES, out, 16), number, LARSAVIM_GET_OUT), name);
+    paint_all();
+    expect(refused(larsavim_pair(w, w_len, LARSAVIM_DURATION_PDF, out, 16), number, LARSAVIM_PAIR_OUT), name);
+    paint_all();
+    expect(refused(larsavim_needs(file, file_len, w, w_len, STREAM_MCP, out, 16), number, LARSAVIM_NEEDS_OUT), name);
+    paint_all();
+    expect(refused(load(w, w_len, needs + 3, needs[9], 16), number, LARSAVIM_LOAD_OUT) && lent_is_painted(), name);
+}
+
+/* A load by words with one changed; comment, get and pair don't judge what it says. */
+static void load_refused(uint64_t field, uint64_t value, uint64_t number, const char *name) {
+    memcpy(words, good, sizeof good);
+    words[field] = value;
+    paint_all();
+    expect(refused(larsavim_needs(file, file_len, words, LARSAVIM_WORDS, STREAM_MCP, out, 16), number, LARSAVIM_NEEDS_OUT), name);
+    paint_all();
+    expect(refused(load(words, LARSAVIM_WORDS, needs + 3, needs[9], 16), number, LARSAVIM_LOAD_OUT) && lent_is_painted(), name);
+}
+
+static void foreign_words(void) {
+    static const uint64_t flags[] = {LARSAVIM_HAS_COMMENT, LARSAVIM_STREAMS + LARSAVIM_IS_MSD, LARSAVIM_STREAMS + LARSAVIM_USE_GV, LARSAVIM_POSITIONS + LARSAVIM_HAS_GV_PDF,
+                                     LARSAVIM_POSITIONS + LARSAVIM_HAS_GV_TREE};
+    words_refused(good, LARSAVIM_WORDS - 1, LARSAVIM_ROOM, "too few words");
+    words_refused(NULL, 0, LARSAVIM_ROOM, "no words");
+    for (size_t i = 0; i < sizeof flags / sizeof flags[0]; i++) {
+        memcpy(words, good, sizeof good);
+        words[flags[i]] = 2;
+        words_refused(words, LARSAVIM_WORDS, LARSAVIM_RANGE, "a flag of 2");
+    }
+    load_refused(LARSAVIM_STREAM_TYPE_COUNT, LARSAVIM_STREAM_LIMIT + 1, LARSAVIM_RANGE, "nine names");
+    load_refused(LARSAVIM_STREAM_COUNT, UINT64_MAX, LARSAVIM_RANGE, "a count of 2^64 - 1");
+    load_refused(LARSAVIM_STREAM_TYPE, file_len + 1, LARSAVIM_RANGE, "a name past the file");
+    load_refused(LARSAVIM_STREAM_TYPE + 1, UINT64_MAX, LARSAVIM_RANGE, "a name of 2^64 - 1 bytes");
+    load_refused(LARSAVIM_DATA_LEN, UINT64_MAX, LARSAVIM_RANGE, "data of 2^64 - 1 bytes");
+    load_refused(LARSAVIM_STREAM_COUNT, 0, LARSAVIM_NOSTREAM, "no groups in [STREAM]");
+    load_refused(LARSAVIM_POSITION_COUNT, 0, LARSAVIM_NOPOS, "no groups in [POSITION]");
+    load_refused(LARSAVIM_STREAMS + LARSAVIM_VECTOR_LENGTH, UINT64_MAX, LARSAVIM_LIMIT, "a vector of 2^64 - 1");
+    load_refused(LARSAVIM_POSITIONS + LARSAVIM_STREAM_TREE + 1, UINT64_MAX, LARSAVIM_RANGE, "a range end of 2^64 - 1");
+}
+
+static void fields(void) {
+    static const uint64_t none[] = {LARSAVIM_WORDS, LARSAVIM_WORDS + 1, UINT64_MAX - 1, UINT64_MAX};
+    for (size_t i = 0; i < sizeof none / sizeof none[0]; i++) {
+        paint_all();
+        expect(refused(larsavim_get(good, LARSAVIM_WORDS, none[i], out, 16), LARSAVIM_RANGE, LARSAVIM_GET_OUT), "get of no field");
+        paint_all();
+        expect(refused(larsavim_pair(good, LARSAVIM_WORDS, none[i], out, 16), LARSAVIM_RANGE, LARSAVIM_PAIR_OUT), "pair of no field");
+    }
+    paint_all();
+    expect(larsavim_get(good, LARSAVIM_WORDS, LARSAVIM_NUM_STATES, out, 16) == 0 && out[0] == 0 && out[1] == 5 && painted(out, 2, 16), "get");
+    paint_all();
+    expect(larsavim_pair(good, LARSAVIM_WORDS, LARSAVIM_STREAM_TYPE, out, 16) == 0 && out[2] == 3 && memcmp(file + out[1], "MCP", 3) == 0 && painted(out, 3, 16), "pair");
+    memcpy(words, good, sizeof good);
+    words[LARSAVIM_COMMENT] = file_len;
+    paint_all();
+    expect(larsavim_comment(file_len, words, LARSAVIM_WORDS, 3, out, 16) == 0 && out[1] == 1 && out[2] == 0 && out[3] == 3 && painted(out, 4, 16), "a COMMENT past the file");
+    words[LARSAVIM_COMMENT + 1] = 0;
+    expect(larsavim_comment(file_len, words, LARSAVIM_WORDS, 3, out, 16) == 0 && out[1] == 0 && out[2] == file_len && out[3] == 0, "an empty COMMENT at the file's end");
+    words[LARSAVIM_HAS_COMMENT] = 0;
+    expect(larsavim_comment(file_len, words, LARSAVIM_WORDS, 0, out, 16) == 0 && out[1] == 1 && out[3] == 0, "no COMMENT and no fallback");
+}
+
+/* ---- tables ------------------------------------------------------------------------------------------------------------------------- */
+
+static void short_tables(void) {
+    uint64_t rows[TABLES];
+    for (int t = 0; t < TABLES; t++) {
+        memcpy(rows, needs + 3, sizeof rows);
+        rows[t]--;
+        paint_all();
+        expect(refused(load(good, LARSAVIM_WORDS, rows, needs[9], 16), LARSAVIM_ROOM, LARSAVIM_LOAD_OUT) && lent_is_painted(), "a table a row short");
+    }
+    paint_all();
+    expect(refused(load(good, LARSAVIM_WORDS, needs + 3, needs[9] - 1, 16), LARSAVIM_ROOM, LARSAVIM_LOAD_OUT) && lent_is_painted(), "work a number short");
+    paint_all();
+    expect(load(good, LARSAVIM_WORDS, needs + 3, needs[9], 16) == LARSAVIM_SUCCESS && memcmp(out, needs, LARSAVIM_LOAD_OUT * 8) == 0 && painted(out, LARSAVIM_LOAD_OUT, 16),
+           "tables of just the rows needed");
+}
+
+/* Over the tables of the load before. */
+static void walks(void) {
+    static const uint8_t answers[] = {0, 0, 1, 0, 0, 1, 1};
+    uint64_t trees = needs[5] * LARSAVIM_TREE_ROW, records = needs[6] * LARSAVIM_RECORD_ROW;
+    paint(out, 16);
+    expect(larsavim_walk(table[2], trees, table[3], records, 0, answers, 7, 3, out, 16) == 0 && out[0] == 0 && out[1] == 5 && out[2] == 3 && painted(out, 3, 16), "walk");
+    paint(out, 16);
+    expect(refused(larsavim_walk(table[2], trees, table[3], records, 0, answers, 7, 2, out, 16), LARSAVIM_STEPS, LARSAVIM_WALK_OUT), "walk, limit");
+    paint(out, 16);
+    expect(refused(larsavim_walk(table[2], trees, table[3], records, needs[5], answers, 7, 9, out, 16), LARSAVIM_WALKTABLE, LARSAVIM_WALK_OUT), "walk, no such tree");
+    paint(out, 16);
+    expect(refused(larsavim_walk(table[2], trees, NULL, 0, 0, answers, 7, 9, out, 16), LARSAVIM_WALKTABLE, LARSAVIM_WALK_OUT), "walk, no records");
+    paint(out, 16);
+    expect(refused(larsavim_walk(table[2], trees, table[3], records, UINT64_MAX, NULL, 0, 9, out, 16), LARSAVIM_WALKTABLE, LARSAVIM_WALK_OUT), "walk, tree 2^64 - 1");
+    expect(larsavim_leaves(NULL, 0, NULL, 0, NULL, 0, NULL, 0, NULL, 0, 0) == 1, "leaf check of nothing");
+    expect(larsavim_leaves(table[0], needs[3] * 4, table[2], trees, table[3], records, table[4], needs[7] * 2, table[5], needs[8], needs[10]) == 1, "leaf check");
+    expect(larsavim_leaves(table[0], needs[3] * 4, table[2], trees, table[3], records, table[4], needs[7] * 2, table[5], needs[8], UINT64_MAX) == 0, "leaf check, width 2^64 - 1");
+    expect(larsavim_leaves(table[0], 0, table[2], trees, table[3], records, table[4], needs[7] * 2, table[5], needs[8], needs[10]) == 0, "leaf check, no questions");
+}
+
+int main(int argc, char **argv) {
+    FILE *f = argc == 2 ? fopen(argv[1], "rb") : NULL;
+    if (f == NULL)
+        return 2;
+    file_len = fread(file, 1, sizeof file, f);
+    fclose(f);
+    if (larsavim_open(file, file_len, good, LARSAVIM_WORDS, out, 16) != 0 || larsavim_needs(file, file_len, good, LARSAVIM_WORDS, STREAM_MCP, needs, LARSAVIM_NEEDS_OUT) != 0)
+        return 2;
+    short_answers();
+    opening();
+    foreign_words();
+    fields();
+    short_tables();
+    walks();
+    printf("calls: %u passed, %u failed\n", passed, failed);
+    return failed == 0 ? 0 : 1;
+}
