@@ -15,6 +15,8 @@ use Rattle.header.specs.declared.Header.{Header}
 use Rattle.header.specs.declared.Range.{Range}
 use Rattle.header.specs.declared.StreamData.{StreamData}
 use Rattle.header.specs.declared.PositionData.{PositionData}
+use Rattle.header.specs.Empty.{noSpan}
+use Rattle.groups.specs.Rows.{bytesOf}
 use Rattle.header_fits.specs.Fits.{recordFits}
 use Rattle.search.specs.declared.Found.{Found}
 use Rattle.search.specs.declared.Found.the-variants as found
@@ -44,6 +46,7 @@ use Rattle.model_plan.specs.declared.Planned.{Planned}
 use Rattle.model_plan.specs.declared.Planned.the-variants.{Model, Refused}
 use Rattle.model.specs.Load.{After, roomFor, answerFor, filledBy, filled, untouched, loadFor, loadOf}
 use Rattle.model.specs.declared.Loaded.{Loaded}
+use Rattle.model.proofs.Laws.{Is}
 use Rattle.model.specs.declared.Loaded.the-variants as loaded
 
 -- ---- before the tables are looked at, no number is above 19
@@ -87,24 +90,24 @@ module _ (make : StreamData → PositionData → Chosen) (early : (d : StreamDat
 
   numbered-early : (s : List ℕ) (h : Header) (i : ℕ) → Early (numbered make s h i)
   unfolding numbered
-  numbered-early s h i = go (ltb i (h .global .«stream_type_count»)) (named-early s h _)
+  numbered-early s h i = go (ltb i (h .global .«stream_type_count»)) (named make s h (bytesOf s (getD (h .global .«stream_type») i noSpan))) (named-early s h _)
     where
-      go : (c : Bool) {x : Chosen} → Early x → Early (cond c x (chosen.Refused refusal.NoPosition))
-      go true e = e
-      go false e = omega arith
+      go : (c : Bool) (x : Chosen) → Early x → Early (cond c x (chosen.Refused refusal.NoPosition))
+      go true x e = e
+      go false x e = omega arith
 
 chosen-early : (s : List ℕ) (h : Header) (which : Which) → Early (chosenOf s h which)
 unfolding chosenOf
-chosen-early s h which = go (recordFits (length s) h) (of which)
+chosen-early s h which = go (recordFits (length s) h) (asked s h which) (of which)
   where
     of : (which : Which) → Early (asked s h which)
     of Duration = model-early _ _ _
     of (Stream i) = numbered-early streamModel stream-early s h i
     of (Gv i) = numbered-early gvModel gv-early s h i
 
-    go : (c : Bool) {x : Chosen} → Early x → Early (cond c x (chosen.Refused refusal.Range))
-    go true e = e
-    go false e = omega arith
+    go : (c : Bool) (x : Chosen) → Early x → Early (cond c x (chosen.Refused refusal.Range))
+    go true x e = e
+    go false x e = omega arith
 
 abbrev Before : Planned → Type 0
 Before (Model p) = Unit {0}
@@ -209,18 +212,23 @@ module _ (s : List ℕ) (h : Header) (which : Which) (q a t r b v : List ℕ) (w
 
   way-number : (x : After) → Way x → (y : Refusal) → x .answer ≡ loaded.Refused y → ByNumber x y
   unfolding filled
-  way-number x (kept z n) y h =
+  way-number x (kept z n) y k =
       let u : z ≡ y = cc in
       let m : numberOf z ≡ numberOf y = ap numberOf u in
       (omega arith, λ l. (refl, refl, refl, refl, refl, refl, refl), λ l. absurd (omega arith))
-  way-number x (written p e m) y h =
-      linked-number p (endAt (take (p .«text_end») (dataOf s h)) (p .text) (p .first)) y h (take (p .«text_end») (dataOf s h)) (p .text) (p .first) (take (p .«block_end») (dataOf s h))
+  way-number x (written p e m) y k =
+      linked-number p (endAt (take (p .«text_end») (dataOf s h)) (p .text) (p .first)) y k (take (p .«text_end») (dataOf s h)) (p .text) (p .first) (take (p .«block_end») (dataOf s h))
 
   -- every refusal of a load has a number up to 23; up to 20 it changes nothing that is lent; above, everything lent is zero
   pub demand₁ : (y : Refusal) → loadOf s h which q a t r b v w .answer ≡ loaded.Refused y → ByNumber (loadOf s h which q a t r b v w) y
   demand₁ y e = way-number (loadOf s h which q a t r b v w) way y e
 
-  -- ---- the contract determines the outcome
+  -- ---- the contract determines the outcome: the answer and each of the seven slices
 
-  pub load-once : {l m : Loaded} → l ≡ loadOf s h which q a t r b v w .answer → m ≡ loadOf s h which q a t r b v w .answer → l ≡ m
-  load-once e k = e ∙ sym k
+  pub load-once : {l l′ : Loaded} {q₁ q₂ a₁ a₂ t₁ t₂ r₁ r₂ b₁ b₂ v₁ v₂ : List ℕ} {w₁ w₂ : List ℤ}
+      → Is (loadOf s h which q a t r b v w) l q₁ a₁ t₁ r₁ b₁ v₁ w₁ → Is (loadOf s h which q a t r b v w) l′ q₂ a₂ t₂ r₂ b₂ v₂ w₂
+      → (l ≡ l′) × (q₁ ≡ q₂) × (a₁ ≡ a₂) × (t₁ ≡ t₂) × (r₁ ≡ r₂) × (b₁ ≡ b₂) × (v₁ ≡ v₂) × (w₁ ≡ w₂)
+  load-once e k = (e .0 ∙ sym (k .0), e .1 ∙ sym (k .1), e .2 ∙ sym (k .2), e .3 ∙ sym (k .3), e .4 ∙ sym (k .4), e .5 ∙ sym (k .5), e .6 ∙ sym (k .6), e .7 ∙ sym (k .7))
+
+  pub needs-once : {o o′ : Planned} → o ≡ planned s h which → o′ ≡ planned s h which → o ≡ o′
+  needs-once e k = e ∙ sym k

@@ -80,10 +80,10 @@ module _ (s : List ℕ) (h : Header) (which : Which) (short : length s < 2 ^ 63)
   -- ---- the text of a plan
 
   module _ (p : Plan) (e : Model p ≡ planned s h which) where
-    S : List ℕ
+    abbrev S : List ℕ
     S = take (p .«text_end») (dataOf s h)
 
-    B : List ℕ
+    abbrev B : List ℕ
     B = take (p .«block_end») (dataOf s h)
 
     read : Was S (p .text) (p .first) (p .questions) (p .patterns) (p .trees) (p .records) (p .lines)
@@ -100,13 +100,13 @@ module _ (s : List ℕ) (h : Header) (which : Which) (short : length s < 2 ^ 63)
 
     natural : ¬ Negative (spoken .text .trees)
     natural n =
-        let z : survey.Counted (p .questions) (p .patterns) (p .trees) (p .records) (p .lines) ≡ survey.Negative = sym (read .survey) ∙ said-negative S (spoken .says) n in
+        let z : survey.Counted (p .questions) (p .patterns) (p .trees) (p .records) (p .lines) ≡ survey.Negative = sym (read .survey) ∙ said-negative (spoken .says) n in
         let u : _≡_ {A = ℕ} 0 1 = cc in
         omega arith
 
     counted : (p .questions ≡ length (spoken .text .questions)) × (p .trees ≡ length (spoken .text .trees)) × (p .records ≡ total saidTreeRecords (spoken .text .trees))
     unfolding saidSurvey
-    counted = go (anyOf saidNegative false (spoken .text .trees)) (sym (read .survey) ∙ survey-said S (spoken .says))
+    counted = go (anyOf saidNegative false (spoken .text .trees)) (sym (read .survey) ∙ survey-said (spoken .says))
       where
         T : said.Text
         T = spoken .text
@@ -186,6 +186,7 @@ module _ (s : List ℕ) (h : Header) (which : Which) (short : length s < 2 ^ 63)
 
     -- where it is done, the tables hold what the text and the block say
     pub load-stored : {n₁ n₂ n₃ n₄ n₅ n₆ : ℕ} → loadOf s h which q a t r b v w .answer ≡ loaded.Done n₁ n₂ n₃ n₄ n₅ n₆ → Stored s h which q a t r b v w (loadOf s h which q a t r b v w)
+    unfolding filled
     load-stored {n₁} {n₂} {n₃} {n₄} {n₅} {n₆} k = go (loadOf s h which q a t r b v w) (way s h which q a t r b v w) k
       where
         ended : (p : Plan) (e : Model p ≡ planned s h which) (o : Linked) → endAt (S p e) (p .text) (p .first) ≡ o → answerFor p o ≡ loaded.Done n₁ n₂ n₃ n₄ n₅ n₆
@@ -196,12 +197,12 @@ module _ (s : List ℕ) (h : Header) (which : Which) (short : length s < 2 ^ 63)
         ended p e (linked.LoneNode i) d k = let u : _≡_ {A = ℕ} 0 1 = cc in absurd (omega arith)
 
         go : (x : After) → Way s h which q a t r b v w x → x .answer ≡ loaded.Done n₁ n₂ n₃ n₄ n₅ n₆ → Stored s h which q a t r b v w x
-        unfolding filled
         go x (untouched y n) k = let u : _≡_ {A = ℕ} 0 1 = cc in absurd (omega arith)
         go x (written p e m) k = ended p e (endAt (S p e) (p .text) (p .first)) refl k
 
     -- where linking is refused, so is what the text says
     pub load-unlinked : (y : Refusal) → loadOf s h which q a t r b v w .answer ≡ loaded.Refused y → 20 < numberOf y → Unlinked s h which y
+    unfolding filled
     load-unlinked y k l = go (loadOf s h which q a t r b v w) (way s h which q a t r b v w) k
       where
         go : (x : After) → Way s h which q a t r b v w x → x .answer ≡ loaded.Refused y → Unlinked s h which y

@@ -3,3 +3,4 @@ pub mod Both
 pub mod Back
 pub mod Opened
 pub mod Comment
+pub mod Once

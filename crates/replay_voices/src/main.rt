@@ -2,7 +2,8 @@
 // It opens each file and loads each of its models four ways: into tables that are longer than needed, into tables that are exactly full, and with each table
 // in turn a row short; all are filled with other numbers before. It says how many lines there are and how many differ in a number, a place, a row, a
 // value, the leaf check, or in what stands in the tables where nothing is to be written. The lines are three of each five of the stored lists, one after the
-// other: all of them don't fit its room. Assumes that the lines fit its room, and a file 4,096 bytes; a line that doesn't differs.
+// other: all of them don't fit its room. Assumes that the lines fit its room, a file 4,096 bytes,
+// and its models the tables of `long`; a line that doesn't differs.
 use error::Refusal;
 use header::Header;
 use header_lines::Verdict;
@@ -113,8 +114,17 @@ fn words(c: Stored, s: &[u8], t: &[u64], n: usize) -> Stored {
 
 // The front of a table.
 fn front(t: &[u64], n: usize) -> &[u64] {
-    let end = least(n, t.len());
-    &t[..end]
+    if t.len() <= n {
+        return t;
+    }
+    &t[..n]
+}
+
+fn front_work(t: &[i64], n: usize) -> &[i64] {
+    if t.len() <= n {
+        return t;
+    }
+    &t[..n]
 }
 
 // What a load is to be held against: the stored numbers, and the numbers of work and the width that come behind the rows; or a table is a row short.
@@ -167,34 +177,20 @@ fn refused(c: Stored, s: &[u8], why: Refusal) -> Stored {
     pair(pair(pair(said, s, 0, 0), s, 0, 0), s, 0, 0)
 }
 
-// A load into tables that are lent so long, compared with what is stored.
-fn compare(
+// What a load answered and left in its tables, compared with what is stored.
+fn judge(
     c: Stored,
     s: &[u8],
-    text: &[u8],
-    header: Header,
-    which: Which,
+    loaded: Loaded,
     against: Against,
-    questions: &mut [u64],
-    patterns: &mut [u64],
-    trees: &mut [u64],
-    records: &mut [u64],
-    blocks: &mut [u64],
-    values: &mut [u64],
-    work: &mut [i64],
+    questions: &[u64],
+    patterns: &[u64],
+    trees: &[u64],
+    records: &[u64],
+    blocks: &[u64],
+    values: &[u64],
+    work: &[i64],
 ) -> Stored {
-    let loaded = load(
-        text,
-        header,
-        which,
-        questions,
-        patterns,
-        trees,
-        records,
-        blocks,
-        values,
-        work,
-    );
     match loaded {
         Loaded::Refused(why) => {
             let untouched = all_kept(questions, patterns, trees, records, blocks, values, work);
@@ -249,7 +245,58 @@ fn compare(
     }
 }
 
-// The same, with tables filled before.
+// A load into the fronts of the tables, so many numbers of each.
+fn run(
+    c: Stored,
+    s: &[u8],
+    text: &[u8],
+    header: Header,
+    which: Which,
+    against: Against,
+    lent: Lent,
+    questions: &mut [u64],
+    patterns: &mut [u64],
+    trees: &mut [u64],
+    records: &mut [u64],
+    blocks: &mut [u64],
+    values: &mut [u64],
+    work: &mut [i64],
+) -> Stored {
+    let q = least(lent.questions, questions.len());
+    let p = least(lent.patterns, patterns.len());
+    let t = least(lent.trees, trees.len());
+    let r = least(lent.records, records.len());
+    let b = least(lent.blocks, blocks.len());
+    let v = least(lent.values, values.len());
+    let w = least(lent.work, work.len());
+    let loaded = load(
+        text,
+        header,
+        which,
+        &mut questions[0..q],
+        &mut patterns[0..p],
+        &mut trees[0..t],
+        &mut records[0..r],
+        &mut blocks[0..b],
+        &mut values[0..v],
+        &mut work[0..w],
+    );
+    judge(
+        c,
+        s,
+        loaded,
+        against,
+        front(questions, q),
+        front(patterns, p),
+        front(trees, t),
+        front(records, r),
+        front(blocks, b),
+        front(values, v),
+        front_work(work, w),
+    )
+}
+
+// A load into tables that are filled before.
 fn attempt(
     c: Stored,
     s: &[u8],
@@ -259,47 +306,41 @@ fn attempt(
     against: Against,
     lent: Lent,
 ) -> Stored {
-    let mut questions = [0x5a5a_5a5a_5a5a_5a5au64; 2048];
-    let mut patterns = [0x5a5a_5a5a_5a5a_5a5au64; 4096];
-    let mut trees = [0x5a5a_5a5a_5a5a_5a5au64; 2048];
-    let mut records = [0x5a5a_5a5a_5a5a_5a5au64; 8192];
-    let mut blocks = [0x5a5a_5a5a_5a5a_5a5au64; 1024];
-    let mut values = [0x5a5a_5a5a_5a5a_5a5au64; 1024];
-    let mut work = [0x5a5a_5a5a_5a5a_5a5ai64; 4096];
-    let q = least(lent.questions, 2048);
-    let p = least(lent.patterns, 4096);
-    let t = least(lent.trees, 2048);
-    let r = least(lent.records, 8192);
-    let b = least(lent.blocks, 1024);
-    let v = least(lent.values, 1024);
-    let w = least(lent.work, 4096);
-    compare(
+    let mut questions = [0x5a5a_5a5a_5a5a_5a5au64; 64];
+    let mut patterns = [0x5a5a_5a5a_5a5a_5a5au64; 64];
+    let mut trees = [0x5a5a_5a5a_5a5a_5a5au64; 64];
+    let mut records = [0x5a5a_5a5a_5a5a_5a5au64; 256];
+    let mut blocks = [0x5a5a_5a5a_5a5a_5a5au64; 32];
+    let mut values = [0x5a5a_5a5a_5a5a_5a5au64; 128];
+    let mut work = [0x5a5a_5a5a_5a5a_5a5ai64; 64];
+    run(
         c,
         s,
         text,
         header,
         which,
         against,
-        &mut questions[0..q],
-        &mut patterns[0..p],
-        &mut trees[0..t],
-        &mut records[0..r],
-        &mut blocks[0..b],
-        &mut values[0..v],
-        &mut work[0..w],
+        lent,
+        &mut questions,
+        &mut patterns,
+        &mut trees,
+        &mut records,
+        &mut blocks,
+        &mut values,
+        &mut work,
     )
 }
 
 // All the room there is.
 fn long() -> Lent {
     Lent {
-        questions: 2048,
-        patterns: 4096,
-        trees: 2048,
-        records: 8192,
-        blocks: 1024,
-        values: 1024,
-        work: 4096,
+        questions: 64,
+        patterns: 64,
+        trees: 64,
+        records: 256,
+        blocks: 32,
+        values: 128,
+        work: 64,
     }
 }
 

@@ -1,0 +1,1 @@
+// 01's thirteen sums: one statement over one list. No code.
