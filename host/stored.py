@@ -150,3 +150,4 @@ def walks():
             answers = bytes(n.some(n.one()))
             number, pdf, asked = n.some(3)
             yield '%s %d %d %s %d' % (b.hex(), which, tree, answers.hex() or '-', limit), 'REFUSED %d' % number if number else 'PDF %d ASKED %d' % (pdf, asked)
+        assert n.at_end(), 'stored walks have numbers left over'
