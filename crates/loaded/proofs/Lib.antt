@@ -1,2 +1,4 @@
+pub mod Texts
 pub mod Numbers
 pub mod Says
+pub mod Refused

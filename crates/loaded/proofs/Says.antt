@@ -56,20 +56,9 @@ use Rattle.walk.proofs.Demand.{flat-walk}
 use Rattle.walk.specs.Walking.{walkOf}
 use Rattle.walk.specs.Answer.{answerOf, endingAnswer}
 use Rattle.loaded.specs.Stored.{blockRow, Chose, Stored, Unlinked}
+use Rattle.loaded.proofs.Texts as text
+use Rattle.loaded.proofs.Texts.{small-take, small-drop}
 use Rattle.loaded.proofs.Numbers.{Way, kept as untouched, written, way}
-
--- ---- bytes of a part are bytes
-
-small-take : (n : ℕ) (s : List ℕ) → Small s → Small (take n s)
-small-take zero s h k = omega arith
-small-take (suc n) [] h k = h k
-small-take (suc n) (x ∷ s) h zero = h zero
-small-take (suc n) (x ∷ s) h (suc k) = small-take n s (λ j. h (suc j)) k
-
-small-drop : (n : ℕ) (s : List ℕ) → Small s → Small (drop n s)
-small-drop zero s h k = h k
-small-drop (suc n) [] h k = h k
-small-drop (suc n) (x ∷ s) h k = small-drop n s (λ j. h (suc j)) k
 
 flat-rows : (rs : List block.Row) → flatRows rs ≡ flatten (map blockRow rs)
 unfolding flatRows flatten
@@ -80,13 +69,13 @@ module _ (s : List ℕ) (h : Header) (which : Which) (short : length s < 2 ^ 63)
   -- ---- the text of a plan
 
   module _ (p : Plan) (e : Model p ≡ planned s h which) where
-    abbrev S : List ℕ
+    abbrev pub S : List ℕ
     S = take (p .«text_end») (dataOf s h)
 
     abbrev B : List ℕ
     B = take (p .«block_end») (dataOf s h)
 
-    read : Was S (p .text) (p .first) (p .questions) (p .patterns) (p .trees) (p .records) (p .lines)
+    abbrev pub read : Was S (p .text) (p .first) (p .questions) (p .patterns) (p .trees) (p .records) (p .lines)
     read = was S (p .text) (needs-sound s h which p e .text)
 
     S-short : length S < 2 ^ 63
@@ -95,35 +84,16 @@ module _ (s : List ℕ) (h : Header) (which : Which) (short : length s < 2 ^ 63)
     B-small : Small B
     B-small = small-take (p .«block_end») (dataOf s h) (small-take (h .«data_len») (drop (h .«data_start») s) (small-drop (h .«data_start») s small))
 
-    spoken : Spoken S (p .text)
-    spoken = whole-says S (p .text) (λ k q. let z : survey.Counted (p .questions) (p .patterns) (p .trees) (p .records) (p .lines) ≡ survey.Broken k = sym (read .survey) ∙ q in let u : _≡_ {A = ℕ} 0 1 = cc in omega arith)
+    abbrev pub spoken : Spoken S (p .text)
+    spoken = text.spoken S (p .text) read
 
     natural : ¬ Negative (spoken .text .trees)
-    natural n =
-        let z : survey.Counted (p .questions) (p .patterns) (p .trees) (p .records) (p .lines) ≡ survey.Negative = sym (read .survey) ∙ said-negative (spoken .says) n in
-        let u : _≡_ {A = ℕ} 0 1 = cc in
-        omega arith
+    natural = text.natural S (p .text) read
 
     counted : (p .questions ≡ length (spoken .text .questions)) × (p .trees ≡ length (spoken .text .trees)) × (p .records ≡ total saidTreeRecords (spoken .text .trees))
-    unfolding saidSurvey
-    counted = go (anyOf saidNegative false (spoken .text .trees)) (sym (read .survey) ∙ survey-said (spoken .says))
-      where
-        T : said.Text
-        T = spoken .text
+    counted = text.counted S (p .text) read
 
-        C : Survey
-        C = survey.Counted (length (T .questions)) (total saidPatterns (T .questions)) (length (T .trees)) (total saidTreeRecords (T .trees)) (largest saidTreeLines 0 (T .trees))
-
-        go : (b : Bool) → survey.Counted (p .questions) (p .patterns) (p .trees) (p .records) (p .lines) ≡ cond b survey.Negative C
-            → (p .questions ≡ length (T .questions)) × (p .trees ≡ length (T .trees)) × (p .records ≡ total saidTreeRecords (T .trees))
-        go true k = let u : _≡_ {A = ℕ} 0 1 = cc in absurd (omega arith)
-        go false k =
-            let x : p .questions ≡ length (T .questions) = cc in
-            let y : p .trees ≡ length (T .trees) = cc in
-            let z : p .records ≡ total saidTreeRecords (T .trees) = cc in
-            (x, y, z)
-
-    chose : Chose s h which p (spoken .text) (spoken .layout)
+    pub chose : Chose s h which p (spoken .text) (spoken .layout)
     chose = record { plan = e; says = spoken .says; natural = natural; questions = counted .0; trees = counted .1 }
 
     -- ---- the block of a plan
@@ -170,17 +140,19 @@ module _ (s : List ℕ) (h : Header) (which : Which) (short : length s < 2 ^ 63)
             at-work = refl;
           }
 
+      abbrev of : Refusal → Type 0
+      of y = ModelRefused (spoken p e .text .questions) (spoken p e .text .trees) (numberOf y) (placeOf y) (lineOf y)
+
+      -- what linking refuses, in the text's words
+      pub refused : (o : Linked) → endAt (S p e) (p .text) (p .first) ≡ o → (y : Refusal) → answerFor p o ≡ loaded.Refused y
+          → ModelRefused (spoken p e .text .questions) (spoken p e .text .trees) (numberOf y) (placeOf y) (lineOf y)
+      refused linked.Done d y k = let u : _≡_ {A = ℕ} 0 1 = cc in absurd (omega arith)
+      refused (linked.NodeRef i j) d y k = let u : refusal.NodeRef i j ≡ y = cc in subst of u (text-refused (spoken p e .says) (read p e .begins) (S-short p e) (natural p e) d node)
+      refused (linked.QuestionRef i j) d y k = let u : refusal.QuestionRef i j ≡ y = cc in subst of u (text-refused (spoken p e .says) (read p e .begins) (S-short p e) (natural p e) d question)
+      refused (linked.LoneNode i) d y k = let u : refusal.LoneNode i 0 ≡ y = cc in subst of u (text-refused (spoken p e .says) (read p e .begins) (S-short p e) (natural p e) d lone)
+
       unlinked : (o : Linked) → endAt (S p e) (p .text) (p .first) ≡ o → (y : Refusal) → answerFor p o ≡ loaded.Refused y → Unlinked s h which y
-      unlinked linked.Done d y k = let u : _≡_ {A = ℕ} 0 1 = cc in absurd (omega arith)
-      unlinked (linked.NodeRef i j) d y k =
-          let u : refusal.NodeRef i j ≡ y = cc in
-          subst (Unlinked s h which) u (record { p = p; t = spoken p e .text; l = spoken p e .layout; chose = chose p e; refused = text-refused (spoken p e .says) (read p e .begins) (S-short p e) (natural p e) d node })
-      unlinked (linked.QuestionRef i j) d y k =
-          let u : refusal.QuestionRef i j ≡ y = cc in
-          subst (Unlinked s h which) u (record { p = p; t = spoken p e .text; l = spoken p e .layout; chose = chose p e; refused = text-refused (spoken p e .says) (read p e .begins) (S-short p e) (natural p e) d question })
-      unlinked (linked.LoneNode i) d y k =
-          let u : refusal.LoneNode i 0 ≡ y = cc in
-          subst (Unlinked s h which) u (record { p = p; t = spoken p e .text; l = spoken p e .layout; chose = chose p e; refused = text-refused (spoken p e .says) (read p e .begins) (S-short p e) (natural p e) d lone })
+      unlinked o d y k = record { p = p; t = spoken p e .text; l = spoken p e .layout; chose = chose p e; refused = refused o d y k }
 
     -- ---- every load
 
