@@ -10,11 +10,19 @@ use lib.ListN.{length}
 use lib.Seq.{sets}
 use Rattle.error.specs.Numbers.{numberOf, placeOf}
 use Rattle.error.specs.declared.Refusal.{Refusal}
+use Rattle.error.specs.declared.Refusal.the-variants as refusal
 use Rattle.header_lines.specs.declared.Verdict.{Verdict}
 use Rattle.header_lines.specs.declared.Verdict.the-variants.{Accepted, Refused}
 use Rattle.header_words.specs.Words.{wordAt, headerWords, flagsFit}
-use Rattle.parser.specs.Open.{openOf}
+use Rattle.header.specs.declared.Header.{Header}
+use Rattle.header_global.specs.declared.GlobalRead.{GlobalRead}
+use Rattle.header_streams.specs.declared.GroupsRead.{GroupsRead}
+use Rattle.sections.specs.Split.{splitOf}
+use Rattle.sections.specs.declared.Parts.{Parts}
+use Rattle.sections.specs.declared.Sections.the-variants as sections
+use Rattle.parser.specs.Open.{globalOf, streamsOf, positionsOf, made, refusedWith, headerOf, partsOf, openOf}
 use Rattle.parser.specs.declared.Opened.{Opened}
+use Rattle.parser.specs.declared.PositionRead.{PositionRead}
 use Rattle.face_open.specs.declared.Said.{Said}
 use Rattle.face_open.specs.declared.Part.{Part}
 use Rattle.face_open.specs.declared.Pair.{Pair}
@@ -22,30 +30,68 @@ use Rattle.face_open.specs.Answers.{said, saidIn, openSaidBy, openSaid, 
 
 -- ---- opening
 
-module _ (s w : List ℕ) {o : Opened} (e : o ≡ openOf s) where
-  pub open-refused : {r : Refusal} {x : Said} → o .verdict ≡ Refused r → x ≡ said (numberOf r) (placeOf r) → (x ≡ openSaid s (length w)) × (w ≡ openWords s w)
-  unfolding openSaid openWords
-  open-refused {r} {x} v q =
-      let f : openOf s .verdict ≡ Refused r = sym (ap (λ (y : Opened). y .verdict) e) ∙ v in
-      (q ∙ sym (ap (openSaidBy (length w)) f), sym (ap (openWordsBy w (openOf s .header)) f))
+module _ (w : List ℕ) where
+  -- what is said, and the words after it, where opening gives o
+  abbrev pub Says : Opened → Said → List ℕ → Type 0
+  Says o x w′ = (x ≡ openSaidBy (length w) (o .verdict)) × (w′ ≡ openWordsBy w (o .header) (o .verdict))
 
-  pub open-few : o .verdict ≡ Accepted → length w < 647 → (said 20 0 ≡ openSaid s (length w)) × (w ≡ openWords s w)
-  unfolding openSaid openWords
-  open-few v h =
-      let f : openOf s .verdict ≡ Accepted = sym (ap (λ (y : Opened). y .verdict) e) ∙ v in
-      let t : ltb (length w) 647 ≡ true = lt-ltb (length w) 647 h in (
-        sym (ap (openSaidBy (length w)) f ∙ ap (λ (b : Bool). cond b (said 20 0) (said 0 0)) t),
-        sym (ap (openWordsBy w (openOf s .header)) f ∙ ap (λ (b : Bool). cond b w (sets w 0 (headerWords (openOf s .header)))) t),
-      )
+  pub says-refused : (r : Refusal) {o : Opened} {x : Said} → o ≡ refusedWith r → x ≡ said (numberOf r) (placeOf r) → Says o x w
+  unfolding refusedWith
+  says-refused r e q = (q ∙ sym (ap (λ (o : Opened). openSaidBy (length w) (o .verdict)) e), sym (ap (λ (o : Opened). openWordsBy w (o .header) (o .verdict)) e))
 
-  pub open-done : {w′ : List ℕ} → o .verdict ≡ Accepted → 647 ≤ length w → w′ ≡ sets w 0 (headerWords (o .header)) → (said 0 0 ≡ openSaid s (length w)) × (w′ ≡ openWords s w)
+  module _ {o : Opened} {h : Header} (e : o ≡ made Accepted h) where
+    pub says-few : length w < 647 → Says o (said 20 0) w
+    says-few n =
+        let t : ltb (length w) 647 ≡ true = lt-ltb (length w) 647 n in (
+          sym (ap (λ (o : Opened). openSaidBy (length w) (o .verdict)) e ∙ ap (λ (b : Bool). cond b (said 20 0) (said 0 0)) t),
+          sym (ap (λ (o : Opened). openWordsBy w (o .header) (o .verdict)) e ∙ ap (λ (b : Bool). cond b w (sets w 0 (headerWords h))) t),
+        )
+
+    pub says-done : {w′ : List ℕ} → 647 ≤ length w → w′ ≡ sets w 0 (headerWords h) → Says o (said 0 0) w′
+    says-done n q =
+        let t : ltb (length w) 647 ≡ false = le-ltb (length w) 647 n in (
+          sym (ap (λ (o : Opened). openSaidBy (length w) (o .verdict)) e ∙ ap (λ (b : Bool). cond b (said 20 0) (said 0 0)) t),
+          q ∙ sym (ap (λ (o : Opened). openWordsBy w (o .header) (o .verdict)) e ∙ ap (λ (b : Bool). cond b w (sets w 0 (headerWords h))) t),
+        )
+
+  -- a whole file
+  pub says-open : (s : List ℕ) {o : Opened} {x : Said} {w′ : List ℕ} → openOf s ≡ o → Says o x w′ → (x ≡ openSaid s (length w)) × (w′ ≡ openWords s w)
   unfolding openSaid openWords
-  open-done {w′} v h q =
-      let f : openOf s .verdict ≡ Accepted = sym (ap (λ (y : Opened). y .verdict) e) ∙ v in
-      let t : ltb (length w) 647 ≡ false = le-ltb (length w) 647 h in (
-        sym (ap (openSaidBy (length w)) f ∙ ap (λ (b : Bool). cond b (said 20 0) (said 0 0)) t),
-        q ∙ ap (λ (y : Opened). sets w 0 (headerWords (y .header))) e ∙ sym (ap (openWordsBy w (openOf s .header)) f ∙ ap (λ (b : Bool). cond b w (sets w 0 (headerWords (openOf s .header)))) t),
-      )
+  says-open s e q = (q .0 ∙ ap (λ (o : Opened). openSaidBy (length w) (o .verdict)) (sym e), q .1 ∙ ap (λ (o : Opened). openWordsBy w (o .header) (o .verdict)) (sym e))
+
+-- a file that is too long, one that doesn't split, its parts
+module _ (s : List ℕ) where
+  pub open-long : 16777216 < length s → openOf s ≡ refusedWith refusal.Limit
+  unfolding openOf
+  open-long h = rw (lt-ltb _ _ h)
+
+  pub open-unsplit : length s ≤ 16777216 → splitOf s ≡ sections.Unsplit → openOf s ≡ refusedWith refusal.Split
+  unfolding openOf
+  open-unsplit h e = rw (le-ltb _ _ h, e)
+
+  pub open-split : length s ≤ 16777216 → (x : Parts) → splitOf s ≡ sections.Split x → openOf s ≡ partsOf s x
+  unfolding openOf
+  open-split h x e = rw (le-ltb _ _ h, e)
+
+-- the sections in turn
+module _ (s : List ℕ) (x : Parts) {g : GlobalRead} (e₁ : g ≡ globalOf s (x .global)) where
+  pub no-global : {r : Refusal} → g .verdict ≡ Refused r → partsOf s x ≡ refusedWith r
+  unfolding partsOf
+  no-global v₁ = rw (sym e₁, v₁)
+
+  module _ (v₁ : g .verdict ≡ Accepted) {t : GroupsRead} (e₂ : t ≡ streamsOf s (x .stream)) where
+    pub no-streams : {r : Refusal} → t .verdict ≡ Refused r → partsOf s x ≡ refusedWith r
+    unfolding partsOf
+    no-streams v₂ = rw (sym e₁, v₁, sym e₂, v₂)
+
+    module _ (v₂ : t .verdict ≡ Accepted) {p : PositionRead} (e₃ : p ≡ positionsOf s (x .position)) where
+      pub no-positions : {r : Refusal} → p .verdict ≡ Refused r → partsOf s x ≡ refusedWith r
+      unfolding partsOf
+      no-positions v₃ = rw (sym e₁, v₁, sym e₂, v₂, sym e₃, v₃)
+
+      pub all-said : p .verdict ≡ Accepted → partsOf s x ≡ made Accepted (headerOf (g .global) (t .streams) (p .durations) (p .positions) (x .rest))
+      unfolding partsOf
+      all-said v₃ = rw (sym e₁, v₁, sym e₂, v₂, sym e₃, v₃)
 
 -- ---- words
 

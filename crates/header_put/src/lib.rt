@@ -1,7 +1,6 @@
-// The header record into the words that hold it (`header_words` says where each field stands); what is beyond stays as it was. No function with a loop
-// takes the whole record, which is large. Assumes nothing.
+// The header record into the words that hold it (`header_words` says where each field stands); what is beyond stays as it was. The record comes in its parts:
+// put together it would only be copied once more, and it is large. Assumes nothing.
 use header::Global;
-use header::Header;
 use header::PositionData;
 use header::Range;
 use header::Span;
@@ -38,6 +37,7 @@ ghost use mathlib.Core.List.{[], _∷_};
 ghost use Prim.Native.Nat.{_+_, _≤_};
 ghost use lib.ListN.{length};
 ghost use lib.Seq.{sets};
+ghost use Rattle.header_put.specs.Parts.{headerFrom};
 ghost use Rattle.header_words.specs.Words.{spansWords, rangesWords, globalWords, streamWords, positionWords, streamsWords, positionsWords, headerWords};
 
 // The names of STREAM_TYPE.
@@ -210,26 +210,26 @@ fn put_positions(words: &mut [u64], at: usize, items: [PositionData; 8])
     }
 }
 
-// The record, into the first words.
-pub fn write_header(header: Header, words: &mut [u64])
+// The record, part by part, into the first words.
+pub fn write_header(
+    words: &mut [u64],
+    global: Global,
+    streams: [StreamData; 8],
+    stream_count: usize,
+    pdf: Range,
+    tree: Range,
+    positions: [PositionData; 8],
+    position_count: usize,
+    rest: Span,
+)
     requires { ⌜ 647 ≤ length (now words) ⌝ }
-    ensures { λ r. ⌜ now (words .exit) ≡ sets (now (words .entry)) 0 (headerWords header) ⌝ }
+    ensures { λ r. ⌜ now (words .exit) ≡ sets (now (words .entry)) 0 (headerWords (headerFrom global streams «stream_count» pdf tree positions «position_count» rest)) ⌝ }
 {
-    let global = header.global;
-    let streams = header.streams;
-    let pdf = header.duration_pdf;
-    let tree = header.duration_tree;
-    let positions = header.positions;
     put_global(words, 0, global);
     put_streams(words, STREAMS, streams);
-    put1(words, STREAM_COUNT, header.stream_count as u64);
+    put1(words, STREAM_COUNT, stream_count as u64);
     put4(words, DURATION_PDF, pdf.from, pdf.to, tree.from, tree.to);
     put_positions(words, POSITIONS, positions);
-    put1(words, POSITION_COUNT, header.position_count as u64);
-    put2(
-        words,
-        DATA_START,
-        header.data_start as u64,
-        header.data_len as u64,
-    );
+    put1(words, POSITION_COUNT, position_count as u64);
+    put2(words, DATA_START, rest.start as u64, rest.len as u64);
 }

@@ -49,7 +49,8 @@ fn check_utf8(file: &[u8], x: Span) -> Verdict
     }
 }
 
-fn open_global(file: &[u8], x: Span) -> GlobalRead
+// What each section says: UTF-8 first, then its lines and groups.
+pub fn open_global(file: &[u8], x: Span) -> GlobalRead
     requires { ⌜ x .start + x .len ≤ length (now file) ⌝ }
     ensures { λ r. ⌜ r ≡ globalOf (now (file .entry)) x ⌝ }
 {
@@ -65,7 +66,7 @@ fn open_global(file: &[u8], x: Span) -> GlobalRead
     }
 }
 
-fn open_streams(file: &[u8], x: Span) -> header_streams::GroupsRead
+pub fn open_streams(file: &[u8], x: Span) -> header_streams::GroupsRead
     requires { ⌜ x .start + x .len ≤ length (now file) ⌝ }
     ensures { λ r. ⌜ r ≡ streamsOf (now (file .entry)) x ⌝ }
 {
@@ -98,7 +99,7 @@ fn no_position(refusal: Refusal) -> PositionRead
     }
 }
 
-fn open_positions(file: &[u8], x: Span) -> PositionRead
+pub fn open_positions(file: &[u8], x: Span) -> PositionRead
     requires { ⌜ x .start + x .len ≤ length (now file) ⌝ }
     ensures { λ r. ⌜ r ≡ positionsOf (now (file .entry)) x ⌝ }
 {
