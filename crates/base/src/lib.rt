@@ -1,7 +1,7 @@
 // After base.rs: classes of bytes, blanks, runs (01, 'Tree text'); numbers and patterns are in `base_values`. Not its `&str` twin.
 // Every function takes any bytes and any place, also one past the end. A place is an index into the slice. Assumes nothing.
 ghost use mathlib.Core.Path.{_≡_};
-ghost use Rattle.written.specs.Bytes.{digit, inPattern, inWord, blank, spaceOrTab, inName, byteAt};
+ghost use Rattle.written.specs.Bytes.{letter, digit, inPattern, inWord, blank, spaceOrTab, inName, byteAt};
 ghost use Rattle.laws.specs.Runs.{stop};
 ghost use Rattle.base.specs.Classes.{classOf, testOf};
 
@@ -32,7 +32,7 @@ pub enum Test {
     Word,
 }
 
-// The class of a byte. Nothing else decides it.
+// The class of a byte, which patterns go by.
 pub fn class_of(b: u8) -> Class
     ensures { λ r. ⌜ r ≡ classOf b ⌝ }
 {
@@ -47,16 +47,20 @@ pub fn class_of(b: u8) -> Class
     }
 }
 
+// A digit of a number. Numbers are the most of a tree text, so this doesn't go by the class.
 pub fn is_digit(b: u8) -> bool
     ensures { λ r. ⌜ r ≡ digit b ⌝ }
 {
-    match class_of(b) {
-        Class::Digit => true,
-        Class::Letter => false,
-        Class::Wildcard => false,
-        Class::Mark => false,
-        Class::Rest => false,
+    b'0' <= b && b <= b'9'
+}
+
+fn is_letter(b: u8) -> bool
+    ensures { λ r. ⌜ r ≡ letter b ⌝ }
+{
+    if b <= b'Z' {
+        return b'A' <= b;
     }
+    b'a' <= b && b <= b'z'
 }
 
 // A byte that patterns are made of.
@@ -76,13 +80,13 @@ pub fn is_pattern(b: u8) -> bool
 pub fn is_word(b: u8) -> bool
     ensures { λ r. ⌜ r ≡ inWord b ⌝ }
 {
-    match class_of(b) {
-        Class::Digit => true,
-        Class::Letter => true,
-        Class::Wildcard => false,
-        Class::Mark => b == b'_',
-        Class::Rest => false,
+    if is_letter(b) {
+        return true;
     }
+    if is_digit(b) {
+        return true;
+    }
+    b == b'_'
 }
 
 // Space or newline; a tab is not blank.
@@ -134,8 +138,60 @@ pub fn byte_at(s: &[u8], at: usize) -> u32
     if at < s.len() { wide(s[at]) } else { 256 }
 }
 
-// The first place from `at` on whose byte doesn't pass the test, or the end.
-pub fn run_end(t: Test, s: &[u8], at: usize) -> usize
+// The ends of the runs that most of a tree text is read by: a loop each, so that the test is not chosen anew at every byte.
+fn blank_end(s: &[u8], at: usize) -> usize
+    ensures { λ r. ⌜ r ≡ stop blank (now (s .entry)) at ⌝ }
+{
+    let mut i = at;
+    while i < s.len() {
+        if !is_blank(s[i]) {
+            return i;
+        }
+        i = i + 1;
+    }
+    i
+}
+
+fn name_end(s: &[u8], at: usize) -> usize
+    ensures { λ r. ⌜ r ≡ stop inName (now (s .entry)) at ⌝ }
+{
+    let mut i = at;
+    while i < s.len() {
+        if !is_name(s[i]) {
+            return i;
+        }
+        i = i + 1;
+    }
+    i
+}
+
+fn pattern_end(s: &[u8], at: usize) -> usize
+    ensures { λ r. ⌜ r ≡ stop inPattern (now (s .entry)) at ⌝ }
+{
+    let mut i = at;
+    while i < s.len() {
+        if !is_pattern(s[i]) {
+            return i;
+        }
+        i = i + 1;
+    }
+    i
+}
+
+fn word_end(s: &[u8], at: usize) -> usize
+    ensures { λ r. ⌜ r ≡ stop inWord (now (s .entry)) at ⌝ }
+{
+    let mut i = at;
+    while i < s.len() {
+        if !is_word(s[i]) {
+            return i;
+        }
+        i = i + 1;
+    }
+    i
+}
+
+fn test_end(t: Test, s: &[u8], at: usize) -> usize
     ensures { λ r. ⌜ r ≡ stop (testOf t) (now (s .entry)) at ⌝ }
 {
     let mut i = at;
@@ -146,4 +202,17 @@ pub fn run_end(t: Test, s: &[u8], at: usize) -> usize
         i = i + 1;
     }
     i
+}
+
+// The first place from `at` on whose byte doesn't pass the test, or the end.
+pub fn run_end(t: Test, s: &[u8], at: usize) -> usize
+    ensures { λ r. ⌜ r ≡ stop (testOf t) (now (s .entry)) at ⌝ }
+{
+    match t {
+        Test::Blank => blank_end(s, at),
+        Test::Name => name_end(s, at),
+        Test::Pattern => pattern_end(s, at),
+        Test::Word => word_end(s, at),
+        _ => test_end(t, s, at),
+    }
 }

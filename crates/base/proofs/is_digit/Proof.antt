@@ -1,74 +1,16 @@
--- `base::is_digit`: the test goes by the class, at each of the 256 bytes. Assumes nothing.
-use mathlib.Core.Path.{_≡_, refl}
-use mathlib.Core.Bool.{Bool, true, false}
-use Prim.Native.Nat.{ℕ}
-use native.Mathlib.Omega.{arith}
-use borrow.Author.Needs.{needs}
-use Rattle.written.specs.Bytes.{letter, digit, wildcard, mark, oneOf}
-use Rattle.base.specs.Classes.{classOf}
-use Rattle.base.specs.declared.Class.{Class}
-use Rattle.base.specs.declared.Class.the-variants.{Letter, Digit, Wildcard, Mark, Rest}
-use Rattle.base.proofs.Keys.{told}
+-- `base::is_digit` meets its contract. Assumes nothing.
+use borrow.Author.Tests.{le-leb, lt-leb}
+use Rattle.written.specs.Bytes.{digit}
 use Rattle.base.proofs.is_digit.Statement.{statement}
 use Rattle.base.proofs.is_digit.Tie as tie
 
-abbrev goes : ℕ → Class → Bool
-goes b Letter = false
-goes b Digit = true
-goes b Wildcard = false
-goes b Mark = false
-goes b Rest = false
-
-class-of-requires : tie.Need-class-of-requires
-class-of-requires c κs = search needs
-
-enum-told : tie.Need-enum-told
-enum-told c = search needs
-
-enum-told-2 : tie.Need-enum-told-2
-enum-told-2 c = search needs
-
-enum-told-3 : tie.Need-enum-told-3
-enum-told-3 c = search needs
-
-enum-told-4 : tie.Need-enum-told-4
-enum-told-4 c = search needs
-
-enum-told-5 : tie.Need-enum-told-5
-enum-told-5 c = search needs
-
 returns : tie.Need-returns
-unfolding classOf letter digit wildcard mark oneOf
-returns c = told digit goes (c .before .before .before .args .b) refl (omega arith) (c .enum-told .given .1) (c .before .before .class-of .ensures)
+unfolding digit
+returns c = simp (le-leb _ _ (c .if1 .taken))
 
 returns-2 : tie.Need-returns-2
-unfolding classOf letter digit wildcard mark oneOf
-returns-2 c = told digit goes (c .before .before .before .args .b) refl (omega arith) (c .enum-told2 .given .1) (c .before .before .class-of .ensures)
-
-returns-3 : tie.Need-returns-3
-unfolding classOf letter digit wildcard mark oneOf
-returns-3 c = told digit goes (c .before .before .before .args .b) refl (omega arith) (c .enum-told3 .given .1) (c .before .before .class-of .ensures)
-
-returns-4 : tie.Need-returns-4
-unfolding classOf letter digit wildcard mark oneOf
-returns-4 c = told digit goes (c .before .before .before .args .b) refl (omega arith) (c .enum-told4 .given .1) (c .before .before .class-of .ensures)
-
-returns-5 : tie.Need-returns-5
-unfolding classOf letter digit wildcard mark oneOf
-returns-5 c = told digit goes (c .before .before .before .args .b) refl (omega arith) (c .enum-told5 .given .1) (c .before .before .class-of .ensures)
+unfolding digit
+returns-2 c = simp (lt-leb _ _ (c .if1 .left))
 
 pub is-digit-spec : {M : Type 1} → statement M
-is-digit-spec =
-    tie.close
-    (tie.spec
-    class-of-requires
-    enum-told
-    enum-told-2
-    enum-told-3
-    enum-told-4
-    enum-told-5
-    returns
-    returns-2
-    returns-3
-    returns-4
-    returns-5)
+is-digit-spec = tie.close (tie.spec returns returns-2)

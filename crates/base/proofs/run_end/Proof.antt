@@ -1,60 +1,65 @@
--- `base::run_end`: the place where the run stops is the same from each place that the loop passes. Assumes nothing.
-use Prim.Native.Nat.{_-_}
-use mathlib.Core.Path.{_≡_, sym, _∙_}
-use lib.ListN.{length}
+-- `base::run_end`: each test has its loop. Assumes nothing.
 use borrow.Author.Needs.{needs}
-use borrow.Author.Tests.{not-true, not-false}
-use Rattle.laws.specs.Runs.{stop}
-use Rattle.laws.proofs.Runs.{stop-on, stop-here, stop-end}
-use Rattle.base.specs.Classes.{testOf}
 use Rattle.base.proofs.run_end.Statement.{statement}
 use Rattle.base.proofs.run_end.Tie as tie
 
-abbrev Inv-loop : tie.InvT-loop
-Inv-loop t s at i₀ i = stop (testOf t) s i ≡ stop (testOf t) s i₀
+enum-told : tie.Need-enum-told
+enum-told c = search needs
 
-abbrev μ-loop : tie.MeasureT-loop
-μ-loop t s at i₀ i = length s - i
+blank-end-requires : tie.Need-blank-end-requires
+blank-end-requires c κs = search needs
 
-loop-holds : tie.Need-loop-holds Inv-loop μ-loop
-loop-holds c = search needs
+enum-told-2 : tie.Need-enum-told-2
+enum-told-2 c = search needs
 
-shared-slice-read-passes : tie.Need-shared-slice-read-passes Inv-loop μ-loop
-shared-slice-read-passes c = search needs
+name-end-requires : tie.Need-name-end-requires
+name-end-requires c κs = search needs
 
-passes-requires : tie.Need-passes-requires Inv-loop μ-loop
-passes-requires c κs = search needs
+enum-told-3 : tie.Need-enum-told-3
+enum-told-3 c = search needs
 
-returns : tie.Need-returns Inv-loop μ-loop
-returns c =
-    let at-loop = c .before .before .before .before in
-    sym (stop-here _ _ _ (c .before .before .before .loop-test .taken) (sym (c .before .passes .ensures) ∙ not-true _ (c .if1 .taken))) ∙ at-loop .loop .inv
+pattern-end-requires : tie.Need-pattern-end-requires
+pattern-end-requires c κs = search needs
 
-add-i : tie.Need-add-i Inv-loop μ-loop
-add-i c = search needs
+enum-told-4 : tie.Need-enum-told-4
+enum-told-4 c = search needs
 
-loop-less : tie.Need-loop-less Inv-loop μ-loop
-loop-less c = search needs
+word-end-requires : tie.Need-word-end-requires
+word-end-requires c κs = search needs
 
-loop-again : tie.Need-loop-again Inv-loop μ-loop
-loop-again c =
-    let at-loop = c .before .before .before .before in
-    sym (stop-on _ _ _ (c .before .before .before .loop-test .taken) (sym (c .before .passes .ensures) ∙ not-false _ (c .if1 .left))) ∙ at-loop .loop .inv
+test-end-requires : tie.Need-test-end-requires
+test-end-requires c κs = search needs
 
-returns-2 : tie.Need-returns-2 Inv-loop μ-loop
-returns-2 c = sym (stop-end _ _ _ (c .loop-test .left)) ∙ c .before .loop .inv
+returns : tie.Need-returns
+returns c = rw (c .before .enum-told .given .1) (c .blank-end .ensures)
+
+returns-2 : tie.Need-returns-2
+returns-2 c = rw (c .before .enum-told2 .given .1) (c .name-end .ensures)
+
+returns-3 : tie.Need-returns-3
+returns-3 c = rw (c .before .enum-told3 .given .1) (c .pattern-end .ensures)
+
+returns-4 : tie.Need-returns-4
+returns-4 c = rw (c .before .enum-told4 .given .1) (c .word-end .ensures)
+
+returns-5 : tie.Need-returns-5
+returns-5 c = search needs
 
 pub run-end-spec : {M : Type 1} → statement M
 run-end-spec =
     tie.close
     (tie.spec
-    Inv-loop
-    μ-loop
-    loop-holds
-    shared-slice-read-passes
-    passes-requires
+    enum-told
+    blank-end-requires
+    enum-told-2
+    name-end-requires
+    enum-told-3
+    pattern-end-requires
+    enum-told-4
+    word-end-requires
+    test-end-requires
     returns
-    add-i
-    loop-less
-    loop-again
-    returns-2)
+    returns-2
+    returns-3
+    returns-4
+    returns-5)
