@@ -1,3 +1,4 @@
 pub mod Stands
+pub mod Scalars
 pub mod Moves
 pub mod Sound

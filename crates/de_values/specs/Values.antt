@@ -18,6 +18,8 @@ use Rattle.de_lists.specs.declared.Spans.{Spans}
 use Rattle.de_lists.specs.declared.Ranges.{Ranges}
 use Rattle.de_lists.specs.declared.Outcome.{Outcome}
 use Rattle.de_lists.specs.declared.Outcome.the-variants as outcome
+use Rattle.deserializer.specs.declared.Asked.{Asked}
+use Rattle.deserializer.specs.declared.Asked.the-variants as asked
 use Rattle.de_values.specs.declared.Kind.{Kind}
 use Rattle.de_values.specs.declared.Kind.the-variants as kind
 use Rattle.de_values.specs.declared.Around.{Around}
@@ -39,6 +41,13 @@ kindFrom kind.Pair = a-pair
 kindFrom kind.Pairs = pairs
 kindFrom kind.PerhapsPair = perhaps-a-pair
 kindFrom kind.Anything = anything
+
+-- the kind of a scalar that is asked for
+abbrev pub kindAsked : Asked → says.Kind
+kindAsked asked.Text = a-string
+kindAsked asked.Number = a-number
+kindAsked asked.Flag = a-bool
+kindAsked asked.Pair = a-pair
 
 -- ---- what is read
 

@@ -2,15 +2,14 @@
 // Assumes nothing.
 use de::Cursor;
 use de::Delimiters;
-use de::Flag;
-use de::Number;
-use de::Pair;
-use de::Text;
 use de_lists::Outcome;
 use de_lists::Ranges;
 use de_lists::Spans;
 use de_lists::pairs;
 use de_lists::strings;
+use deserializer::Asked;
+use deserializer::Scalar;
+use deserializer::scalar_in;
 use header::Range;
 use header::Span;
 ghost use mathlib.Core.Path.{_≡_};
@@ -18,7 +17,7 @@ ghost use mathlib.Core.List.{_∷_};
 ghost use Rattle.written.specs.Bytes.{comma};
 ghost use Rattle.written.specs.HeaderText.{a-string, a-number, a-bool, strings, a-pair, pairs, perhaps-a-pair, anything};
 ghost use Rattle.de.specs.Values.{delimitersOf};
-ghost use Rattle.de_values.specs.Values.{aroundOf, kindFrom, blankOf, valueIn, readAt};
+ghost use Rattle.de_values.specs.Values.{aroundOf, kindFrom, kindAsked, blankOf, valueIn, readAt};
 
 // How the value of a field is read.
 pub enum Kind {
@@ -86,44 +85,53 @@ pub fn blank(outcome: Outcome) -> Value
     }
 }
 
-fn read_text(c: Cursor, s: &[u8], around: Around) -> Value
-    ensures { λ r. ⌜ r ≡ valueIn (readAt (aroundOf around) (now (s .entry)) (c .at) a-string) ⌝ }
+// A value that is no list, of a reader that holds the section.
+fn read_scalar(c: Cursor, s: &[u8], around: Around, asked: Asked) -> Value
+    ensures { λ r. ⌜ r ≡ valueIn (readAt (aroundOf around) (now (s .entry)) (c .at) (kindAsked asked)) ⌝ }
 {
-    match c.string(s, around.outer()) {
-        Text::Read { start, len, next } => {
+    match scalar_in(s, c, around.outer(), asked) {
+        Scalar::Text { start, len, next } => {
             let mut v = blank(Outcome::Read(next));
             let span = Span { start, len };
             v.span = span;
             v
         }
-        Text::Refused(refusal) => blank(Outcome::Refused(refusal)),
+        Scalar::Number(n, next) => {
+            let mut v = blank(Outcome::Read(next));
+            v.number = n;
+            v
+        }
+        Scalar::Flag(b, next) => {
+            let mut v = blank(Outcome::Read(next));
+            v.flag = b;
+            v
+        }
+        Scalar::Pair { from, to, next } => {
+            let mut v = blank(Outcome::Read(next));
+            let range = Range { from, to };
+            v.range = range;
+            v
+        }
+        Scalar::Refused(refusal) => blank(Outcome::Refused(refusal)),
     }
+}
+
+fn read_text(c: Cursor, s: &[u8], around: Around) -> Value
+    ensures { λ r. ⌜ r ≡ valueIn (readAt (aroundOf around) (now (s .entry)) (c .at) a-string) ⌝ }
+{
+    read_scalar(c, s, around, Asked::Text)
 }
 
 fn read_number(c: Cursor, s: &[u8], around: Around) -> Value
     ensures { λ r. ⌜ r ≡ valueIn (readAt (aroundOf around) (now (s .entry)) (c .at) a-number) ⌝ }
 {
-    match c.number(s) {
-        Number::Read(n, next) => {
-            let mut v = blank(Outcome::Read(next));
-            v.number = n;
-            v
-        }
-        Number::Refused(refusal) => blank(Outcome::Refused(refusal)),
-    }
+    read_scalar(c, s, around, Asked::Number)
 }
 
 fn read_flag(c: Cursor, s: &[u8], around: Around) -> Value
     ensures { λ r. ⌜ r ≡ valueIn (readAt (aroundOf around) (now (s .entry)) (c .at) a-bool) ⌝ }
 {
-    match c.flag(s) {
-        Flag::Read(b, next) => {
-            let mut v = blank(Outcome::Read(next));
-            v.flag = b;
-            v
-        }
-        Flag::Refused(refusal) => blank(Outcome::Refused(refusal)),
-    }
+    read_scalar(c, s, around, Asked::Flag)
 }
 
 fn read_strings(c: Cursor, s: &[u8], around: Around) -> Value
@@ -140,15 +148,7 @@ fn read_strings(c: Cursor, s: &[u8], around: Around) -> Value
 fn read_pair(c: Cursor, s: &[u8], around: Around) -> Value
     ensures { λ r. ⌜ r ≡ valueIn (readAt (aroundOf around) (now (s .entry)) (c .at) a-pair) ⌝ }
 {
-    match c.pair(s, around.outer()) {
-        Pair::Read { from, to, next } => {
-            let mut v = blank(Outcome::Read(next));
-            let range = Range { from, to };
-            v.range = range;
-            v
-        }
-        Pair::Refused(refusal) => blank(Outcome::Refused(refusal)),
-    }
+    read_scalar(c, s, around, Asked::Pair)
 }
 
 fn read_pairs(c: Cursor, s: &[u8], around: Around) -> Value
@@ -168,15 +168,14 @@ fn read_perhaps(c: Cursor, s: &[u8], around: Around) -> Value
     if c.ends(s, Delimiters::Newline) {
         return blank(Outcome::Read(c));
     }
-    match c.pair(s, around.outer()) {
-        Pair::Read { from, to, next } => {
-            let mut v = blank(Outcome::Read(next));
-            let range = Range { from, to };
+    let mut v = read_pair(c, s, around);
+    let outcome = v.outcome;
+    match outcome {
+        Outcome::Read(_) => {
             v.flag = true;
-            v.range = range;
             v
         }
-        Pair::Refused(refusal) => blank(Outcome::Refused(refusal)),
+        Outcome::Refused(_) => v,
     }
 }
 
