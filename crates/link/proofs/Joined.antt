@@ -25,6 +25,7 @@ use Rattle.search.specs.Found.{lastBelow, firstFrom}
 use Rattle.search.specs.declared.Found.{Found}
 use Rattle.search.specs.declared.Found.the-variants.{At, Nothing}
 use Rattle.search.proofs.Ids.{same-id, id-small}
+use Rattle.search.proofs.Last.{last-found, last-missing}
 use Rattle.link_refs.specs.Lines.{natOf, WorkLine, lineIn, linesFrom, refAt, refOf, pdfsOf}
 use Rattle.link_refs.specs.Targets.{moved, targetOf}
 use Rattle.link_rows.specs.Rows.{leafRows}
@@ -35,35 +36,6 @@ use Rattle.link.specs.declared.Link.{Link}
 use Rattle.link.specs.declared.Link.the-variants.{Done, NodeRef, QuestionRef}
 use Rattle.link.specs.declared.Step.{Step}
 use Rattle.link.specs.declared.Step.the-variants.{Goes, NoNode, NoQuestion}
-
--- ---- what a search found
-
-pub last-found : (p : ℕ → Bool) (n k : ℕ) → lastBelow p n ≡ At k → (k < n) × (p k ≡ true) × ((m : ℕ) → k < m → m < n → p m ≡ false)
-unfolding lastBelow
-last-found p zero k e = let u : _≡_ {A = ℕ} 0 1 = cc in absurd (omega arith)
-last-found p (suc n) k e = go (p n) refl e (last-found p n k)
-  where
-    go : (b : Bool) → p n ≡ b → cond b (At n) (lastBelow p n) ≡ At k → (lastBelow p n ≡ At k → (k < n) × (p k ≡ true) × ((m : ℕ) → k < m → m < n → p m ≡ false))
-        → (k < suc n) × (p k ≡ true) × ((m : ℕ) → k < m → m < suc n → p m ≡ false)
-    go true q e r = let z : n ≡ k = cc in (omega arith, ap p (sym z) ∙ q, λ m a b. absurd (omega arith))
-    go false q e r = (omega (arith, r e .0), r e .1, λ m a b. pick m (le-or-lt n m) a b)
-      where
-        pick : (m : ℕ) → (n ≤ m) ⊎ (m < n) → k < m → m < suc n → p m ≡ false
-        pick m (inr l) a b = r e .2 m a l
-        pick m (inl l) a b = let z : m ≡ n = omega arith in ap p z ∙ q
-
-pub last-missing : (p : ℕ → Bool) (n : ℕ) → lastBelow p n ≡ Nothing → (m : ℕ) → m < n → p m ≡ false
-unfolding lastBelow
-last-missing p zero e m h = absurd (omega arith)
-last-missing p (suc n) e m h = go (p n) refl e (λ q. last-missing p n q m)
-  where
-    go : (b : Bool) → p n ≡ b → cond b (At n) (lastBelow p n) ≡ Nothing → (lastBelow p n ≡ Nothing → m < n → p m ≡ false) → p m ≡ false
-    go true q e r = let u : _≡_ {A = ℕ} 0 1 = cc in absurd (omega arith)
-    go false q e r = pick (le-or-lt n m)
-      where
-        pick : (n ≤ m) ⊎ (m < n) → p m ≡ false
-        pick (inr l) = r e l
-        pick (inl l) = let z : m ≡ n = omega arith in ap p z ∙ q
 
 -- ---- the first leaf of a number
 

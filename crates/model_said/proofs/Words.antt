@@ -30,7 +30,7 @@ use Rattle.tree_reference.specs.declared.TreeIndex.{TreeIndex}
 use Rattle.tree_reference.specs.declared.TreeIndex.the-variants.{Node, Pdf}
 use Rattle.tree_line.specs.Lines.{lineOf}
 use Rattle.tree_line.specs.declared.Line.{Line}
-use Rattle.link.proofs.Joined.{last-found}
+use Rattle.search.proofs.Last.{last-found}
 use Rattle.model_lines.specs.Words.{kindOf, numberOf, askedOf, askedAt, wordsOf, lineWords}
 use Rattle.model_questions.specs.Words.{questionWords}
 use Rattle.model_questions.proofs.Rows.{questions-length}

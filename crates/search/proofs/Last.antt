@@ -1,6 +1,7 @@
 -- In an index, where the test 'up to T' parts it, stands the last number that f sends to T, if there is one. Assumes nothing.
 use mathlib.Core.Path.{_≡_, refl, sym, ap, _∙_, subst}
 use mathlib.Core.Bool.{Bool, true, false, cond}
+use mathlib.Core.Logic.{_⊎_, inl, inr}
 use mathlib.Core.List.{List, [], _∷_}
 use Prim.Native.Nat.{ℕ, zero, suc, _+_, _-_, _^_, _≤_, _<_}
 use native.Mathlib.Decide.{decLt}
@@ -12,6 +13,7 @@ use Rattle.written.specs.Linking.{times}
 use Rattle.order.specs.Keys.{keyOf}
 use Rattle.order.proofs.Keys.{apart, first-le, then-le}
 use Rattle.sorting.specs.Sorted.{sorted}
+use Rattle.sorting.proofs.Order.{le-or-lt}
 use Rattle.sorting.proofs.Index.{length-sorted, sorted-has, sorted-from, sorted-rises, counted, stands, times-sorted}
 use Rattle.search.specs.Found.{lastBelow, firstFrom, countFrom}
 use Rattle.search.specs.Index.{Index, Ascends}
@@ -138,3 +140,32 @@ pub last-ext-below : (p q : ℕ → Bool) (n : ℕ) → ((m : ℕ) → m < n →
 unfolding lastBelow
 last-ext-below p q zero e = refl
 last-ext-below p q (suc n) e = rw (e n (omega arith), last-ext-below p q n (λ m h. e m (omega arith)))
+
+-- ---- what a search has found, or not
+
+pub last-found : (p : ℕ → Bool) (n k : ℕ) → lastBelow p n ≡ At k → (k < n) × (p k ≡ true) × ((m : ℕ) → k < m → m < n → p m ≡ false)
+unfolding lastBelow
+last-found p zero k e = let u : _≡_ {A = ℕ} 0 1 = cc in absurd (omega arith)
+last-found p (suc n) k e = go (p n) refl e (last-found p n k)
+  where
+    go : (b : Bool) → p n ≡ b → cond b (At n) (lastBelow p n) ≡ At k → (lastBelow p n ≡ At k → (k < n) × (p k ≡ true) × ((m : ℕ) → k < m → m < n → p m ≡ false))
+        → (k < suc n) × (p k ≡ true) × ((m : ℕ) → k < m → m < suc n → p m ≡ false)
+    go true q e r = let z : n ≡ k = cc in (omega arith, ap p (sym z) ∙ q, λ m a b. absurd (omega arith))
+    go false q e r = (omega (arith, r e .0), r e .1, λ m a b. pick m (le-or-lt n m) a b)
+      where
+        pick : (m : ℕ) → (n ≤ m) ⊎ (m < n) → k < m → m < suc n → p m ≡ false
+        pick m (inr l) a b = r e .2 m a l
+        pick m (inl l) a b = let z : m ≡ n = omega arith in ap p z ∙ q
+
+pub last-missing : (p : ℕ → Bool) (n : ℕ) → lastBelow p n ≡ Nothing → (m : ℕ) → m < n → p m ≡ false
+unfolding lastBelow
+last-missing p zero e m h = absurd (omega arith)
+last-missing p (suc n) e m h = go (p n) refl e (λ q. last-missing p n q m)
+  where
+    go : (b : Bool) → p n ≡ b → cond b (At n) (lastBelow p n) ≡ Nothing → (lastBelow p n ≡ Nothing → m < n → p m ≡ false) → p m ≡ false
+    go true q e r = let u : _≡_ {A = ℕ} 0 1 = cc in absurd (omega arith)
+    go false q e r = pick (le-or-lt n m)
+      where
+        pick : (n ≤ m) ⊎ (m < n) → p m ≡ false
+        pick (inr l) = r e l
+        pick (inl l) = let z : m ≡ n = omega arith in ap p z ∙ q

@@ -24,7 +24,7 @@ use Rattle.search.specs.Found.{lastBelow}
 use Rattle.search.specs.declared.Found.{Found}
 use Rattle.search.specs.declared.Found.the-variants.{At, Nothing}
 use Rattle.search.proofs.Ids.{same-true, true-same}
-use Rattle.link.proofs.Joined.{last-found, last-missing}
+use Rattle.search.proofs.Last.{last-found, last-missing}
 use Rattle.sorting.proofs.Order.{le-or-lt}
 use Rattle.which.specs.Chosen.{positionNamed, streamNamed, streamModel, gvModel, numbered, asked, chosenOf}
 use Rattle.which.specs.Entries.{LastNamed, Unnamed, positionName, streamName, typeName, Numbered, no-number, no-position, no-stream, entries, Arrays, Choice, unfit, duration, stream, gv}
