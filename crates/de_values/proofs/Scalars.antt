@@ -1,8 +1,7 @@
--- A scalar that the reader of a section answers, as it stands in `Value`: it is the value of its kind; and a pair that is there, with its flag, is the pair that may be absent. Assumes nothing.
-use mathlib.Core.Bool.{Bool, true, false}
-use mathlib.Core.List.{List}
+-- A scalar that the reader of a section answers, as it stands in `Value`, is the value of its kind; and a pair, flagged where it was read, is the pair that may be absent. Assumes nothing.
+use mathlib.Core.List.{List, []}
 use mathlib.Core.Option.{some}
-use mathlib.Core.Path.{_≡_, refl, sym, ap, subst, _∙_}
+use mathlib.Core.Path.{_≡_, refl, ap, _∙_}
 use Prim.Native.Nat.{ℕ}
 use Rattle.written.specs.HeaderText as says
 use Rattle.written.specs.HeaderText.{text, number, flag, range, perhaps}
@@ -16,38 +15,36 @@ use Rattle.de.specs.declared.Flag.{Flag}
 use Rattle.de.specs.declared.Flag.the-variants as flags
 use Rattle.de.specs.declared.Pair.{Pair}
 use Rattle.de.specs.declared.Pair.the-variants as pairs
+use Rattle.de_lists.specs.Lists.{spansOf, rangesOf}
 use Rattle.deserializer.specs.Scalars.{withText, withNumber, withFlag, withPair, scalarAt}
 use Rattle.deserializer.specs.declared.Asked.{Asked}
 use Rattle.deserializer.specs.declared.Asked.the-variants as asked
 use Rattle.deserializer.specs.declared.Scalar.{Scalar}
-use Rattle.deserializer.specs.declared.Scalar.the-variants as scalar
-use Rattle.de_lists.specs.declared.Outcome.{Outcome}
-use Rattle.de_lists.specs.declared.Outcome.the-variants as outcome
 use Rattle.de_values.specs.declared.Value.{Value}
-use Rattle.de_values.specs.Values.{kindAsked, readAt, made, blankOf, valueOf, valueIn}
+use Rattle.de_values.specs.Values.{kindAsked, readAt, wasRead, made, blankOf, valueOf, valueIn}
 
 -- ---- scalars
 
 abbrev pub scalarValue : Scalar → Value
-scalarValue (scalar.Text i n c) = valueOf (outcome.Read c) (text (record { start = i; len = n }))
-scalarValue (scalar.Number n c) = valueOf (outcome.Read c) (number n)
-scalarValue (scalar.Flag b c) = valueOf (outcome.Read c) (flag b)
-scalarValue (scalar.Pair a b c) = valueOf (outcome.Read c) (range (record { from = a; to = b }))
-scalarValue (scalar.Refused r) = blankOf (outcome.Refused r)
+scalarValue x = made (x .outcome) (x .number) (x .flag) (x .span) (x .range) (spansOf []) (rangesOf [])
 
 text-value : (x : Text) → scalarValue (withText x) ≡ valueIn (mapped text (ofText x))
+unfolding valueOf blankOf
 text-value (texts.Read i n c) = refl
 text-value (texts.Refused r) = refl
 
 number-value : (x : Number) → scalarValue (withNumber x) ≡ valueIn (mapped number (ofNumber x))
+unfolding valueOf blankOf
 number-value (numbers.Read n c) = refl
 number-value (numbers.Refused r) = refl
 
 flag-value : (x : Flag) → scalarValue (withFlag x) ≡ valueIn (mapped flag (ofFlag x))
+unfolding valueOf blankOf
 flag-value (flags.Read b c) = refl
 flag-value (flags.Refused r) = refl
 
 pair-value : (x : Pair) → scalarValue (withPair x) ≡ valueIn (mapped range (ofPair x))
+unfolding valueOf blankOf
 pair-value (pairs.Read a b c) = refl
 pair-value (pairs.Refused r) = refl
 
@@ -58,29 +55,16 @@ scalar-value asked.Number D s i = number-value (numberAt s i)
 scalar-value asked.Flag D s i = flag-value (flagAt s i)
 scalar-value asked.Pair D s i = pair-value (pairAt D s i)
 
-pub scalar-stands : {D D′ : List ℕ} (a : Asked) (s : List ℕ) (i : ℕ) {x y : Scalar} → D ≡ D′ → x ≡ scalarAt a D s i → x ≡ y → scalarValue y ≡ valueIn (readAt D′ s i (kindAsked a))
-scalar-stands {D} {D′} a s i d e f = ap scalarValue (sym f ∙ e) ∙ (scalar-value a D s i ∙ ap (λ (E : List ℕ). valueIn (readAt E s i (kindAsked a))) d)
+pub scalar-stands : {D D′ : List ℕ} (a : Asked) (s : List ℕ) (i : ℕ) {x : Scalar} → D ≡ D′ → x ≡ scalarAt a D s i → scalarValue x ≡ valueIn (readAt D′ s i (kindAsked a))
+scalar-stands {D} {D′} a s i d e = ap scalarValue e ∙ (scalar-value a D s i ∙ ap (λ (E : List ℕ). valueIn (readAt E s i (kindAsked a))) d)
 
 -- ---- a pair that may be absent
 
-abbrev pub isRead : Outcome → Bool
-isRead (outcome.Read c) = true
-isRead (outcome.Refused r) = false
+-- the value, flagged where it was read
+abbrev pub flagged : Value → Value
+flagged v = made (v .outcome) (v .number) (wasRead (v .outcome)) (v .span) (v .range) (v .spans) (v .ranges)
 
--- the value with its flag set
-abbrev pub there : Value → Value
-there v = made (v .outcome) (v .number) true (v .span) (v .range) (v .spans) (v .ranges)
-
-abbrev Holds : Bool → Type 0
-Holds true = Unit {0}
-Holds false = ⊥
-
-pub pair-there : (x : Pair) (v : Value) → v ≡ valueIn (mapped range (ofPair x)) → isRead (v .outcome) ≡ true → there v ≡ valueIn (mapped (λ (r : says.Range). perhaps (some r)) (ofPair x))
+pub pair-flagged : (x : Pair) → flagged (valueIn (mapped range (ofPair x))) ≡ valueIn (mapped (λ (r : says.Range). perhaps (some r)) (ofPair x))
 unfolding valueOf blankOf
-pair-there (pairs.Read a b c) v e h = ap there e
-pair-there (pairs.Refused r) v e h = absurd (subst Holds (sym h ∙ ap (λ (w : Value). isRead (w .outcome)) e) tt)
-
-pub pair-absent : (x : Pair) (v : Value) → v ≡ valueIn (mapped range (ofPair x)) → isRead (v .outcome) ≡ false → v ≡ valueIn (mapped (λ (r : says.Range). perhaps (some r)) (ofPair x))
-unfolding valueOf blankOf
-pair-absent (pairs.Read a b c) v e h = absurd (subst Holds (sym (sym h ∙ ap (λ (w : Value). isRead (w .outcome)) e)) tt)
-pair-absent (pairs.Refused r) v e h = e
+pair-flagged (pairs.Read a b c) = refl
+pair-flagged (pairs.Refused r) = refl

@@ -65,6 +65,11 @@ readAt D s i pairs = mapped ranges (listAt (λ k. ofPair (pairAt (comma ∷ D) s
 readAt D s i perhaps-a-pair = cond (endsAt (newline ∷ []) s i) (read (perhaps none) i) (mapped (λ r. perhaps (some r)) (ofPair (pairAt D s i)))
 readAt D s i anything = upTo i (stop (noneOf D) s i)
 
+-- whether a value was read
+abbrev pub wasRead : Outcome → Bool
+wasRead (outcome.Read c) = true
+wasRead (outcome.Refused r) = false
+
 -- ---- how it stands in `Value`
 
 abbrev pub made : Outcome → ℕ → Bool → Span → Range → Spans → Ranges → Value

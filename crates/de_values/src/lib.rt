@@ -8,7 +8,6 @@ use de_lists::Spans;
 use de_lists::pairs;
 use de_lists::strings;
 use deserializer::Asked;
-use deserializer::Scalar;
 use deserializer::scalar_in;
 use header::Range;
 use header::Span;
@@ -17,7 +16,7 @@ ghost use mathlib.Core.List.{_∷_};
 ghost use Rattle.written.specs.Bytes.{comma};
 ghost use Rattle.written.specs.HeaderText.{a-string, a-number, a-bool, strings, a-pair, pairs, perhaps-a-pair, anything};
 ghost use Rattle.de.specs.Values.{delimitersOf};
-ghost use Rattle.de_values.specs.Values.{aroundOf, kindFrom, kindAsked, blankOf, valueIn, readAt};
+ghost use Rattle.de_values.specs.Values.{aroundOf, kindFrom, kindAsked, wasRead, blankOf, valueIn, readAt};
 
 // How the value of a field is read.
 pub enum Kind {
@@ -85,35 +84,20 @@ pub fn blank(outcome: Outcome) -> Value
     }
 }
 
-// A value that is no list, of a reader that holds the section.
+// A value that is no list, by a reader that holds the section.
 fn read_scalar(c: Cursor, s: &[u8], around: Around, asked: Asked) -> Value
     ensures { λ r. ⌜ r ≡ valueIn (readAt (aroundOf around) (now (s .entry)) (c .at) (kindAsked asked)) ⌝ }
 {
-    match scalar_in(s, c, around.outer(), asked) {
-        Scalar::Text { start, len, next } => {
-            let mut v = blank(Outcome::Read(next));
-            let span = Span { start, len };
-            v.span = span;
-            v
-        }
-        Scalar::Number(n, next) => {
-            let mut v = blank(Outcome::Read(next));
-            v.number = n;
-            v
-        }
-        Scalar::Flag(b, next) => {
-            let mut v = blank(Outcome::Read(next));
-            v.flag = b;
-            v
-        }
-        Scalar::Pair { from, to, next } => {
-            let mut v = blank(Outcome::Read(next));
-            let range = Range { from, to };
-            v.range = range;
-            v
-        }
-        Scalar::Refused(refusal) => blank(Outcome::Refused(refusal)),
-    }
+    let x = scalar_in(s, c, around.outer(), asked);
+    let outcome = x.outcome;
+    let span = x.span;
+    let range = x.range;
+    let mut v = blank(outcome);
+    v.number = x.number;
+    v.flag = x.flag;
+    v.span = span;
+    v.range = range;
+    v
 }
 
 fn read_text(c: Cursor, s: &[u8], around: Around) -> Value
@@ -162,6 +146,15 @@ fn read_pairs(c: Cursor, s: &[u8], around: Around) -> Value
     v
 }
 
+fn is_read(outcome: Outcome) -> bool
+    ensures { λ r. ⌜ r ≡ wasRead outcome ⌝ }
+{
+    match outcome {
+        Outcome::Read(_) => true,
+        Outcome::Refused(_) => false,
+    }
+}
+
 fn read_perhaps(c: Cursor, s: &[u8], around: Around) -> Value
     ensures { λ r. ⌜ r ≡ valueIn (readAt (aroundOf around) (now (s .entry)) (c .at) perhaps-a-pair) ⌝ }
 {
@@ -170,13 +163,8 @@ fn read_perhaps(c: Cursor, s: &[u8], around: Around) -> Value
     }
     let mut v = read_pair(c, s, around);
     let outcome = v.outcome;
-    match outcome {
-        Outcome::Read(_) => {
-            v.flag = true;
-            v
-        }
-        Outcome::Refused(_) => v,
-    }
+    v.flag = is_read(outcome);
+    v
 }
 
 fn read_anything(c: Cursor, s: &[u8], around: Around) -> Value

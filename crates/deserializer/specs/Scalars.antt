@@ -1,7 +1,11 @@
 -- What a reader that holds its section answers, in the answers of `de`. Assumes nothing.
+use mathlib.Core.Bool.{Bool, false}
 use mathlib.Core.List.{List}
 use Prim.Native.Nat.{ℕ}
 use denote.Ref.{RefT}
+use Rattle.header.specs.Empty.{noSpan, noRange}
+use Rattle.header.specs.declared.Span.{Span}
+use Rattle.header.specs.declared.Range.{Range}
 use Rattle.de.specs.Values.{textAt, numberAt, flagAt, pairAt}
 use Rattle.de.specs.declared.Cursor.{Cursor}
 use Rattle.de.specs.declared.Delimiters.{Delimiters}
@@ -13,11 +17,12 @@ use Rattle.de.specs.declared.Flag.{Flag}
 use Rattle.de.specs.declared.Flag.the-variants as flag
 use Rattle.de.specs.declared.Pair.{Pair}
 use Rattle.de.specs.declared.Pair.the-variants as pair
+use Rattle.de_lists.specs.declared.Outcome.{Outcome}
+use Rattle.de_lists.specs.declared.Outcome.the-variants as outcome
 use Rattle.deserializer.specs.declared.Deserializer.{Deserializer}
 use Rattle.deserializer.specs.declared.Asked.{Asked}
 use Rattle.deserializer.specs.declared.Asked.the-variants as asked
 use Rattle.deserializer.specs.declared.Scalar.{Scalar}
-use Rattle.deserializer.specs.declared.Scalar.the-variants as scalar
 
 -- the reader that holds a section, a cursor in it and the delimiters now open
 abbrev pub holding : RefT (List ℕ) → Cursor → Delimiters → Deserializer
@@ -25,21 +30,24 @@ holding s c d = record { section = s; cursor = c; delimiters = d }
 
 -- ---- an answer of `de` as a scalar
 
+abbrev pub scalarOf : Outcome → ℕ → Bool → Span → Range → Scalar
+scalarOf o n b x r = record { outcome = o; number = n; flag = b; span = x; range = r }
+
 abbrev pub withText : Text → Scalar
-withText (text.Read i n c) = scalar.Text i n c
-withText (text.Refused r) = scalar.Refused r
+withText (text.Read i n c) = scalarOf (outcome.Read c) 0 false (record { start = i; len = n }) noRange
+withText (text.Refused r) = scalarOf (outcome.Refused r) 0 false noSpan noRange
 
 abbrev pub withNumber : Number → Scalar
-withNumber (number.Read n c) = scalar.Number n c
-withNumber (number.Refused r) = scalar.Refused r
+withNumber (number.Read n c) = scalarOf (outcome.Read c) n false noSpan noRange
+withNumber (number.Refused r) = scalarOf (outcome.Refused r) 0 false noSpan noRange
 
 abbrev pub withFlag : Flag → Scalar
-withFlag (flag.Read b c) = scalar.Flag b c
-withFlag (flag.Refused r) = scalar.Refused r
+withFlag (flag.Read b c) = scalarOf (outcome.Read c) 0 b noSpan noRange
+withFlag (flag.Refused r) = scalarOf (outcome.Refused r) 0 false noSpan noRange
 
 abbrev pub withPair : Pair → Scalar
-withPair (pair.Read a b c) = scalar.Pair a b c
-withPair (pair.Refused r) = scalar.Refused r
+withPair (pair.Read a b c) = scalarOf (outcome.Read c) 0 false noSpan (record { from = a; to = b })
+withPair (pair.Refused r) = scalarOf (outcome.Refused r) 0 false noSpan noRange
 
 -- what is asked for, at i, where D are the open delimiters
 abbrev pub scalarAt : Asked → List ℕ → List ℕ → ℕ → Scalar

@@ -8,10 +8,14 @@ use de::Flag;
 use de::Number;
 use de::Pair;
 use de::Text;
-use error::Refusal;
+use de_lists::Outcome;
+use header::Range;
+use header::Span;
 ghost use mathlib.Core.Path.{_≡_};
+ghost use mathlib.Core.Bool.{false};
+ghost use Rattle.header.specs.Empty.{noSpan, noRange};
 ghost use Rattle.de.specs.Values.{cursor, delimitersOf, textAt, numberAt, flagAt, delimiterAt, pairAt};
-ghost use Rattle.deserializer.specs.Scalars.{holding, withText, withNumber, withFlag, withPair, scalarAt};
+ghost use Rattle.deserializer.specs.Scalars.{holding, scalarOf, withText, withNumber, withFlag, withPair, scalarAt};
 
 pub struct Deserializer<'de> {
     pub section: &'de [u8],
@@ -27,29 +31,39 @@ pub enum Asked {
     Pair,
 }
 
-pub enum Scalar {
-    Text {
-        start: usize,
-        len: usize,
-        next: Cursor,
-    },
-    Number(u64, Cursor),
-    Flag(bool, Cursor),
-    Pair {
-        from: u64,
-        to: u64,
-        next: Cursor,
-    },
-    Refused(Refusal),
+// A value that is no list; the parts that its kind does not have are zero, and so are all where it is refused.
+pub struct Scalar {
+    pub outcome: Outcome,
+    pub number: u64,
+    pub flag: bool,
+    pub span: Span,
+    pub range: Range,
 }
 
 impl Scalar {
+    fn none(outcome: Outcome) -> Scalar
+        ensures { λ r. ⌜ r ≡ scalarOf outcome 0 false noSpan noRange ⌝ }
+    {
+        Scalar {
+            outcome,
+            number: 0,
+            flag: false,
+            span: Span { start: 0, len: 0 },
+            range: Range { from: 0, to: 0 },
+        }
+    }
+
     fn of_text(x: Text) -> Scalar
         ensures { λ r. ⌜ r ≡ withText x ⌝ }
     {
         match x {
-            Text::Read { start, len, next } => Scalar::Text { start, len, next },
-            Text::Refused(refusal) => Scalar::Refused(refusal),
+            Text::Read { start, len, next } => {
+                let mut out = Scalar::none(Outcome::Read(next));
+                let span = Span { start, len };
+                out.span = span;
+                out
+            }
+            Text::Refused(refusal) => Scalar::none(Outcome::Refused(refusal)),
         }
     }
 
@@ -57,8 +71,12 @@ impl Scalar {
         ensures { λ r. ⌜ r ≡ withNumber x ⌝ }
     {
         match x {
-            Number::Read(n, next) => Scalar::Number(n, next),
-            Number::Refused(refusal) => Scalar::Refused(refusal),
+            Number::Read(n, next) => {
+                let mut out = Scalar::none(Outcome::Read(next));
+                out.number = n;
+                out
+            }
+            Number::Refused(refusal) => Scalar::none(Outcome::Refused(refusal)),
         }
     }
 
@@ -66,8 +84,12 @@ impl Scalar {
         ensures { λ r. ⌜ r ≡ withFlag x ⌝ }
     {
         match x {
-            Flag::Read(b, next) => Scalar::Flag(b, next),
-            Flag::Refused(refusal) => Scalar::Refused(refusal),
+            Flag::Read(b, next) => {
+                let mut out = Scalar::none(Outcome::Read(next));
+                out.flag = b;
+                out
+            }
+            Flag::Refused(refusal) => Scalar::none(Outcome::Refused(refusal)),
         }
     }
 
@@ -75,8 +97,13 @@ impl Scalar {
         ensures { λ r. ⌜ r ≡ withPair x ⌝ }
     {
         match x {
-            Pair::Read { from, to, next } => Scalar::Pair { from, to, next },
-            Pair::Refused(refusal) => Scalar::Refused(refusal),
+            Pair::Read { from, to, next } => {
+                let mut out = Scalar::none(Outcome::Read(next));
+                let range = Range { from, to };
+                out.range = range;
+                out
+            }
+            Pair::Refused(refusal) => Scalar::none(Outcome::Refused(refusal)),
         }
     }
 }
