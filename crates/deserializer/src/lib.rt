@@ -1,6 +1,6 @@
 // After header/de.rs, `Deserializer<'de>`: a reader that holds its section, the cursor in it and the delimiters now open (01, 'Header text').
-// A struct that holds a slice is proved by hand, so it is thin: each method takes it apart and calls the covered one of `de`. Whoever reads a section calls
-// `scalar_in`, whose parameters are plain. Assumes nothing.
+// Each function over a struct that holds a slice is proved by hand, so there are few and they are thin: a method takes it apart and calls the one of `de`.
+// Whoever reads a section calls `scalar_in`, whose parameters are plain. Assumes nothing.
 use de::Cursor;
 use de::Delimiter;
 use de::Delimiters;
@@ -162,6 +162,7 @@ impl<'de> Deserializer<'de> {
         self.cursor.pair(self.section, self.delimiters)
     }
 
+    // By the method for what is asked.
     pub fn value(self, asked: Asked) -> Scalar
         ensures { λ r. ⌜ r ≡ scalarAt asked (delimitersOf (self .entry .delimiters)) (now (self .entry .section)) (self .entry .cursor .at) ⌝ }
     {
