@@ -23,7 +23,8 @@ use Rattle.tree_reference.proofs.Same.{same-index, index-same}
 use Rattle.tree_line.specs.Lines.{lineOf}
 use Rattle.tree_line.specs.declared.Line.{Line}
 use Rattle.link_refs.specs.Lines.{natOf, WorkLine, linesFrom}
-use Rattle.link.proofs.Joined.{AskedAs, some, none, Says, last-found, last-missing}
+use Rattle.link.proofs.Joined.{AskedAs, some, none, Says}
+use Rattle.search.proofs.Last.{last-found, last-missing}
 use Rattle.model_lines.specs.Words.{askedOf, askedAt, lineWords}
 use Rattle.model_lines.proofs.Decoded.{refIndex, workLine, words-length, decode}
 
