@@ -1,5 +1,5 @@
 -- Two steps of a walk through a `match` that stands before other code. Assumes nothing.
---     goes-on     an arm has ended, and what stands behind the match runs
+--     goes-on     an arm has ended, and what stands behind the match runs. The locals need no name
 --     differ      an arm for another variant does not run
 use mathlib.Core.Path.{_≡_, subst}
 use mathlib.Core.Bool.{not}
