@@ -2,10 +2,8 @@
  *
  * A line is a whole file as hex, and its answer the lines of `dump` and a line END. Where the line goes on with a model, a tree, answers as
  * hex (or -) and a limit, the answer is that of `walk` and a line END. */
-#define _POSIX_C_SOURCE 200809L
 #include <stdlib.h>
 #include <string.h>
-#include <sys/types.h>
 
 #include "host.h"
 
@@ -41,30 +39,6 @@ static int read_hex(const char *word, struct bytes *out) {
     return 0;
 }
 
-static void free_bytes(struct bytes b) {
-    union {
-        const uint8_t *lent;
-        void *own;
-    } at;
-    at.lent = b.at;
-    free(at.own);
-}
-
-/* Cuts a line into words at single spaces, at most `most` of them; how many there are, or 0 for more. */
-static int cut(char *line, char **words, int most) {
-    int n = 0;
-    for (;;) {
-        char *space = strchr(line, ' ');
-        if (n == most)
-            return 0;
-        words[n++] = line;
-        if (space == NULL)
-            return n;
-        *space = '\0';
-        line = space + 1;
-    }
-}
-
 static int walk_words(struct bytes file, char **words) {
     uint64_t which, tree, limit;
     struct bytes answers;
@@ -77,46 +51,26 @@ static int walk_words(struct bytes file, char **words) {
     return 1;
 }
 
-/* Answers one line; 0 if it is none of the two kinds. */
-static int answer(char *line) {
+/* Answers one line, or says what is wrong with it. */
+static const char *answer(char *line, void *nothing) {
+    static const char wrong[] = "is neither a file as hex nor a file as hex, model, tree, answers as hex and limit, parted by single spaces";
     char *words[5];
-    int n = cut(line, words, 5), good = 0;
+    int n = cut(line, words, 5), good = 1;
     struct bytes file;
+    (void)nothing;
     if ((n != 1 && n != 5) || !read_hex(words[0], &file))
-        return 0;
-    if (n == 5) {
+        return wrong;
+    if (n == 5)
         good = walk_words(file, words);
-    } else {
+    else
         dump_voice(file);
-        good = 1;
-    }
     free_bytes(file);
-    if (good)
-        puts("END");
-    return good;
+    if (!good)
+        return wrong;
+    puts("END");
+    return NULL;
 }
 
 int hex(void) {
-    char *line = NULL;
-    size_t room = 0;
-    ssize_t len;
-    unsigned long number = 0;
-    int status = ALL_WELL;
-    while (status == ALL_WELL && (len = getline(&line, &room, stdin)) >= 0) {
-        number++;
-        while (len > 0 && (line[len - 1] == '\n' || line[len - 1] == '\r'))
-            line[--len] = '\0';
-        if (strlen(line) != (size_t)len || !answer(line)) {
-            fflush(stdout);
-            fprintf(stderr, "larsavim: hex: line %lu is neither a file as hex nor a file as hex, model, tree, answers as hex and limit, parted by single spaces\n", number);
-            status = TROUBLE;
-        }
-        fflush(stdout);
-    }
-    if (ferror(stdin)) {
-        fputs("larsavim: hex: standard input can't be read\n", stderr);
-        status = TROUBLE;
-    }
-    free(line);
-    return status;
+    return answer_lines("hex", answer, NULL);
 }

@@ -31,11 +31,23 @@ int starts_with(struct bytes a, const char *text);
 /* In `"`, with \n \t \r \" \\ and \xHH for bytes outside 0x20 to 0x7e. */
 void put_quoted(FILE *to, struct bytes s);
 
+/* Gives back the memory of bytes that are the program's own. */
+void free_bytes(struct bytes own);
+
 /* A decimal number of 0 to 2^64 - 1 and nothing else: 1 and the number, or 0. */
 int read_number(const char *text, uint64_t *number);
 
 /* A sentence on standard error, and exit status 2. For what is nobody's input: no memory, a library that contradicts itself. */
 void stop(const char *sentence);
+
+/* ---- lines (lines.c) ---------------------------------------------------------------------------------------------------------- */
+
+/* Cuts a line into words at single spaces, at most `most` of them; how many there are, or 0 for more. */
+int cut(char *line, char **words, int most);
+
+/* Hands each line of standard input, without its newline, to `answer`, which prints or says what is wrong with the line (`is no ..`, `has a ..`).
+ * A wrong line ends it, with a sentence that has the line's number: exit status 2. */
+int answer_lines(const char *verb, const char *(*answer)(char *line, void *with), void *with);
 
 /* ---- files (files.c) ---------------------------------------------------------------------------------------------------------- */
 
@@ -153,15 +165,35 @@ void explain_open(FILE *to, const struct voice *v);
 void explain_load(FILE *to, const struct voice *v, uint64_t which, const uint64_t *out);
 void explain_walk(FILE *to, uint64_t number);
 
+/* ---- walks in words (walk.c) --------------------------------------------------------------------------------------------------- */
+
+enum { WALK_WORDS = 4 };
+
+extern const char *const walk_word[WALK_WORDS];   /* MODEL TREE ANSWERS LIMIT */
+extern const char *const walk_wanted[WALK_WORDS]; /* what each should be */
+
+struct asked_walk {
+    uint64_t which, tree, limit;
+    struct bytes answers; /* its own, where all four words are good */
+};
+
+/* Reads the four words; says which of them is wrong, or WALK_WORDS for none. */
+int read_walk(char **words, struct asked_walk *w);
+
+/* A line PDF n ASKED k, or REFUSED n. */
+void put_walk(const uint64_t out[LARSAVIM_WALK_OUT]);
+
+int walk_line(struct bytes file, uint64_t which, uint64_t tree, struct bytes answers, uint64_t limit, FILE *why);
+
 /* ---- the verbs ---------------------------------------------------------------------------------------------------------------- */
 
-int inspect(const char *path);                             /* inspect.c */
-int check(int files, char **paths);                        /* inspect.c */
-int dump(const char *path);                                /* dump.c */
-void dump_voice(struct bytes file);                        /* dump.c */
-int hex(void);                                             /* hex.c */
-int walk(char **words);                                    /* walk.c */
-int demo(const char *path);                                /* demo.c */
-int walk_line(struct bytes file, uint64_t which, uint64_t tree, struct bytes answers, uint64_t limit, FILE *why); /* walk.c */
+int inspect(const char *path);      /* inspect.c */
+int check(int files, char **paths); /* inspect.c */
+int dump(const char *path);         /* dump.c */
+void dump_voice(struct bytes file); /* dump.c */
+int hex(void);                      /* hex.c */
+int walk(char **words);             /* walk.c */
+int walks(const char *path);        /* walks.c */
+int demo(const char *path);         /* demo.c */
 
 #endif

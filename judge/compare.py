@@ -8,9 +8,9 @@
   compare.py utf8                                   all sequences of up to four bytes at the edges of RFC 3629's rows
   compare.py large                                  ordinary voices of up to 14 MB; files about the limit
   compare.py files FILE..                           whole voices
-  compare.py filewalks FILE COUNT                   random walks over the models of one voice
-  --product 'COMMAND'   also compare the product: COMMAND reads hex lines and prints the dump of each and END (`larsavim hex`)
-  --walker 'COMMAND'    the same for walks: COMMAND reads lines of hex, model, tree, answers, limit and prints `PDF n ASKED k` or `REFUSED n`, and END
+  --product 'COMMAND'   also compare the product (`larsavim hex`): COMMAND reads hex lines and prints the dump of each and END; for walks, lines of hex, model,
+                        tree, answers, limit, and prints `PDF n ASKED k` or `REFUSED n`, and END
+  --walker 'COMMAND'    another command for walks
   --no-oracle           leave the oracle out (where there is no cargo)
 Prints figures, and up to ten differences that no rule explains; the exit status is 1 if there is any.
 
@@ -76,7 +76,7 @@ class Judge:
     """Counts, and keeps the first differences."""
     def __init__(self, product=None, walker=None, oracle=True):
         self.counts, self.shown, self.bad = collections.Counter(), [], 0
-        self.programs = {'dump': product, 'open': product, 'walk': walker}
+        self.programs = {'dump': product, 'open': product, 'walk': walker or product}
         self.oracle = oracle and subprocess.run([os.path.join(HERE, '..', 'oracle', 'build')], stdout=subprocess.PIPE, universal_newlines=True, check=True).stdout.strip()
 
     def differ(self, what, line, mine, other):
@@ -221,37 +221,6 @@ def walks(first, last):
         yield '%s %d %d %s %d' % (b.hex(), which, r.choice((0, 0, 0, 1, 2)), answers.hex() or '-', r.choice((0, 1, 2, 3, 5, 100)))
 
 
-def file_walks(judge, path, count):
-    """Random answers walked over each model of one voice: through tables and through the text by the reading, and by the oracle."""
-    with open(path, 'rb') as f:
-        b = f.read()
-    h = reading.Header(b)
-    r = random.Random('walks over a file')
-    lines, mine = [], []
-    models = range(2 * len(h.g[b'STREAM_TYPE']) + 1)
-    for which in models:
-        try:
-            m = reading.Model(b, h, which)
-        except reading.Refused:
-            continue
-        written = [reading.WrittenTree(m.data, m.text[0], t) for t in m.text[1]]
-        for _ in range(count // len(models)):
-            t, p = r.randrange(len(written)), r.random()
-            answers, limit = bytes(r.random() < p for _ in m.text[0]), r.choice((1, 10, 30, 1000, 1000, 1000))
-            lines.append('%d %d %s %d' % (which, t, answers.hex() or '-', limit))
-            mine.append(reading.outcome(reading.walk, m.trees, m.records, t, answers, limit))
-            text = reading.outcome(written[t].walk, answers, limit)
-            if text != mine[-1]:
-                judge.differ('text', lines[-1], mine[-1], 'text    ' + text)
-    judge.counts['walks'] += len(lines)
-    if judge.oracle:
-        other = subprocess.run([judge.oracle, 'walks', path], input='\n'.join(lines) + '\n', stdout=subprocess.PIPE, universal_newlines=True).stdout.splitlines()
-        for line, m, o in itertools.zip_longest(lines, mine, other):
-            judge.counts[str(m).split(' ')[0]] += 1
-            if m != o:
-                judge.differ('oracle', line, m, 'oracle  %s' % o)
-
-
 def taken(argv, option):
     """The words of an option's value, taken out of the arguments."""
     if option not in argv:
@@ -285,8 +254,6 @@ def main(argv):
     elif what == 'utf8':
         for n in range(1, 5):
             judge.all('open', (b.hex() for b in headers.utf8(n)), 20000)
-    elif what == 'filewalks':
-        file_walks(judge, rest[0], int(rest[1]))
     elif what == 'files':
         for path in rest:
             with open(path, 'rb') as f:
