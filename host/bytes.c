@@ -49,15 +49,6 @@ void put_quoted(FILE *to, struct bytes s) {
     putc('"', to);
 }
 
-void free_bytes(struct bytes own) {
-    union {
-        const uint8_t *lent;
-        void *own;
-    } at;
-    at.lent = own.at; /* free takes a pointer that isn't const */
-    free(at.own);
-}
-
 int read_number(const char *text, uint64_t *number) {
     uint64_t n = 0;
     if (*text == '\0')

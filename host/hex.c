@@ -2,7 +2,6 @@
  *
  * A line is a whole file as hex, and its answer the lines of `dump` and a line END. Where the line goes on with a model, a tree, answers as
  * hex (or -) and a limit, the answer is that of `walk` and a line END. */
-#include <stdlib.h>
 #include <string.h>
 
 #include "host.h"
@@ -10,44 +9,31 @@
 static int hex_digit(char c) {
     if (c >= '0' && c <= '9')
         return c - '0';
-    if (c >= 'a' && c <= 'f')
-        return c - 'a' + 10;
-    if (c >= 'A' && c <= 'F')
-        return c - 'A' + 10;
-    return -1;
+    return c >= 'a' ? c - 'a' + 10 : c - 'A' + 10;
 }
 
-/* The bytes of a word of hex, in memory of their own, so that reading past them is noticed where the machine can notice it. */
+/* The bytes of a word of hex, in lent memory. 0 where it is none. */
 static int read_hex(const char *word, struct bytes *out) {
-    size_t digits = strlen(word);
-    uint8_t *at = malloc(digits / 2 + 1);
-    if (at == NULL)
-        stop("there is not enough memory for the line");
-    for (size_t i = 0; i < digits / 2; i++) {
-        int high = hex_digit(word[2 * i]), low = hex_digit(word[2 * i + 1]);
-        if (high < 0 || low < 0) {
-            free(at);
-            return 0;
-        }
-        at[i] = (uint8_t)(16 * high + low);
-    }
+    size_t digits = strlen(word), len = digits / 2;
+    uint8_t *at;
+    if (digits % 2 != 0 || strspn(word, "0123456789abcdefABCDEF") != digits)
+        return 0;
+    at = lend(len);
+    for (size_t i = 0; i < len; i++)
+        at[i] = (uint8_t)(16 * hex_digit(word[2 * i]) + hex_digit(word[2 * i + 1]));
     out->at = at;
-    out->len = digits / 2;
-    if (digits % 2 == 0)
-        return 1;
-    free(at);
-    return 0;
+    out->len = len;
+    return 1;
 }
 
 static int walk_words(struct bytes file, char **words) {
-    uint64_t which, tree, limit;
-    struct bytes answers;
-    if (!read_number(words[1], &which) || !read_number(words[2], &tree) || !read_number(words[4], &limit))
+    struct asked_walk w;
+    if (!read_number(words[1], &w.which) || !read_number(words[2], &w.tree) || !read_number(words[4], &w.limit))
         return 0;
-    if (!read_hex(strcmp(words[3], "-") == 0 ? "" : words[3], &answers))
+    if (!read_hex(strcmp(words[3], "-") == 0 ? "" : words[3], &w.answers))
         return 0;
-    walk_line(file, which, tree, answers, limit, NULL);
-    free_bytes(answers);
+    walk_line(file, &w, NULL);
+    give_back(w.answers.at, w.answers.len);
     return 1;
 }
 
@@ -64,7 +50,7 @@ static const char *answer(char *line, void *nothing) {
         good = walk_words(file, words);
     else
         dump_voice(file);
-    free_bytes(file);
+    give_back(file.at, file.len);
     if (!good)
         return wrong;
     puts("END");

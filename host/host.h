@@ -31,14 +31,23 @@ int starts_with(struct bytes a, const char *text);
 /* In `"`, with \n \t \r \" \\ and \xHH for bytes outside 0x20 to 0x7e. */
 void put_quoted(FILE *to, struct bytes s);
 
-/* Gives back the memory of bytes that are the program's own. */
-void free_bytes(struct bytes own);
-
 /* A decimal number of 0 to 2^64 - 1 and nothing else: 1 and the number, or 0. */
 int read_number(const char *text, uint64_t *number);
 
 /* A sentence on standard error, and exit status 2. For what is nobody's input: no memory, a library that contradicts itself. */
 void stop(const char *sentence);
+
+/* ---- memory to lend (lend.c) -------------------------------------------------------------------------------------------------- */
+
+/* Everything that a call of the library reads or writes is lent by these: LARSAVIM_GUARD in the environment puts guards beside it. */
+void *lend(uint64_t len); /* bytes */
+void give_back(const void *slice, uint64_t len);
+
+/* The slice for answers of so many numbers: one for all calls, so that an answer stands there until the next call. */
+uint64_t *answer_slice(uint64_t numbers);
+
+/* Whether lent memory stands between guards. */
+int guarded(void);
 
 /* ---- lines (lines.c) ---------------------------------------------------------------------------------------------------------- */
 
@@ -65,10 +74,11 @@ struct pair {
 struct voice {
     struct bytes file;
     uint64_t number, place;
-    uint64_t words[LARSAVIM_WORDS];
+    uint64_t *words;
 };
 
 void open_voice(struct voice *v, struct bytes file);
+void close_voice(struct voice *v);
 
 /* Fields of an opened voice, by the constants of larsavim.h. */
 uint64_t number_of(const struct voice *v, uint64_t field);
@@ -120,6 +130,9 @@ extern const char *const table_name[TABLES];
 /* Loads a model into tables of the rows that it needs and so many more, and as many lines of work more. Its number is loaded[0]. */
 void load_model(const struct voice *v, uint64_t which, uint64_t spare, struct model *m);
 void free_model(struct model *m);
+
+/* Later calls take the tables cut to the rows that the load returned: moves each to memory of just that length. */
+void cut_tables(struct model *m);
 
 uint64_t rows_of(const struct model *m, int table);
 uint64_t width_of(const struct model *m);
@@ -174,7 +187,7 @@ extern const char *const walk_wanted[WALK_WORDS]; /* what each should be */
 
 struct asked_walk {
     uint64_t which, tree, limit;
-    struct bytes answers; /* its own, where all four words are good */
+    struct bytes answers; /* lent, where all four words are good */
 };
 
 /* Reads the four words; says which of them is wrong, or WALK_WORDS for none. */
@@ -183,7 +196,8 @@ int read_walk(char **words, struct asked_walk *w);
 /* A line PDF n ASKED k, or REFUSED n. */
 void put_walk(const uint64_t out[LARSAVIM_WALK_OUT]);
 
-int walk_line(struct bytes file, uint64_t which, uint64_t tree, struct bytes answers, uint64_t limit, FILE *why);
+/* A walk over a file, the line of its answer, and the reason of a refusal to `why`, if there is a place for it. */
+int walk_line(struct bytes file, const struct asked_walk *w, FILE *why);
 
 /* ---- the verbs ---------------------------------------------------------------------------------------------------------------- */
 

@@ -12,6 +12,7 @@ static const char usage[] =
     "       larsavim hex                                   the dump of each line of hex on standard input, then END\n"
     "       larsavim demo FILE                             a voice in which two lines bear one id, and which of them wins\n"
     "MODEL counts from 0: duration, then each stream of STREAM_TYPE and its GV in turn. TREE counts from 0.\n"
+    "LARSAVIM_GUARD=above or below in the environment: memory that can't be touched stands just above or below everything lent to the library.\n"
     "Exit status: 0 nothing was refused, 1 something was, 2 wrong arguments or a file that can't be read.\n";
 
 static int wrong(const char *sentence, const char *word) {

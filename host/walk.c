@@ -1,6 +1,5 @@
 /* walk.c: one walk over one tree of one model, with the answers given. */
 #include <inttypes.h>
-#include <stdlib.h>
 #include <string.h>
 
 #include "host.h"
@@ -12,34 +11,35 @@ void put_walk(const uint64_t out[LARSAVIM_WALK_OUT]) {
         printf("REFUSED %" PRIu64 "\n", out[0]);
 }
 
-/* Prints the walk's answer, and the reason of a refusal to `why` if there is one. */
-int walk_line(struct bytes file, uint64_t which, uint64_t tree, struct bytes answers, uint64_t limit, FILE *why) {
-    struct voice v;
+/* Walks, and says why there is no answer to `why`, if there is a place for it. out: as walk_model's, or the refusal of the opening or the load. */
+static void walk_voice(const struct voice *v, const struct asked_walk *w, FILE *why, uint64_t out[LARSAVIM_WALK_OUT]) {
     struct model m;
+    out[0] = v->number;
+    if (out[0] != LARSAVIM_SUCCESS) {
+        if (why != NULL)
+            explain_open(why, v);
+        return;
+    }
+    load_model(v, w->which, 0, &m);
+    out[0] = m.loaded[OUT_NUMBER];
+    if (out[0] == LARSAVIM_SUCCESS) {
+        walk_model(&m, w->tree, w->answers, w->limit, out);
+        if (why != NULL && out[0] != LARSAVIM_SUCCESS)
+            explain_walk(why, out[0]);
+    } else if (why != NULL) {
+        explain_load(why, v, w->which, m.loaded);
+    }
+    free_model(&m);
+}
+
+int walk_line(struct bytes file, const struct asked_walk *w, FILE *why) {
+    struct voice v;
     uint64_t out[LARSAVIM_WALK_OUT];
     open_voice(&v, file);
-    if (v.number != LARSAVIM_SUCCESS) {
-        printf("REFUSED %" PRIu64 "\n", v.number);
-        if (why != NULL)
-            explain_open(why, &v);
-        return REFUSED;
-    }
-    load_model(&v, which, 0, &m);
-    if (m.loaded[OUT_NUMBER] != LARSAVIM_SUCCESS) {
-        printf("REFUSED %" PRIu64 "\n", m.loaded[OUT_NUMBER]);
-        if (why != NULL)
-            explain_load(why, &v, which, m.loaded);
-        free_model(&m);
-        return REFUSED;
-    }
-    walk_model(&m, tree, answers, limit, out);
-    free_model(&m);
+    walk_voice(&v, w, why, out);
+    close_voice(&v);
     put_walk(out);
-    if (out[0] == LARSAVIM_SUCCESS)
-        return ALL_WELL;
-    if (why != NULL)
-        explain_walk(why, out[0]);
-    return REFUSED;
+    return out[0] == LARSAVIM_SUCCESS ? ALL_WELL : REFUSED;
 }
 
 /* Answer bytes out of a word of 0 and 1 (`-` is none). 0 where it is empty or has anything else. */
@@ -48,9 +48,7 @@ static int read_answers(const char *word, struct bytes *answers) {
     uint8_t *own;
     if (strcmp(word, "-") != 0 && (n == 0 || word[n] != '\0'))
         return 0;
-    own = malloc(n + 1);
-    if (own == NULL)
-        stop("there is not enough memory for the answers");
+    own = lend(n);
     for (size_t i = 0; i < n; i++)
         own[i] = (uint8_t)(word[i] - '0');
     answers->at = own;
@@ -82,11 +80,11 @@ int walk(char **words) {
         return TROUBLE;
     }
     if (map_file(words[0], &file)) {
-        status = walk_line(file, w.which, w.tree, w.answers, w.limit, stderr);
+        status = walk_line(file, &w, stderr);
         if (status == REFUSED)
             fputc('\n', stderr);
         unmap_file(file);
     }
-    free_bytes(w.answers);
+    give_back(w.answers.at, w.answers.len);
     return status;
 }

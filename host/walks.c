@@ -51,7 +51,7 @@ static const char *answer(char *line, void *with) {
         return wrong;
     }
     walk_kept(k, &w, out);
-    free_bytes(w.answers);
+    give_back(w.answers.at, w.answers.len);
     put_walk(out);
     k->refused |= out[0] != LARSAVIM_SUCCESS;
     return NULL;
@@ -74,6 +74,7 @@ int walks(const char *path) {
         if (k.model[i].table[0] != NULL)
             free_model(&k.model[i]);
     free(k.model);
+    close_voice(&k.v);
     unmap_file(file);
     return status == ALL_WELL && k.refused ? REFUSED : status;
 }
