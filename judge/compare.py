@@ -4,7 +4,8 @@
   compare.py headers|trees|voices|walks FROM TO     the generated inputs of these numbers
   compare.py texts FROM TO                          the generated tree texts, each as a stream of a whole voice
   compare.py byhand                                 the inputs by hand, each limit, each field missing
-  compare.py short [LENGTH]                         all short tree texts over small alphabets (LENGTH pieces), all short header values (LENGTH - 2 bytes)
+  compare.py short [LENGTH [PART]]                  all short tree texts over small alphabets (LENGTH pieces), all short header values (LENGTH - 2 bytes);
+                                                    PART 0 are the header values, 1 to 7 the tree texts at a seam each
   compare.py utf8                                   all sequences of up to four bytes at the edges of RFC 3629's rows
   compare.py large                                  ordinary voices of up to 14 MB; files about the limit
   compare.py files FILE..                           whole voices
@@ -206,10 +207,13 @@ def by_hand(judge):
     judge.all('dump', (b.hex() for b in voices.by_hand() + [voices.wide(w) for w in (1, 2, 4095, 4096, 4097)]))
 
 
-def short(judge, length):
-    judge.all('open', (b.hex() for b in headers.short_values(length - 2)), 20000)
-    for before, alphabet, after in treetexts.SEAMS:
-        judge.texts((before + t + after for t in treetexts.short_texts(alphabet, length)))
+def short(judge, length, part):
+    """Part 0 are the header values, part k the tree texts at seam k; None is all of them."""
+    if part in (None, 0):
+        judge.all('open', (b.hex() for b in headers.short_values(length - 2)), 20000)
+    for k, (before, alphabet, after) in enumerate(treetexts.SEAMS, 1):
+        if part in (None, k):
+            judge.texts((before + t + after for t in treetexts.short_texts(alphabet, length)))
 
 
 def walks(first, last):
@@ -250,7 +254,7 @@ def main(argv):
             print(len(b), 'bytes')
             judge.batch('dump', [b.hex()])
     elif what == 'short':
-        short(judge, int(rest[0]) if rest else 6)
+        short(judge, int(rest[0]) if rest else 6, int(rest[1]) if rest[1:] else None)
     elif what == 'utf8':
         for n in range(1, 5):
             judge.all('open', (b.hex() for b in headers.utf8(n)), 20000)
