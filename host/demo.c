@@ -142,10 +142,9 @@ static void show_walk(const struct model *m, uint64_t tree, const uint8_t *answe
 static int show_walks(const struct model *m, const struct doubled *d) {
     const uint64_t *t = row_of(m, TREES, d->tree);
     uint64_t asked_last = row_of(m, RECORDS, t[1] + d->last)[1], asked_first = row_of(m, RECORDS, t[1] + d->first)[1];
-    uint8_t *answers = calloc((size_t)rows_of(m, QUESTIONS) + 1, 1);
+    uint8_t *answers = lend(rows_of(m, QUESTIONS));
     int found, last_wins = 0, otherwise = 0;
-    if (answers == NULL)
-        stop("there is not enough memory for the answers");
+    memset(answers, 0, (size_t)rows_of(m, QUESTIONS));
     answers[asked_first] = 1;
     found = answers_to(m, d->tree, d->last, answers);
     for (int yes = 1; found && yes >= 0; yes--) {
@@ -162,7 +161,7 @@ static int show_walks(const struct model *m, const struct doubled *d) {
         last_wins |= is_pdf(last, out[1]) && !is_pdf(first, out[1]);
         otherwise |= out[0] != LARSAVIM_SUCCESS || !is_pdf(last, out[1]);
     }
-    free(answers);
+    give_back(answers, rows_of(m, QUESTIONS));
     return last_wins && !otherwise;
 }
 
@@ -187,22 +186,30 @@ static int show_doubled(const struct voice *v, uint64_t which, const struct mode
     return 1;
 }
 
-static int demo_voice(struct bytes file) {
-    struct voice v;
-    uint64_t models;
-    open_voice(&v, file);
-    models = v.number == LARSAVIM_SUCCESS ? models_of(&v) : 0;
+/* 1 if a model has a doubled id, and the walks show that its last line wins; 0 if they don't; -1 if no model has one. */
+static int demo_models(const struct voice *v) {
+    uint64_t models = v->number == LARSAVIM_SUCCESS ? models_of(v) : 0;
     for (uint64_t which = 0; which < models; which++) {
         struct model m;
         int shown, clear = 0;
-        load_model(&v, which, 0, &m);
-        shown = m.loaded[OUT_NUMBER] == LARSAVIM_SUCCESS && show_doubled(&v, which, &m, &clear);
+        load_model(v, which, 0, &m);
+        shown = m.loaded[OUT_NUMBER] == LARSAVIM_SUCCESS && show_doubled(v, which, &m, &clear);
         free_model(&m);
         if (shown)
-            return clear ? ALL_WELL : REFUSED;
+            return clear;
     }
-    puts("\nNo tree of this voice has two lines with one id.");
-    return REFUSED;
+    return -1;
+}
+
+static int demo_voice(struct bytes file) {
+    struct voice v;
+    int clear;
+    open_voice(&v, file);
+    clear = demo_models(&v);
+    close_voice(&v);
+    if (clear < 0)
+        puts("\nNo tree of this voice has two lines with one id.");
+    return clear == 1 ? ALL_WELL : REFUSED;
 }
 
 int demo(const char *path) {

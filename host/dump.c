@@ -197,8 +197,10 @@ static void put_model(const struct voice *v, uint64_t which) {
     for (int i = 0; i < LARSAVIM_LOAD_OUT; i++)
         printf(" %" PRIu64, m.loaded[i]);
     printf("\nAFTER %s\n", after(&m));
-    if (m.loaded[OUT_NUMBER] == LARSAVIM_SUCCESS)
+    if (m.loaded[OUT_NUMBER] == LARSAVIM_SUCCESS) {
+        cut_tables(&m);
         put_tables(v, &m);
+    }
     free_model(&m);
 }
 
@@ -207,12 +209,12 @@ void dump_voice(struct bytes file) {
     uint64_t models;
     open_voice(&v, file);
     printf("OPEN %" PRIu64 " %" PRIu64 "\n", v.number, v.place);
-    if (v.number != LARSAVIM_SUCCESS)
-        return;
-    put_header(&v);
-    models = models_of(&v);
+    if (v.number == LARSAVIM_SUCCESS)
+        put_header(&v);
+    models = v.number == LARSAVIM_SUCCESS ? models_of(&v) : 0;
     for (uint64_t which = 0; which < models; which++)
         put_model(&v, which);
+    close_voice(&v);
 }
 
 int dump(const char *path) {

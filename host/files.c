@@ -32,6 +32,15 @@ static void watch_for_shrinking(void) {
     sigaction(SIGBUS, &action, NULL);
 }
 
+static void unmap(struct bytes file) {
+    union {
+        const uint8_t *lent;
+        void *own;
+    } at;
+    at.lent = file.at; /* munmap takes a pointer that isn't const, though it writes nothing */
+    munmap(at.own, (size_t)file.len);
+}
+
 /* Whether an opened file is one that the library can be asked about, and its length. */
 static int suits(const char *path, int fd, uint64_t *len) {
     struct stat s;
@@ -53,6 +62,14 @@ static int suits(const char *path, int fd, uint64_t *len) {
     return 1;
 }
 
+/* Between guards the file is a copy: a mapping ends where its last page does, and not where the file does. */
+static void place_between_guards(struct bytes *file) {
+    uint8_t *copy = lend(file->len);
+    memcpy(copy, file->at, (size_t)file->len);
+    unmap(*file);
+    file->at = copy;
+}
+
 int map_file(const char *path, struct bytes *file) {
     int fd = open(path, O_RDONLY | O_NONBLOCK); /* a named pipe must not keep us waiting */
     void *at;
@@ -68,14 +85,14 @@ int map_file(const char *path, struct bytes *file) {
         return complain(path, strerror(errno));
     watch_for_shrinking();
     file->at = at;
+    if (guarded())
+        place_between_guards(file);
     return 1;
 }
 
 void unmap_file(struct bytes file) {
-    union {
-        const uint8_t *lent;
-        void *own;
-    } at;
-    at.lent = file.at; /* munmap takes a pointer that isn't const, though it writes nothing */
-    munmap(at.own, (size_t)file.len);
+    if (guarded())
+        give_back(file.at, file.len);
+    else
+        unmap(file);
 }

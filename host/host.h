@@ -37,6 +37,27 @@ int read_number(const char *text, uint64_t *number);
 /* A sentence on standard error, and exit status 2. For what is nobody's input: no memory, a library that contradicts itself. */
 void stop(const char *sentence);
 
+/* ---- memory to lend (lend.c) -------------------------------------------------------------------------------------------------- */
+
+/* Everything that a call of the library reads or writes is lent by these: LARSAVIM_GUARD in the environment puts guards beside it. */
+void *lend(uint64_t len); /* bytes */
+void give_back(const void *slice, uint64_t len);
+
+/* The slice for answers of so many numbers: one for all calls, so that an answer stands there until the next call. */
+uint64_t *answer_slice(uint64_t numbers);
+
+/* Whether lent memory stands between guards. */
+int guarded(void);
+
+/* ---- lines (lines.c) ---------------------------------------------------------------------------------------------------------- */
+
+/* Cuts a line into words at single spaces, at most `most` of them; how many there are, or 0 for more. */
+int cut(char *line, char **words, int most);
+
+/* Hands each line of standard input, without its newline, to `answer`, which prints or says what is wrong with the line (`is no ..`, `has a ..`).
+ * A wrong line ends it, with a sentence that has the line's number: exit status 2. */
+int answer_lines(const char *verb, const char *(*answer)(char *line, void *with), void *with);
+
 /* ---- files (files.c) ---------------------------------------------------------------------------------------------------------- */
 
 /* Maps a whole file. 1; or 0 after a sentence on standard error: unreadable, no ordinary file, empty, over the limit. */
@@ -53,10 +74,11 @@ struct pair {
 struct voice {
     struct bytes file;
     uint64_t number, place;
-    uint64_t words[LARSAVIM_WORDS];
+    uint64_t *words;
 };
 
 void open_voice(struct voice *v, struct bytes file);
+void close_voice(struct voice *v);
 
 /* Fields of an opened voice, by the constants of larsavim.h. */
 uint64_t number_of(const struct voice *v, uint64_t field);
@@ -109,6 +131,9 @@ extern const char *const table_name[TABLES];
 void load_model(const struct voice *v, uint64_t which, uint64_t spare, struct model *m);
 void free_model(struct model *m);
 
+/* Later calls take the tables cut to the rows that the load returned: moves each to memory of just that length. */
+void cut_tables(struct model *m);
+
 uint64_t rows_of(const struct model *m, int table);
 uint64_t width_of(const struct model *m);
 const uint64_t *row_of(const struct model *m, int table, uint64_t i);
@@ -153,15 +178,36 @@ void explain_open(FILE *to, const struct voice *v);
 void explain_load(FILE *to, const struct voice *v, uint64_t which, const uint64_t *out);
 void explain_walk(FILE *to, uint64_t number);
 
+/* ---- walks in words (walk.c) --------------------------------------------------------------------------------------------------- */
+
+enum { WALK_WORDS = 4 };
+
+extern const char *const walk_word[WALK_WORDS];   /* MODEL TREE ANSWERS LIMIT */
+extern const char *const walk_wanted[WALK_WORDS]; /* what each should be */
+
+struct asked_walk {
+    uint64_t which, tree, limit;
+    struct bytes answers; /* lent, where all four words are good */
+};
+
+/* Reads the four words; says which of them is wrong, or WALK_WORDS for none. */
+int read_walk(char **words, struct asked_walk *w);
+
+/* A line PDF n ASKED k, or REFUSED n. */
+void put_walk(const uint64_t out[LARSAVIM_WALK_OUT]);
+
+/* A walk over a file, the line of its answer, and the reason of a refusal to `why`, if there is a place for it. */
+int walk_line(struct bytes file, const struct asked_walk *w, FILE *why);
+
 /* ---- the verbs ---------------------------------------------------------------------------------------------------------------- */
 
-int inspect(const char *path);                             /* inspect.c */
-int check(int files, char **paths);                        /* inspect.c */
-int dump(const char *path);                                /* dump.c */
-void dump_voice(struct bytes file);                        /* dump.c */
-int hex(void);                                             /* hex.c */
-int walk(char **words);                                    /* walk.c */
-int demo(const char *path);                                /* demo.c */
-int walk_line(struct bytes file, uint64_t which, uint64_t tree, struct bytes answers, uint64_t limit, FILE *why); /* walk.c */
+int inspect(const char *path);      /* inspect.c */
+int check(int files, char **paths); /* inspect.c */
+int dump(const char *path);         /* dump.c */
+void dump_voice(struct bytes file); /* dump.c */
+int hex(void);                      /* hex.c */
+int walk(char **words);             /* walk.c */
+int walks(const char *path);        /* walks.c */
+int demo(const char *path);         /* demo.c */
 
 #endif

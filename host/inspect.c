@@ -28,7 +28,7 @@ static void show_strings(const struct voice *v, const char *key, uint64_t field,
 /* The library is asked for the comment as the display would ask, with a text of the caller's own to fall back on. */
 static void show_comment(const struct voice *v) {
     static const char fallback[] = "(no COMMENT)";
-    uint64_t out[LARSAVIM_COMMENT_OUT];
+    uint64_t *out = answer_slice(LARSAVIM_COMMENT_OUT);
     if (larsavim_comment(v->file.len, v->words, LARSAVIM_WORDS, sizeof fallback - 1, out, LARSAVIM_COMMENT_OUT) != LARSAVIM_SUCCESS)
         stop("the library refuses the record that it opened");
     printf("  %-20s ", "COMMENT");
@@ -130,15 +130,18 @@ static int show_models(const struct voice *v) {
 
 static int inspect_voice(const char *path, struct bytes file) {
     struct voice v;
+    int good = 0;
     printf("%s: %" PRIu64 " bytes\n", path, file.len);
     open_voice(&v, file);
-    if (v.number != LARSAVIM_SUCCESS) {
+    if (v.number == LARSAVIM_SUCCESS) {
+        show_header(&v);
+        good = show_models(&v);
+    } else {
         explain_open(stdout, &v);
         putchar('\n');
-        return REFUSED;
     }
-    show_header(&v);
-    return show_models(&v) ? ALL_WELL : REFUSED;
+    close_voice(&v);
+    return good ? ALL_WELL : REFUSED;
 }
 
 int inspect(const char *path) {
@@ -193,6 +196,7 @@ static int check_file(const char *path) {
         explain_open(stdout, &v);
         putchar('\n');
     }
+    close_voice(&v);
     unmap_file(file);
     return good ? ALL_WELL : REFUSED;
 }

@@ -7,10 +7,12 @@ static const char usage[] =
     "usage: larsavim inspect FILE                          the header, what each model needs, and what is wrong\n"
     "       larsavim check FILE..                          status 0 if every model of every file loads and passes the leaf check\n"
     "       larsavim walk FILE MODEL TREE ANSWERS LIMIT    one walk; ANSWERS is a 0 or 1 for each question, - for none\n"
+    "       larsavim walks FILE                            many walks: lines MODEL TREE ANSWERS LIMIT on standard input\n"
     "       larsavim dump FILE                             everything, one fact a line, for comparing\n"
     "       larsavim hex                                   the dump of each line of hex on standard input, then END\n"
     "       larsavim demo FILE                             a voice in which two lines bear one id, and which of them wins\n"
     "MODEL counts from 0: duration, then each stream of STREAM_TYPE and its GV in turn. TREE counts from 0.\n"
+    "LARSAVIM_GUARD=above or below in the environment: memory that can't be touched stands just above or below everything lent to the library.\n"
     "Exit status: 0 nothing was refused, 1 something was, 2 wrong arguments or a file that can't be read.\n";
 
 static int wrong(const char *sentence, const char *word) {
@@ -26,6 +28,8 @@ static int run(const char *verb, int n, char **words) {
         return n >= 1 ? check(n, words) : wrong("check takes one FILE or more", NULL);
     if (strcmp(verb, "walk") == 0)
         return n == 5 ? walk(words) : wrong("walk takes FILE MODEL TREE ANSWERS LIMIT", NULL);
+    if (strcmp(verb, "walks") == 0)
+        return n == 1 ? walks(words[0]) : wrong("walks takes one FILE; its lines stand on standard input", NULL);
     if (strcmp(verb, "dump") == 0)
         return n == 1 ? dump(words[0]) : wrong("dump takes one FILE", NULL);
     if (strcmp(verb, "hex") == 0)

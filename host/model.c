@@ -1,5 +1,4 @@
 /* model.c: a model in tables of the size that the library asks for. The library has no heap; this program has one, and lends from it. */
-#include <stdlib.h>
 #include <string.h>
 
 #include "host.h"
@@ -7,15 +6,13 @@
 const uint64_t row_width[TABLES] = {LARSAVIM_QUESTION_ROW, LARSAVIM_PATTERN_ROW, LARSAVIM_TREE_ROW, LARSAVIM_RECORD_ROW, LARSAVIM_BLOCK_ROW, 1};
 const char *const table_name[TABLES] = {"questions", "patterns", "trees", "records", "blocks", "values"};
 
-/* Memory for `rows` rows of `width` numbers, none of which is 0; every number as UNTOUCHED. */
-static void *lend(uint64_t rows, uint64_t width, uint64_t *numbers) {
+/* Memory for `rows` rows of `width` numbers; every number as UNTOUCHED. */
+static void *lend_rows(uint64_t rows, uint64_t width, uint64_t *numbers) {
     uint64_t *at;
     if (rows > SIZE_MAX / 8 / width)
         stop("there is not enough memory for the model's tables");
     *numbers = rows * width;
-    at = malloc((size_t)*numbers * 8 + 8); /* 8 more, so that no rows are no null pointer either */
-    if (at == NULL)
-        stop("there is not enough memory for the model's tables");
+    at = lend(8 * *numbers);
     for (uint64_t i = 0; i < *numbers; i++)
         at[i] = UNTOUCHED;
     return at;
@@ -31,22 +28,25 @@ static int agree(const struct model *m) {
 }
 
 void load_model(const struct voice *v, uint64_t which, uint64_t spare, struct model *m) {
+    uint64_t *needs = answer_slice(LARSAVIM_NEEDS_OUT), *loaded = answer_slice(LARSAVIM_LOAD_OUT);
     m->which = which;
-    larsavim_needs(v->file.at, v->file.len, v->words, LARSAVIM_WORDS, which, m->needs, LARSAVIM_NEEDS_OUT);
+    larsavim_needs(v->file.at, v->file.len, v->words, LARSAVIM_WORDS, which, needs, LARSAVIM_NEEDS_OUT);
+    memcpy(m->needs, needs, sizeof m->needs);
     for (int t = 0; t < TABLES; t++)
-        m->table[t] = lend(m->needs[OUT_ROWS + t] + spare, row_width[t], &m->lent[t]);
-    m->work = lend(m->needs[OUT_WORK] + spare * LARSAVIM_WORK_A_LINE, 1, &m->work_lent);
+        m->table[t] = lend_rows(m->needs[OUT_ROWS + t] + spare, row_width[t], &m->lent[t]);
+    m->work = lend_rows(m->needs[OUT_WORK] + spare * LARSAVIM_WORK_A_LINE, 1, &m->work_lent);
     larsavim_load(v->file.at, v->file.len, v->words, LARSAVIM_WORDS, which, m->table[QUESTIONS], m->lent[QUESTIONS], m->table[PATTERNS], m->lent[PATTERNS],
                   m->table[TREES], m->lent[TREES], m->table[RECORDS], m->lent[RECORDS], m->table[BLOCKS], m->lent[BLOCKS], m->table[VALUES], m->lent[VALUES],
-                  m->work, m->work_lent, m->loaded, LARSAVIM_LOAD_OUT);
+                  m->work, m->work_lent, loaded, LARSAVIM_LOAD_OUT);
+    memcpy(m->loaded, loaded, sizeof m->loaded);
     if (!agree(m))
         stop("larsavim_needs and larsavim_load contradict each other");
 }
 
 void free_model(struct model *m) {
     for (int t = 0; t < TABLES; t++)
-        free(m->table[t]);
-    free(m->work);
+        give_back(m->table[t], 8 * m->lent[t]);
+    give_back(m->work, 8 * m->work_lent);
 }
 
 uint64_t rows_of(const struct model *m, int table) {
@@ -61,9 +61,19 @@ const uint64_t *row_of(const struct model *m, int table, uint64_t i) {
     return m->table[table] + row_width[table] * i;
 }
 
-/* Numbers in the rows that a load returned: later calls take the tables cut to these. */
+/* Numbers in the rows that a load returned. */
 static uint64_t used(const struct model *m, int table) {
     return rows_of(m, table) * row_width[table];
+}
+
+void cut_tables(struct model *m) {
+    for (int t = 0; t < TABLES; t++) {
+        uint64_t *cut = lend(8 * used(m, t));
+        memcpy(cut, m->table[t], (size_t)(8 * used(m, t)));
+        give_back(m->table[t], 8 * m->lent[t]);
+        m->table[t] = cut;
+        m->lent[t] = used(m, t);
+    }
 }
 
 int leaves_fit(const struct model *m) {
@@ -72,5 +82,7 @@ int leaves_fit(const struct model *m) {
 }
 
 void walk_model(const struct model *m, uint64_t tree, struct bytes answers, uint64_t limit, uint64_t out[LARSAVIM_WALK_OUT]) {
-    larsavim_walk(m->table[TREES], used(m, TREES), m->table[RECORDS], used(m, RECORDS), tree, answers.at, answers.len, limit, out, LARSAVIM_WALK_OUT);
+    uint64_t *walked = answer_slice(LARSAVIM_WALK_OUT);
+    larsavim_walk(m->table[TREES], used(m, TREES), m->table[RECORDS], used(m, RECORDS), tree, answers.at, answers.len, limit, walked, LARSAVIM_WALK_OUT);
+    memcpy(out, walked, 8 * LARSAVIM_WALK_OUT);
 }

@@ -2,22 +2,27 @@
 #include "host.h"
 
 void open_voice(struct voice *v, struct bytes file) {
-    uint64_t out[LARSAVIM_OPEN_OUT];
+    uint64_t *out = answer_slice(LARSAVIM_OPEN_OUT);
     v->file = file;
+    v->words = lend(8 * LARSAVIM_WORDS);
     larsavim_open(file.at, file.len, v->words, LARSAVIM_WORDS, out, LARSAVIM_OPEN_OUT);
     v->number = out[0];
     v->place = out[1];
 }
 
+void close_voice(struct voice *v) {
+    give_back(v->words, 8 * LARSAVIM_WORDS);
+}
+
 uint64_t number_of(const struct voice *v, uint64_t field) {
-    uint64_t out[LARSAVIM_GET_OUT];
+    uint64_t *out = answer_slice(LARSAVIM_GET_OUT);
     if (larsavim_get(v->words, LARSAVIM_WORDS, field, out, LARSAVIM_GET_OUT) != LARSAVIM_SUCCESS)
         stop("the library has no such field in the record that it opened");
     return out[1];
 }
 
 struct pair pair_of(const struct voice *v, uint64_t field) {
-    uint64_t out[LARSAVIM_PAIR_OUT];
+    uint64_t *out = answer_slice(LARSAVIM_PAIR_OUT);
     struct pair p;
     if (larsavim_pair(v->words, LARSAVIM_WORDS, field, out, LARSAVIM_PAIR_OUT) != LARSAVIM_SUCCESS)
         stop("the library has no such pair in the record that it opened");

@@ -4,13 +4,14 @@
   compare.py headers|trees|voices|walks FROM TO     the generated inputs of these numbers
   compare.py texts FROM TO                          the generated tree texts, each as a stream of a whole voice
   compare.py byhand                                 the inputs by hand, each limit, each field missing
-  compare.py short [LENGTH]                         all short tree texts over small alphabets (LENGTH pieces), all short header values (LENGTH - 2 bytes)
+  compare.py short [LENGTH [PART]]                  all short tree texts over small alphabets (LENGTH pieces), all short header values (LENGTH - 2 bytes);
+                                                    PART 0 are the header values, 1 to 7 the tree texts at a seam each
   compare.py utf8                                   all sequences of up to four bytes at the edges of RFC 3629's rows
   compare.py large                                  ordinary voices of up to 14 MB; files about the limit
   compare.py files FILE..                           whole voices
-  compare.py filewalks FILE COUNT                   random walks over the models of one voice
-  --product 'COMMAND'   also compare the product: COMMAND reads hex lines and prints the dump of each and END (`larsavim hex`)
-  --walker 'COMMAND'    the same for walks: COMMAND reads lines of hex, model, tree, answers, limit and prints `PDF n ASKED k` or `REFUSED n`, and END
+  --product 'COMMAND'   also compare the product (`larsavim hex`): COMMAND reads hex lines and prints the dump of each and END; for walks, lines of hex, model,
+                        tree, answers, limit, and prints `PDF n ASKED k` or `REFUSED n`, and END
+  --walker 'COMMAND'    another command for walks
   --no-oracle           leave the oracle out (where there is no cargo)
 Prints figures, and up to ten differences that no rule explains; the exit status is 1 if there is any.
 
@@ -76,7 +77,7 @@ class Judge:
     """Counts, and keeps the first differences."""
     def __init__(self, product=None, walker=None, oracle=True):
         self.counts, self.shown, self.bad = collections.Counter(), [], 0
-        self.programs = {'dump': product, 'open': product, 'walk': walker}
+        self.programs = {'dump': product, 'open': product, 'walk': walker or product}
         self.oracle = oracle and subprocess.run([os.path.join(HERE, '..', 'oracle', 'build')], stdout=subprocess.PIPE, universal_newlines=True, check=True).stdout.strip()
 
     def differ(self, what, line, mine, other):
@@ -206,10 +207,13 @@ def by_hand(judge):
     judge.all('dump', (b.hex() for b in voices.by_hand() + [voices.wide(w) for w in (1, 2, 4095, 4096, 4097)]))
 
 
-def short(judge, length):
-    judge.all('open', (b.hex() for b in headers.short_values(length - 2)), 20000)
-    for before, alphabet, after in treetexts.SEAMS:
-        judge.texts((before + t + after for t in treetexts.short_texts(alphabet, length)))
+def short(judge, length, part):
+    """Part 0 are the header values, part k the tree texts at seam k; None is all of them."""
+    if part in (None, 0):
+        judge.all('open', (b.hex() for b in headers.short_values(length - 2)), 20000)
+    for k, (before, alphabet, after) in enumerate(treetexts.SEAMS, 1):
+        if part in (None, k):
+            judge.texts((before + t + after for t in treetexts.short_texts(alphabet, length)))
 
 
 def walks(first, last):
@@ -219,37 +223,6 @@ def walks(first, last):
         b, which = (voices.walking(n // 8), 0) if n % 4 else (voices.voice(6 * (n // 8) + n % 2), r.randint(0, 4))
         answers = bytes(r.choice((0, 0, 1, 255)) for _ in range(r.choice((0, 3, 4, 6, 6, 6))))
         yield '%s %d %d %s %d' % (b.hex(), which, r.choice((0, 0, 0, 1, 2)), answers.hex() or '-', r.choice((0, 1, 2, 3, 5, 100)))
-
-
-def file_walks(judge, path, count):
-    """Random answers walked over each model of one voice: through tables and through the text by the reading, and by the oracle."""
-    with open(path, 'rb') as f:
-        b = f.read()
-    h = reading.Header(b)
-    r = random.Random('walks over a file')
-    lines, mine = [], []
-    models = range(2 * len(h.g[b'STREAM_TYPE']) + 1)
-    for which in models:
-        try:
-            m = reading.Model(b, h, which)
-        except reading.Refused:
-            continue
-        written = [reading.WrittenTree(m.data, m.text[0], t) for t in m.text[1]]
-        for _ in range(count // len(models)):
-            t, p = r.randrange(len(written)), r.random()
-            answers, limit = bytes(r.random() < p for _ in m.text[0]), r.choice((1, 10, 30, 1000, 1000, 1000))
-            lines.append('%d %d %s %d' % (which, t, answers.hex() or '-', limit))
-            mine.append(reading.outcome(reading.walk, m.trees, m.records, t, answers, limit))
-            text = reading.outcome(written[t].walk, answers, limit)
-            if text != mine[-1]:
-                judge.differ('text', lines[-1], mine[-1], 'text    ' + text)
-    judge.counts['walks'] += len(lines)
-    if judge.oracle:
-        other = subprocess.run([judge.oracle, 'walks', path], input='\n'.join(lines) + '\n', stdout=subprocess.PIPE, universal_newlines=True).stdout.splitlines()
-        for line, m, o in itertools.zip_longest(lines, mine, other):
-            judge.counts[str(m).split(' ')[0]] += 1
-            if m != o:
-                judge.differ('oracle', line, m, 'oracle  %s' % o)
 
 
 def taken(argv, option):
@@ -281,12 +254,10 @@ def main(argv):
             print(len(b), 'bytes')
             judge.batch('dump', [b.hex()])
     elif what == 'short':
-        short(judge, int(rest[0]) if rest else 6)
+        short(judge, int(rest[0]) if rest else 6, int(rest[1]) if rest[1:] else None)
     elif what == 'utf8':
         for n in range(1, 5):
             judge.all('open', (b.hex() for b in headers.utf8(n)), 20000)
-    elif what == 'filewalks':
-        file_walks(judge, rest[0], int(rest[1]))
     elif what == 'files':
         for path in rest:
             with open(path, 'rb') as f:

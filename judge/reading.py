@@ -566,6 +566,7 @@ class WrittenTree:
         self.one, self.lines = single(tree), [(s[a:b], no, yes) for _, (a, b), no, yes in tree[3]]
         self.question = {s[a:b]: i for i, ((a, b), _) in enumerate(questions)}
         self.line = {ident: k for k, (ident, _, _, _) in enumerate(tree[3])}
+        self.met = set()  # lines on walks that came to a PDF
 
     def walk(self, answers, limit):
         if self.one:
@@ -584,6 +585,7 @@ class WrittenTree:
             asked += 1
             kind, n = yes if answers[q] else no
             if kind == 'P':
+                self.met |= seen
                 return n, asked
             k = self.line[n]
 

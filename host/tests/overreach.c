@@ -1,0 +1,105 @@
+/* overreach.c: calls that reach past a slice, for testing that the guards of lend.c notice it. Linked with --wrap for each call, it calls the library's own and
+ * then reads one byte beside one slice: behind its last, or before its first where the guards are below. OVERREACH names call and slice, such as
+ * load.records; SKIP says how many such calls are left alone before. Prints OVERREACHED where the byte could be read. */
+#include <stdio.h>
+#include <stdlib.h>
+#include <string.h>
+
+#include "larsavim.h"
+
+static void touch(const char *name, const void *slice, uint64_t len) {
+    static long calls;
+    const char *word = getenv("OVERREACH"), *skip = getenv("SKIP"), *guard = getenv("LARSAVIM_GUARD");
+    const volatile uint8_t *at = slice;
+    int below = guard != NULL && strcmp(guard, "below") == 0;
+    if (word == NULL || strcmp(word, name) != 0 || calls++ < (skip == NULL ? 0 : atol(skip)))
+        return;
+    fprintf(stderr, "OVERREACHED %d\n", below ? *(at - 1) : at[len]);
+    exit(0);
+}
+
+/* The names that the linker gives: the library's call, and what stands in its place. */
+__typeof__(larsavim_open) __real_larsavim_open, __wrap_larsavim_open;
+__typeof__(larsavim_comment) __real_larsavim_comment, __wrap_larsavim_comment;
+__typeof__(larsavim_get) __real_larsavim_get, __wrap_larsavim_get;
+__typeof__(larsavim_pair) __real_larsavim_pair, __wrap_larsavim_pair;
+__typeof__(larsavim_needs) __real_larsavim_needs, __wrap_larsavim_needs;
+__typeof__(larsavim_load) __real_larsavim_load, __wrap_larsavim_load;
+__typeof__(larsavim_walk) __real_larsavim_walk, __wrap_larsavim_walk;
+__typeof__(larsavim_leaves) __real_larsavim_leaves, __wrap_larsavim_leaves;
+
+uint64_t __wrap_larsavim_open(const uint8_t *file, uint64_t file_len, uint64_t *words, uint64_t words_len, uint64_t *out, uint64_t out_len) {
+    uint64_t number = __real_larsavim_open(file, file_len, words, words_len, out, out_len);
+    touch("open.file", file, file_len);
+    touch("open.words", words, 8 * words_len);
+    touch("open.out", out, 8 * out_len);
+    return number;
+}
+
+uint64_t __wrap_larsavim_comment(uint64_t file_len, const uint64_t *words, uint64_t words_len, uint64_t fallback_len, uint64_t *out, uint64_t out_len) {
+    uint64_t number = __real_larsavim_comment(file_len, words, words_len, fallback_len, out, out_len);
+    touch("comment.words", words, 8 * words_len);
+    touch("comment.out", out, 8 * out_len);
+    return number;
+}
+
+uint64_t __wrap_larsavim_get(const uint64_t *words, uint64_t words_len, uint64_t field, uint64_t *out, uint64_t out_len) {
+    uint64_t number = __real_larsavim_get(words, words_len, field, out, out_len);
+    touch("get.words", words, 8 * words_len);
+    touch("get.out", out, 8 * out_len);
+    return number;
+}
+
+uint64_t __wrap_larsavim_pair(const uint64_t *words, uint64_t words_len, uint64_t field, uint64_t *out, uint64_t out_len) {
+    uint64_t number = __real_larsavim_pair(words, words_len, field, out, out_len);
+    touch("pair.words", words, 8 * words_len);
+    touch("pair.out", out, 8 * out_len);
+    return number;
+}
+
+uint64_t __wrap_larsavim_needs(const uint8_t *file, uint64_t file_len, const uint64_t *words, uint64_t words_len, uint64_t which, uint64_t *out, uint64_t out_len) {
+    uint64_t number = __real_larsavim_needs(file, file_len, words, words_len, which, out, out_len);
+    touch("needs.file", file, file_len);
+    touch("needs.words", words, 8 * words_len);
+    touch("needs.out", out, 8 * out_len);
+    return number;
+}
+
+uint64_t __wrap_larsavim_load(const uint8_t *file, uint64_t file_len, const uint64_t *words, uint64_t words_len, uint64_t which, uint64_t *questions, uint64_t questions_len,
+                              uint64_t *patterns, uint64_t patterns_len, uint64_t *trees, uint64_t trees_len, uint64_t *records, uint64_t records_len, uint64_t *blocks,
+                              uint64_t blocks_len, uint64_t *values, uint64_t values_len, int64_t *work, uint64_t work_len, uint64_t *out, uint64_t out_len) {
+    uint64_t number = __real_larsavim_load(file, file_len, words, words_len, which, questions, questions_len, patterns, patterns_len, trees, trees_len, records, records_len,
+                                           blocks, blocks_len, values, values_len, work, work_len, out, out_len);
+    touch("load.file", file, file_len);
+    touch("load.words", words, 8 * words_len);
+    touch("load.questions", questions, 8 * questions_len);
+    touch("load.patterns", patterns, 8 * patterns_len);
+    touch("load.trees", trees, 8 * trees_len);
+    touch("load.records", records, 8 * records_len);
+    touch("load.blocks", blocks, 8 * blocks_len);
+    touch("load.values", values, 8 * values_len);
+    touch("load.work", work, 8 * work_len);
+    touch("load.out", out, 8 * out_len);
+    return number;
+}
+
+uint64_t __wrap_larsavim_walk(const uint64_t *trees, uint64_t trees_len, const uint64_t *records, uint64_t records_len, uint64_t tree, const uint8_t *answers, uint64_t answers_len,
+                              uint64_t limit, uint64_t *out, uint64_t out_len) {
+    uint64_t number = __real_larsavim_walk(trees, trees_len, records, records_len, tree, answers, answers_len, limit, out, out_len);
+    touch("walk.trees", trees, 8 * trees_len);
+    touch("walk.records", records, 8 * records_len);
+    touch("walk.answers", answers, answers_len);
+    touch("walk.out", out, 8 * out_len);
+    return number;
+}
+
+uint64_t __wrap_larsavim_leaves(const uint64_t *questions, uint64_t questions_len, const uint64_t *trees, uint64_t trees_len, const uint64_t *records, uint64_t records_len,
+                                const uint64_t *blocks, uint64_t blocks_len, const uint64_t *values, uint64_t values_len, uint64_t width) {
+    uint64_t yes = __real_larsavim_leaves(questions, questions_len, trees, trees_len, records, records_len, blocks, blocks_len, values, values_len, width);
+    touch("leaves.questions", questions, 8 * questions_len);
+    touch("leaves.trees", trees, 8 * trees_len);
+    touch("leaves.records", records, 8 * records_len);
+    touch("leaves.blocks", blocks, 8 * blocks_len);
+    touch("leaves.values", values, 8 * values_len);
+    return yes;
+}
