@@ -35,12 +35,12 @@ def newer(path, *sources):
     return all(os.path.getmtime(os.path.join(f, n)) <= made for s in sources for f, _, names in os.walk(s) for n in names)
 
 
-def built(level, triple=NATIVE):
+def built(level, triple=NATIVE, *flags):
     """The library's object for a target at a level, by host/native."""
-    path = os.path.join(ROOM, 'larsavim%s-%s.o' % (level, triple.split('-')[0]))
+    path = os.path.join(ROOM, '-'.join(['larsavim' + level, triple.split('-')[0], *(f.strip('-') for f in flags)]) + '.o')
     if not newer(path, os.path.join(ROOT, 'crates')):
         os.makedirs(ROOM, exist_ok=True)
-        subprocess.run([os.path.join(ROOT, 'host', 'native'), path, triple, level, '-fstack-size-section'], check=True)
+        subprocess.run([os.path.join(ROOT, 'host', 'native'), path, triple, level, '-fstack-size-section', *flags], check=True)
     return path
 
 
@@ -77,6 +77,11 @@ def table(head, rows):
     """A table of Markdown, numbers to the right."""
     out = ['| %s |' % ' | '.join(head), '|---|%s' % ('---:|' * (len(head) - 1))]
     return '\n'.join(out + ['| %s |' % ' | '.join(map(str, r)) for r in rows]) + '\n'
+
+
+def goals(said):
+    """A table of goals: what is wanted, what was measured, whether it is met."""
+    return table(['goal', 'measured', 'met'], [[goal, figure, 'yes' if met else '**no**'] for goal, figure, met in said])
 
 
 def record(name, text):

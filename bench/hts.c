@@ -1,4 +1,5 @@
 /* hts.c: how long hts_engine takes:  hts FILE REPETITIONS     HTS_Engine_load of a voice, best of so many repetitions; it takes a file's name, no memory.
+ * hts FILE -REPETITIONS doesn't give the memory back, for counting instructions.
  * Times are of the processor, in nanoseconds. Prints lines of a name and numbers; bench/time reads them. */
 #include <malloc.h>
 #include <stdint.h>
@@ -24,7 +25,7 @@ int main(int argc, char **argv) {
     uint64_t best = UINT64_MAX, bytes = 0;
     if (argc != 3)
         return 2;
-    for (int i = 0; i < atoi(argv[2]); i++) {
+    for (int i = 0; i < abs(atoi(argv[2])); i++) {
         HTS_Engine engine;
         uint64_t start, before = held();
         HTS_Engine_initialize(&engine);
@@ -37,7 +38,8 @@ int main(int argc, char **argv) {
         bytes = held() - before;
         if (start < best)
             best = start;
-        HTS_Engine_clear(&engine);
+        if (atoi(argv[2]) > 0)
+            HTS_Engine_clear(&engine);
     }
     printf("load %llu\nheld %llu\n", (unsigned long long)best, (unsigned long long)bytes);
     return 0;

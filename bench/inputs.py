@@ -71,6 +71,12 @@ def equal_leaves(n):
     return voice(questions(400) + '{*}[2]\n{\n' + '\n'.join('%d Q%d x_1 x_1' % (-i, i % 400) for i in range(n // 2)) + '\n}\n', [1])
 
 
+def long_names(n):
+    """n questions whose names agree in their first 2,000 bytes, and a line for each."""
+    name = lambda i: 'Q' * 2000 + '%05d' % i
+    return voice(''.join('QS %s {a}\n' % name(i) for i in range(n)) + '{*}[2]\n{\n' + '\n'.join('%d %s x_1 x_2' % (-i, name(i)) for i in range(n)) + '\n}\n', [2])
+
+
 def all_pdf(n):
     """n values in blocks of a width of 2, and a tree of one reference."""
     return voices.simple(b'{*}[2]x_1', zeros([n // 2]))
@@ -89,9 +95,11 @@ def many_groups(n):
     return b.replace(b'[STREAM]\n', b'[STREAM]\n' + rows).replace(b'[POSITION]\n', b'[POSITION]\n' + ranges)
 
 
+ROUND = 'a tree that goes round'
 # name, how it is made, its size; each is measured at an eighth of its size too
 WORST = [('a tree, ids at random', random_ids, 200000), ('questions', many_questions, 200000), ('trees of 2 lines, as many questions', many_trees, 100000),
-         ('equal leaves', equal_leaves, 200000), ('all PDF', all_pdf, 3500000), ('a tree that goes round', going_round, 200000), ('groups in the header', many_groups, 4000)]
+         ('equal leaves', equal_leaves, 200000), ('all PDF', all_pdf, 3500000), ('names of 2,005 bytes', long_names, 3600), (ROUND, going_round, 200000),
+         ('groups in the header', many_groups, 1000)]
 
 
 def files(folder, small=False):

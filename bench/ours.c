@@ -1,4 +1,5 @@
 /* ours.c: how long the library takes:  ours FILE REPETITIONS [ROUNDS]     open and load of every model of a file in memory, best of so many repetitions; and walks.
+ * ours FILE -REPETITIONS does open and load so often and nothing else, for counting instructions.
  * Times are of the processor, in nanoseconds. Prints lines of a name and numbers; bench/time reads them. */
 #include <stdint.h>
 #include <stdio.h>
@@ -85,26 +86,31 @@ static uint64_t memory(uint8_t *to) {
     return now() - start;
 }
 
+/* What is measured: open, and load of every model. When the opening was done is told. */
+static uint64_t open_and_load(void) {
+    uint64_t opened, number = open_file();
+    opened = now();
+    for (int k = 0; k < models; k++)
+        if ((number = load(&model[k])) != LARSAVIM_SUCCESS)
+            printf("refused %llu\n", (unsigned long long)number);
+    return opened;
+}
+
 static void times(int repetitions) {
-    uint64_t opening = UINT64_MAX, needing = UINT64_MAX, loading = UINT64_MAX, all = UINT64_MAX, copying = UINT64_MAX;
+    uint64_t opening = UINT64_MAX, needing = UINT64_MAX, loading = UINT64_MAX, both = UINT64_MAX, copying = UINT64_MAX;
     uint8_t *to = room(tables_len);
     for (int i = 0; i < repetitions; i++) {
-        uint64_t start = now(), opened, loaded, number = open_file();
-        opened = now();
-        for (int k = 0; k < models; k++)
-            if ((number = load(&model[k])) != LARSAVIM_SUCCESS)
-                printf("refused %llu\n", (unsigned long long)number);
-        loaded = now();
+        uint64_t start = now(), opened = open_and_load(), loaded = now();
         for (int k = 0; k < models; k++)
             needs_of(&model[k]);
         least(&needing, now() - loaded);
         least(&opening, opened - start);
         least(&loading, loaded - opened);
-        least(&all, loaded - start);
+        least(&both, loaded - start);
         least(&copying, memory(to));
     }
     printf("open %llu\nload %llu\nneeds %llu\nboth %llu\nmemory %llu\n", (unsigned long long)opening, (unsigned long long)loading, (unsigned long long)needing,
-           (unsigned long long)all, (unsigned long long)copying);
+           (unsigned long long)both, (unsigned long long)copying);
     printf("lent %llu %llu\n", (unsigned long long)tables_len, (unsigned long long)work_len * 8);
     free(to);
 }
@@ -158,6 +164,10 @@ int main(int argc, char **argv) {
         printf("refused %llu\n", (unsigned long long)number); /* the opening alone is timed then: `words` name no stream, and there is no model but the duration's */
     else
         lend();
+    for (int i = atoi(argv[2]); i < 0; i++)
+        open_and_load();
+    if (atoi(argv[2]) < 0)
+        return 0;
     times(atoi(argv[2]));
     if (argc > 3)
         walks(atoi(argv[3]));

@@ -1,4 +1,5 @@
 //! How long the Rust takes:  bench FILE REPETITIONS [ROUNDS]     the whole call for a file in memory, best of so many repetitions; and walks.
+//! bench FILE -REPETITIONS does the call so often and nothing else, for counting instructions.
 //! Times are of the processor, in nanoseconds. Prints lines of a name and numbers; bench/time reads them.
 use std::cell::Cell;
 use std::collections::BTreeMap;
@@ -124,6 +125,10 @@ fn walks(file: &[u8], rounds: usize) {
 fn main() {
     let args: Vec<String> = std::env::args().skip(1).collect();
     let file = std::fs::read(&args[0]).expect("readable file");
+    if let Some(n) = args[1].strip_prefix('-') {
+        (0..n.parse().unwrap()).for_each(|_| std::mem::forget(bench_parse(&file)));
+        return;
+    }
     #[cfg(counted)]
     counted::count(|| bench_parse(&file));
     times(&file, args[1].parse().unwrap());
