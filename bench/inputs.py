@@ -1,6 +1,6 @@
 #!/usr/bin/env python3
 """The files that bench/time measures: always the same. Ordinary voices of some sizes, as training tools write them, and worst cases; each worst case also at an eighth
-of its size, so that the growth is seen. As a command:  inputs.py FOLDER   writes those that are missing there."""
+and a sixty-fourth of its size, so that the growth is seen. As a command:  inputs.py FOLDER   writes those that are missing there."""
 import os
 import random
 import struct
@@ -96,7 +96,7 @@ def many_groups(n):
 
 
 ROUND = 'a tree that goes round'
-# name, how it is made, its size; each is measured at an eighth of its size too
+# name, how it is made, its largest size
 WORST = [('a tree, ids at random', random_ids, 200000), ('questions', many_questions, 200000), ('trees of 2 lines, as many questions', many_trees, 100000),
          ('equal leaves', equal_leaves, 200000), ('all PDF', all_pdf, 3500000), ('names of 2,005 bytes', long_names, 3600), (ROUND, going_round, 200000),
          ('groups in the header', many_groups, 1000)]
@@ -115,7 +115,7 @@ def files(folder, small=False):
     for size, (lines, rows) in list(ORDINARY.items())[:1 if small else None]:
         yield 'ordinary, %s MB' % size, 0, kept('ordinary ' + size, lambda: voices.large(1, lines, rows))
     for name, made, n in [] if small else WORST:
-        for k in n // 8, n:
+        for k in n // 64, n // 8, n:
             yield name, k, kept('%s %d' % (name, k), lambda: made(k))
 
 
