@@ -32,7 +32,7 @@ pub enum Test {
     Word,
 }
 
-// The class of a byte, which patterns go by.
+// The class of a byte, which patterns and references go by.
 pub fn class_of(b: u8) -> Class
     ensures { λ r. ⌜ r ≡ classOf b ⌝ }
 {
@@ -47,7 +47,7 @@ pub fn class_of(b: u8) -> Class
     }
 }
 
-// A digit of a number. Numbers are the most of a tree text, so this doesn't go by the class.
+// A digit, of a number above all: numbers are much of a tree text, so this doesn't go by the class.
 pub fn is_digit(b: u8) -> bool
     ensures { λ r. ⌜ r ≡ digit b ⌝ }
 {
@@ -76,7 +76,7 @@ pub fn is_pattern(b: u8) -> bool
     }
 }
 
-// A byte that PDF references are made of: a letter, a digit, or the mark _.
+// A byte that PDF references are made of: a letter, a digit, or the mark _. Letters and digits are most of them, so the class is asked for the others alone.
 pub fn is_word(b: u8) -> bool
     ensures { λ r. ⌜ r ≡ inWord b ⌝ }
 {
@@ -86,7 +86,13 @@ pub fn is_word(b: u8) -> bool
     if is_digit(b) {
         return true;
     }
-    b == b'_'
+    match class_of(b) {
+        Class::Digit => true,
+        Class::Letter => true,
+        Class::Wildcard => false,
+        Class::Mark => b == b'_',
+        Class::Rest => false,
+    }
 }
 
 // Space or newline; a tab is not blank.
