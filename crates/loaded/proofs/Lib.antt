@@ -2,3 +2,4 @@ pub mod Texts
 pub mod Numbers
 pub mod Says
 pub mod Refused
+pub mod Exactly

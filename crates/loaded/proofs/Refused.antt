@@ -21,12 +21,11 @@ use Rattle.error.specs.declared.Refusal.{Refusal}
 use Rattle.error.specs.declared.Refusal.the-variants as refusal
 use Rattle.header.specs.declared.Header.{Header}
 use Rattle.question.specs.Questions.{questionsAt}
-use Rattle.tree_survey.specs.Survey.{textRead, textAt, surveyAt}
-use Rattle.tree_survey.specs.Said.{saidPatterns, saidNegative, saidTreeRecords, saidTreeLines, saidSurvey}
+use Rattle.tree_survey.specs.Survey.{surveyAt}
 use Rattle.tree_survey.specs.declared.Survey.{Survey}
 use Rattle.tree_survey.specs.declared.Survey.the-variants as survey
-use Rattle.tree_survey.proofs.Joined.{Spoken, says-read, whole-says, broken-silent}
-use Rattle.tree_survey.proofs.Said.{survey-said, said-negative, negative-said}
+use Rattle.tree_survey.proofs.Joined.{broken-silent}
+use Rattle.tree_survey.proofs.Said.{negative-said}
 use Rattle.blocks.specs.Values.{wordsAt, blockAt}
 use Rattle.blocks.specs.declared.Block.{Block}
 use Rattle.blocks.specs.declared.Block.the-variants as block
@@ -52,8 +51,8 @@ use Rattle.model_plan.proofs.Laws.{Was, was}
 use Rattle.model.specs.Load.{After, roomFor, answerFor, filledBy, filled, untouched, loadFor, loadOf}
 use Rattle.model.specs.declared.Loaded.the-variants as loaded
 use Rattle.loaded.specs.Stored.{Chose}
-use Rattle.loaded.specs.Refused.{Within, Asked, NotLoaded, not-chosen, text-outside, no-text, negative-state, block-outside, no-block, no-room, not-linked}
-use Rattle.loaded.proofs.Texts.{small-take, small-drop, spoken, natural, counted}
+use Rattle.loaded.specs.Refused.{Within, NotLoaded, not-chosen, text-outside, no-text, negative-state, block-outside, no-block, no-room, not-linked}
+use Rattle.loaded.proofs.Texts.{small-take, small-drop, counted-whole, spoken, natural, counted}
 use Rattle.loaded.proofs.Says as says
 
 -- ---- a range
@@ -80,22 +79,12 @@ module _ (s : List ℕ) (h : Header) (which : Which) (short : length s < 2 ^ 63)
   abbrev Not : Refusal → Type 0
   Not = NotLoaded s h which n₁ n₂ n₃ n₄ n₅ n₆ n₇
 
-  text-not : {d : List ℕ} {u v x y k : ℕ} → Asked s h which d u v x y k → Within u v d → {z : Refusal} → textOf (take (v + 1) d) u ≡ text.Refused z → Not z
-  unfolding textOf textAt
-  text-not {d} {u} {v} asked inside {z} e = go (questionsAt S u .ending) refl (surveyAt S u) refl e
+  text-not : {u v x y k : ℕ} → Choice s h which (chosen.Model u v x y k) → Within u v (dataOf s h) → {z : Refusal} → textOf (take (v + 1) (dataOf s h)) u ≡ text.Refused z → Not z
+  unfolding textOf
+  text-not {u} {v} asked inside {z} e = go (questionsAt S u .ending) refl (surveyAt S u) refl e
     where
       S : List ℕ
-      S = take (v + 1) d
-
-      -- a survey that is whole has its questions whole
-      never : {f n₁ n₂ n₃ n₄ n₅ : ℕ} → questionsAt S u .ending ≡ brokenAt f → surveyAt S u ≡ survey.Counted n₁ n₂ n₃ n₄ n₅ → ⊥
-      never {f} {n₁} {n₂} {n₃} {n₄} {n₅} n m =
-          let k = whole-says S u (λ p q. let e : survey.Counted n₁ n₂ n₃ n₄ n₅ ≡ survey.Broken p = sym m ∙ q in let u : _≡_ {A = ℕ} 0 1 = cc in omega arith) in
-          let i : textAt S u .ending ≡ doneAt (length S) = ap (λ x. x .ending) (says-read S (k .says)) in
-          let j : textAt S u .ending ≡ brokenAt f = ap (λ (o : Ending). textRead S (questionsAt S u .items) o .ending) n in
-          let l : doneAt (length S) ≡ brokenAt f = sym i ∙ j in
-          let u : _≡_ {A = ℕ} 0 1 = cc in
-          omega arith
+      S = take (v + 1) (dataOf s h)
 
       silent : {k : ℕ} → surveyAt S u ≡ survey.Broken k → refusal.Text ≡ z → Not z
       silent {k} m e = subst Not e (no-text asked inside (broken-silent S u k m))
@@ -105,7 +94,7 @@ module _ (s : List ℕ) (h : Header) (which : Which) (short : length s < 2 ^ 63)
 
       go : (n : Ending) → questionsAt S u .ending ≡ n → (o : Survey) → surveyAt S u ≡ o → placed n o ≡ text.Refused z → Not z
       go (doneAt f) n (survey.Counted a b c d l) m e = let u : _≡_ {A = ℕ} 0 1 = cc in absurd (omega arith)
-      go (brokenAt f) n (survey.Counted a b c d l) m e = absurd (never n m)
+      go (brokenAt f) n (survey.Counted a b c d l) m e = absurd (counted-whole S u m n)
       go (doneAt f) n (survey.Broken k) m e = silent m (let u : refusal.Text ≡ z = cc in u)
       go (brokenAt f) n (survey.Broken k) m e = silent m (let u : refusal.Text ≡ z = cc in u)
       go (doneAt f) n survey.Negative m e = negative m (let u : refusal.State ≡ z = cc in u)
@@ -113,7 +102,7 @@ module _ (s : List ℕ) (h : Header) (which : Which) (short : length s < 2 ^ 63)
 
   -- ---- the block
 
-  module _ {u v x y k : ℕ} (asked : Asked s h which (dataOf s h) u v x y k) (inside : Within u v (dataOf s h)) {f q p t r l : ℕ}
+  module _ {u v x y k : ℕ} (asked : Choice s h which (chosen.Model u v x y k)) (inside : Within u v (dataOf s h)) {f q p t r l : ℕ}
       (read : text.Read f q p t r l ≡ textOf (take (v + 1) (dataOf s h)) u) where
     abbrev S : List ℕ
     S = take (v + 1) (dataOf s h)
@@ -151,7 +140,7 @@ module _ (s : List ℕ) (h : Header) (which : Which) (short : length s < 2 ^ 63)
 
   -- ---- before the tables are looked at
 
-  plan-not : {u v x y k : ℕ} → Asked s h which (dataOf s h) u v x y k → {z : Refusal} → planOf (dataOf s h) u v x y k ≡ planned.Refused z → Not z
+  plan-not : {u v x y k : ℕ} → Choice s h which (chosen.Model u v x y k) → {z : Refusal} → planOf (dataOf s h) u v x y k ≡ planned.Refused z → Not z
   unfolding planOf
   plan-not {u} {v} {x} {y} {k} asked {z} e = go (withinOf u v (length D)) refl e
     where
@@ -174,7 +163,7 @@ module _ (s : List ℕ) (h : Header) (which : Which) (short : length s < 2 ^ 63)
   needs-not {z} e = go (chosenOf s h which) (chosen-so s h arrays which) e
     where
       go : (c : Chosen) → Choice s h which c → plannedFor (dataOf s h) c ≡ planned.Refused z → Not z
-      go (chosen.Model u v x y k) c e = plan-not (record { choice = c; inside = refl }) e
+      go (chosen.Model u v x y k) c e = plan-not c e
       go (chosen.Refused r) c e = let g : r ≡ z = cc in subst Not g (not-chosen c)
 
 -- ---- every load

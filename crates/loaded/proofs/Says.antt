@@ -78,7 +78,7 @@ module _ (s : List ℕ) (h : Header) (which : Which) (short : length s < 2 ^ 63)
     abbrev pub read : Was S (p .text) (p .first) (p .questions) (p .patterns) (p .trees) (p .records) (p .lines)
     read = was S (p .text) (needs-sound s h which p e .text)
 
-    S-short : length S < 2 ^ 63
+    pub S-short : length S < 2 ^ 63
     S-short = omega (arith, take-short (p .«text_end») (dataOf s h), part-short s (h .«data_start») (h .«data_len»))
 
     B-small : Small B

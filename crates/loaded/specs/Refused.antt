@@ -27,29 +27,25 @@ use Rattle.loaded.specs.Stored.{Chose}
 abbrev pub Within : ℕ → ℕ → List ℕ → Type 0
 Within a b d = (a ≤ b + 1) × (b + 1 ≤ length d)
 
--- a tree text from u to v, a block of width w from x to y, of the model asked for, in its data d
-pub record Asked (s : List ℕ) (h : Header) (which : Which) (d : List ℕ) (u v x y w : ℕ) : Type 0 where
-  pub choice : Choice s h which (Model u v x y w)
-  pub inside : d ≡ dataOf s h
-
--- of a file s with the record h; the seven slices have so many elements
+-- Of a file s with the record h, where the seven slices have so many elements. The model asked for has its tree text from u to v in the data, and its block, of width w, from x to y.
 pub data NotLoaded (s : List ℕ) (h : Header) (which : Which) (questions patterns trees records blocks values work : ℕ) : Refusal → Type 0 where
   not-chosen : {z : Refusal} → Choice s h which (Refused z) → NotLoaded s h which questions patterns trees records blocks values work z
   text-outside :
-      {d : List ℕ} {u v x y w : ℕ} → Asked s h which d u v x y w → ¬ Within u v d
+      {u v x y w : ℕ} → Choice s h which (Model u v x y w) → ¬ Within u v (dataOf s h)
       → NotLoaded s h which questions patterns trees records blocks values work refusal.Range
   no-text :
-      {d : List ℕ} {u v x y w : ℕ} → Asked s h which d u v x y w → Within u v d → ((t : Text) (l : Layout) → ¬ Says (take (v + 1) d) u t l)
+      {u v x y w : ℕ} → Choice s h which (Model u v x y w) → Within u v (dataOf s h) → ((t : Text) (l : Layout) → ¬ Says (take (v + 1) (dataOf s h)) u t l)
       → NotLoaded s h which questions patterns trees records blocks values work refusal.Text
   negative-state :
-      {d : List ℕ} {u v x y w : ℕ} {t : Text} {l : Layout} → Asked s h which d u v x y w → Within u v d → Says (take (v + 1) d) u t l → Negative (t .trees)
+      {u v x y w : ℕ} {t : Text} {l : Layout} → Choice s h which (Model u v x y w) → Within u v (dataOf s h) → Says (take (v + 1) (dataOf s h)) u t l → Negative (t .trees)
       → NotLoaded s h which questions patterns trees records blocks values work refusal.State
   block-outside :
-      {d : List ℕ} {u v x y w : ℕ} {t : Text} {l : Layout} → Asked s h which d u v x y w → Within u v d → Says (take (v + 1) d) u t l → ¬ Negative (t .trees) → ¬ Within x y d
-      → NotLoaded s h which questions patterns trees records blocks values work refusal.Range
+      {u v x y w : ℕ} {t : Text} {l : Layout} → Choice s h which (Model u v x y w) → Within u v (dataOf s h) → Says (take (v + 1) (dataOf s h)) u t l → ¬ Negative (t .trees)
+      → ¬ Within x y (dataOf s h) → NotLoaded s h which questions patterns trees records blocks values work refusal.Range
   no-block :
-      {d : List ℕ} {u v x y w : ℕ} {t : Text} {l : Layout} → Asked s h which d u v x y w → Within u v d → Says (take (v + 1) d) u t l → ¬ Negative (t .trees) → Within x y d
-      → ((rows : List block.Row) (read : List ℕ) → ¬ block.Block (widenOf 8 23 11 52) (length (t .trees)) w (drop x (take (y + 1) d)) rows read)
+      {u v x y w : ℕ} {t : Text} {l : Layout} → Choice s h which (Model u v x y w) → Within u v (dataOf s h) → Says (take (v + 1) (dataOf s h)) u t l → ¬ Negative (t .trees)
+      → Within x y (dataOf s h)
+      → ((rows : List block.Row) (read : List ℕ) → ¬ block.Block (widenOf 8 23 11 52) (length (t .trees)) w (drop x (take (y + 1) (dataOf s h))) rows read)
       → NotLoaded s h which questions patterns trees records blocks values work refusal.Block
   no-room :
       {p : Plan} {t : Text} {l : Layout} → Chose s h which p t l → roomFor p questions patterns trees records blocks values work ≡ false
