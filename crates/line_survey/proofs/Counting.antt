@@ -152,7 +152,7 @@ module _ (s : List ℕ) where
           record { done = q ∙ ap doneAt (sym u); lines = omega arith; pdfs = omega arith; size = omega (arith, lines-size i x q) }
       go (brokenAt x) q h = let u : _≡_ {A = ℕ} 0 1 = cc in absurd (omega arith)
 
-  not-counted : (i : ℕ) → count.Broken ≡ linesCounted 0 0 (linesAt s i) → (e : ℕ) × (linesAt s i .ending ≡ brokenAt e)
+  pub not-counted : (i : ℕ) → count.Broken ≡ linesCounted 0 0 (linesAt s i) → (e : ℕ) × (linesAt s i .ending ≡ brokenAt e)
   unfolding linesCounted
   not-counted i h = go (linesAt s i .ending) refl h
     where

@@ -32,7 +32,7 @@ pub enum LineSurvey {
 }
 
 // How many of a line's references are PDFs.
-fn line_pdfs(line: Line) -> usize
+pub fn line_pdfs(line: Line) -> usize
     ensures { λ r. ⌜ r ≡ linePdfs line ⌝ }
 {
     let no = line.no;

@@ -1,4 +1,6 @@
 // After model/mod.rs, `convert_tree`: the lines of a tree, out of the text into the work (01, 'Linking and tables'). Assumes nothing.
+use line_survey::LineCount;
+use line_survey::line_pdfs;
 use order::part_or;
 use search::Found;
 use search::last_question;
@@ -14,6 +16,7 @@ ghost use Rattle.laws.specs.Steps.{doneAt};
 ghost use Rattle.order.specs.Keys.{nameKey, nameAt};
 ghost use Rattle.search.specs.Index.{Index};
 ghost use Rattle.tree_line.specs.Lines.{linesAt};
+ghost use Rattle.line_survey.specs.Counts.{linesCounted};
 ghost use Rattle.model_lines.specs.Words.{kindOf, numberOf, askedAt, wordsOf, lineWords};
 
 fn kind_of(index: TreeIndex) -> i64
@@ -61,13 +64,15 @@ fn put_line(work: &mut [i64], at: usize, line: Line, question: i64)
     work[at + 5] = question;
 }
 
-// The lines of a tree whose first stands at `at`, into the work from its front on.
-pub fn fill_lines(s: &[u8], at: usize, questions: &[u64], index: &[u64], work: &mut [i64])
+// The lines of a tree whose first stands at `at`, into the work from its front on; and their count, so that a load reads them once.
+pub fn fill_lines(s: &[u8], at: usize, questions: &[u64], index: &[u64], work: &mut [i64]) -> LineCount
     requires { ⌜ Index (λ e. nameKey (nameAt (now s) (now questions) e)) (now index) × (length (now index) < 2 ^ 62) × (6 * length (linesAt (now s) at .items) ≤ length (now work)) ⌝ }
-    ensures { λ r. ⌜ now (work .exit) ≡ sets (now (work .entry)) 0 (lineWords (now (s .entry)) (now (questions .entry)) (length (now (index .entry))) (linesAt (now (s .entry)) at .items)) ⌝ }
+    ensures { λ r. ⌜ (r ≡ linesCounted 0 0 (linesAt (now (s .entry)) at)) × (now (work .exit) ≡ sets (now (work .entry)) 0 (lineWords (now (s .entry)) (now (questions .entry)) (length (now (index .entry))) (linesAt (now (s .entry)) at .items))) ⌝ }
 {
     let mut i = at;
     let mut word = 0;
+    let mut n = 0;
+    let mut m = 0;
     loop {
         match next_line(s, i) {
             LineStep::Next { line, next } => {
@@ -78,19 +83,25 @@ pub fn fill_lines(s: &[u8], at: usize, questions: &[u64], index: &[u64], work: &
                     asked(s, questions, index, line.start, line.len),
                 );
                 word = word + 6;
+                n = n + 1;
+                m = m + line_pdfs(line);
                 i = next;
             }
-            LineStep::Last { line, next: _ } => {
+            LineStep::Last { line, next } => {
                 put_line(
                     work,
                     word,
                     line,
                     asked(s, questions, index, line.start, line.len),
                 );
-                return;
+                return LineCount::Counted {
+                    lines: n + 1,
+                    pdfs: m + line_pdfs(line),
+                    next,
+                };
             }
             LineStep::Broken => {
-                return;
+                return LineCount::Broken;
             }
         }
     }

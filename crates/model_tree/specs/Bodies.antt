@@ -5,9 +5,11 @@ use mathlib.Core.List.{List, [], _∷_}
 use Prim.Native.Nat.{ℕ, _+_, _*_}
 use lib.IntN.{ℤ}
 use lib.ListN.{length, replicate}
+use Rattle.laws.specs.Steps.{Ending, doneAt, brokenAt}
 use Rattle.tree_reference.specs.References.{sameIndex}
 use Rattle.tree_reference.specs.declared.TreeIndex.{TreeIndex}
 use Rattle.tree_reference.specs.declared.TreeIndex.the-variants.{Node, Pdf}
+use Rattle.tree_line.specs.Lines.{linesAt}
 use Rattle.tree_line.specs.declared.Line.{Line}
 use Rattle.tree.specs.Trees.{Body, lone, braces}
 use Rattle.line_survey.specs.Counts.{recordsOf}
@@ -51,6 +53,14 @@ linesResult s questions n (l ∷ (k ∷ ls)) =
 abbrev pub bodyResult : List ℕ → List ℕ → ℕ → Body → Result
 bodyResult s questions n (lone r) = leafResult r
 bodyResult s questions n (braces ls) = linesResult s questions n ls
+
+abbrev pub placeOf : Ending → ℕ
+placeOf (doneAt e) = e
+placeOf (brokenAt e) = e
+
+-- where reading lines from i on ends
+abbrev pub linesEnd : List ℕ → ℕ → ℕ
+linesEnd s i = placeOf (linesAt s i .ending)
 
 -- the reference that a tree of one line with equal references is
 abbrev pub singleOf : List Line → Single

@@ -1,5 +1,6 @@
 // After model/mod.rs, `convert_tree`: the records of one tree of the text, into its part of the record table (01, 'Linking and tables').
 // A lone reference, or one braced line with equal references, is a bare leaf if it is a PDF. Assumes nothing.
+use line_survey::LineCount;
 use link::Link;
 use link::link_tree;
 use link_refs::natural;
@@ -15,13 +16,14 @@ ghost use mathlib.Core.List.{[], _∷_};
 ghost use Prim.Native.Nat.{_+_, _*_, _≤_, _<_, _^_};
 ghost use lib.ListN.{length};
 ghost use lib.Seq.{sets};
+ghost use Rattle.laws.specs.Steps.{doneAt};
 ghost use Rattle.order.specs.Keys.{nameKey, nameAt};
 ghost use Rattle.search.specs.Index.{Index};
 ghost use Rattle.tree_line.specs.Lines.{linesAt};
 ghost use Rattle.line_survey.specs.Counts.{recordsOf};
 ghost use Rattle.link_refs.specs.Lines.{linesFrom, pdfsOf};
 ghost use Rattle.model_lines.specs.Words.{lineWords};
-ghost use Rattle.model_tree.specs.Bodies.{leafResult, linkResult, linesResult, singleOf};
+ghost use Rattle.model_tree.specs.Bodies.{leafResult, linkResult, linesResult, linesEnd, singleOf};
 
 // How a tree ends: with so many records, and the lines of its row; or refused, at a line.
 pub enum Filled {
@@ -29,6 +31,12 @@ pub enum Filled {
     NodeRef(usize),
     QuestionRef(usize),
     LoneNode,
+}
+
+// How a tree ends, and the place past its body.
+pub struct TreeFill {
+    pub filled: Filled,
+    pub next: usize,
 }
 
 // The one record of a tree that is one reference, from `first` on.
@@ -102,26 +110,36 @@ fn link_lines(
     }
 }
 
-// The records of a tree in braces, from `first` on; its lines stand in the work afterwards.
+// The records of a tree in braces whose lines can be read, from `first` on; its lines stand in the work afterwards.
 pub fn fill_braces(
     s: &[u8],
     at: usize,
-    lines: usize,
-    needed: usize,
     questions: &[u64],
     index: &[u64],
     records: &mut [u64],
     first: usize,
     work: &mut [i64],
-) -> Filled
+) -> TreeFill
     requires { ⌜ Index (λ e. nameKey (nameAt (now s) (now questions) e)) (now index) × (length (now index) < 2 ^ 62) ⌝ }
-    requires { ⌜ (lines ≡ length (linesAt (now s) at .items)) × (0 < lines) × (needed ≡ recordsOf (linesAt (now s) at .items)) ⌝ }
-    requires { ⌜ (first + 4 * needed ≤ length (now records)) × (6 * lines ≤ length (now work)) ⌝ }
-    ensures { λ r. ⌜ (r ≡ linesResult (now (s .entry)) (now (questions .entry)) (length (now (index .entry))) (linesAt (now (s .entry)) at .items) .ends) × (now (records .exit) ≡ sets (now (records .entry)) first (linesResult (now (s .entry)) (now (questions .entry)) (length (now (index .entry))) (linesAt (now (s .entry)) at .items) .rows)) × (now (work .exit) ≡ sets (now (work .entry)) 0 (lineWords (now (s .entry)) (now (questions .entry)) (length (now (index .entry))) (linesAt (now (s .entry)) at .items))) ⌝ }
+    requires { ⌜ linesAt (now s) at .ending ≡ doneAt (linesEnd (now s) at) ⌝ }
+    requires { ⌜ (first + 4 * recordsOf (linesAt (now s) at .items) ≤ length (now records)) × (6 * length (linesAt (now s) at .items) ≤ length (now work)) ⌝ }
+    ensures { λ r. ⌜ (r .filled ≡ linesResult (now (s .entry)) (now (questions .entry)) (length (now (index .entry))) (linesAt (now (s .entry)) at .items) .ends) × (r .next ≡ linesEnd (now (s .entry)) at) × (now (records .exit) ≡ sets (now (records .entry)) first (linesResult (now (s .entry)) (now (questions .entry)) (length (now (index .entry))) (linesAt (now (s .entry)) at .items) .rows)) × (now (work .exit) ≡ sets (now (work .entry)) 0 (lineWords (now (s .entry)) (now (questions .entry)) (length (now (index .entry))) (linesAt (now (s .entry)) at .items))) ⌝ }
 {
-    fill_lines(s, at, questions, index, work);
-    match single_of(s, at, lines) {
-        Single::One(reference) => fill_leaf(records, first, reference),
-        Single::Several => link_lines(work, lines, needed, records, first),
+    match fill_lines(s, at, questions, index, work) {
+        LineCount::Counted { lines, pdfs, next } => match single_of(s, at, lines) {
+            Single::One(reference) => TreeFill {
+                filled: fill_leaf(records, first, reference),
+                next,
+            },
+            Single::Several => TreeFill {
+                filled: link_lines(work, lines, lines + pdfs, records, first),
+                next,
+            },
+        },
+        // never, of lines that can be read
+        LineCount::Broken => TreeFill {
+            filled: Filled::LoneNode,
+            next: at,
+        },
     }
 }

@@ -2,19 +2,19 @@
 -- records of four words, and what is left in the work. Assumes nothing.
 use mathlib.Core.Path.{_≡_}
 use mathlib.Core.List.{List, [], _∷_, _++_}
-use Prim.Native.Nat.{ℕ, suc, _+_, _<_}
+use Prim.Native.Nat.{ℕ, suc, _+_}
 use lib.IntN.{ℤ}
 use lib.ListN.{length}
 use lib.Seq.{sets}
+use Rattle.laws.specs.Steps.{doneAt}
 use Rattle.tree_reference.specs.declared.TreeIndex.{TreeIndex}
 use Rattle.tree_line.specs.Lines.{linesAt}
 use Rattle.tree.specs.Trees.{Body, lone, braces, Tree}
 use Rattle.tree.specs.declared.TreeHead.{TreeHead}
 use Rattle.tree.specs.declared.TreeHead.the-variants.{Lone, Empty, Lines, NoTree}
-use Rattle.line_survey.specs.Counts.{recordsOf}
 use Rattle.link_refs.specs.Lines.{natOf}
 use Rattle.model_lines.specs.Words.{lineWords}
-use Rattle.model_tree.specs.Bodies.{Result, bodyResult}
+use Rattle.model_tree.specs.Bodies.{Result, bodyResult, linesEnd}
 use Rattle.model_tree.specs.declared.Filled.{Filled}
 use Rattle.model_tree.specs.declared.Filled.the-variants as filled
 use Rattle.model_trees.specs.declared.Linked.{Linked}
@@ -34,11 +34,18 @@ headBody s (Empty x e) = braces []
 headBody s (Lines x f) = braces (linesAt s f .items)
 headBody s NoTree = braces []
 
--- a tree of n lines that needs m records
-pub data Sized (s : List ℕ) : TreeHead → ℕ → ℕ → Type 0 where
-  leaf : {x : ℤ} {r : TreeIndex} {e : ℕ} → Sized s (Lone x r e) 0 1
-  empty : {x : ℤ} {e : ℕ} → Sized s (Empty x e) 0 0
-  lines : {x : ℤ} {f n m : ℕ} → n ≡ length (linesAt s f .items) → 0 < n → m ≡ recordsOf (linesAt s f .items) → Sized s (Lines x f) n m
+-- the place past its body
+abbrev pub headEnd : List ℕ → TreeHead → ℕ
+headEnd s (Lone x r e) = e
+headEnd s (Empty x e) = e
+headEnd s (Lines x f) = linesEnd s f
+headEnd s NoTree = 0
+
+-- a tree whose lines can be read
+pub data Whole (s : List ℕ) : TreeHead → Type 0 where
+  leaf : {x : ℤ} {r : TreeIndex} {e : ℕ} → Whole s (Lone x r e)
+  empty : {x : ℤ} {e : ℕ} → Whole s (Empty x e)
+  lines : {x : ℤ} {f : ℕ} → linesAt s f .ending ≡ doneAt (linesEnd s f) → Whole s (Lines x f)
 
 -- ---- one tree
 

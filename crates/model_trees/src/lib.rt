@@ -1,26 +1,29 @@
 // After model/mod.rs, `parse_model` and `convert_tree`: the tree rows and the records of all trees of a text, into lent tables
-// (01, 'Linking and tables'). The first tree that linking refuses ends it. A text that doesn't fit gives the rows of the trees before the fault.
+// (01, 'Linking and tables'). The first tree that linking refuses ends it. The text is known to be in the grammar, so that no tree is surveyed once more
+// before it is filled.
 // Assumes nothing.
 use link_refs::natural;
 use model_tree::Filled;
+use model_tree::TreeFill;
 use model_tree::fill_braces;
 use model_tree::fill_leaf;
 use tables::put4;
 use tree::TreeHead;
+use tree::TreeStep;
+use tree::after_tree;
 use tree::tree_head;
-use tree_survey::TreeSurvey;
-use tree_survey::survey_tree;
 ghost use mathlib.Core.Path.{_≡_};
 ghost use Prim.Native.Nat.{_+_, _*_, _≤_, _<_, _^_};
 ghost use lib.ListN.{length};
 ghost use lib.Seq.{sets};
+ghost use Rattle.laws.specs.Steps.{doneAt};
 ghost use Rattle.laws.specs.Totals.{total, largest};
 ghost use Rattle.order.specs.Keys.{nameKey, nameAt};
 ghost use Rattle.search.specs.Index.{Index};
 ghost use Rattle.tree.specs.Trees.{headAt, treesAt};
-ghost use Rattle.tree_survey.specs.Survey.{treeRecords, treeLines};
+ghost use Rattle.tree_survey.specs.Survey.{bodyRecords, bodyLines, treeRecords, treeLines};
 ghost use Rattle.model_tree.specs.Bodies.{bodyResult};
-ghost use Rattle.model_trees.specs.Trees.{headState, headBody, Sized, rowWords, workOf, endedAt, treesEnd, treeWords, recordWords, workAfter};
+ghost use Rattle.model_trees.specs.Trees.{headState, headBody, headEnd, Whole, rowWords, workOf, endedAt, treesEnd, treeWords, recordWords, workAfter};
 
 // How linking ends: all trees have their records; or the first that is refused, and the line.
 pub enum Linked {
@@ -49,46 +52,43 @@ fn state_of(head: TreeHead) -> u64
 fn fill_body(
     s: &[u8],
     head: TreeHead,
-    lines: usize,
-    needed: usize,
     questions: &[u64],
     index: &[u64],
     records: &mut [u64],
     first: usize,
     work: &mut [i64],
-) -> Filled
+) -> TreeFill
     requires { ⌜ Index (λ e. nameKey (nameAt (now s) (now questions) e)) (now index) × (length (now index) < 2 ^ 62) ⌝ }
-    requires { ⌜ Sized (now s) head lines needed ⌝ }
-    requires { ⌜ (4 * first + 4 * needed ≤ length (now records)) × (6 * lines ≤ length (now work)) ⌝ }
-    ensures { λ r. ⌜ (r ≡ bodyResult (now (s .entry)) (now (questions .entry)) (length (now (index .entry))) (headBody (now (s .entry)) head) .ends) × (now (records .exit) ≡ sets (now (records .entry)) (4 * first) (bodyResult (now (s .entry)) (now (questions .entry)) (length (now (index .entry))) (headBody (now (s .entry)) head) .rows)) × (now (work .exit) ≡ workOf (now (s .entry)) (now (questions .entry)) (length (now (index .entry))) (now (work .entry)) (headBody (now (s .entry)) head)) ⌝ }
+    requires { ⌜ Whole (now s) head ⌝ }
+    requires { ⌜ (4 * first + 4 * bodyRecords (headBody (now s) head) ≤ length (now records)) × (6 * bodyLines (headBody (now s) head) ≤ length (now work)) ⌝ }
+    ensures { λ r. ⌜ (r .filled ≡ bodyResult (now (s .entry)) (now (questions .entry)) (length (now (index .entry))) (headBody (now (s .entry)) head) .ends) × (r .next ≡ headEnd (now (s .entry)) head) × (now (records .exit) ≡ sets (now (records .entry)) (4 * first) (bodyResult (now (s .entry)) (now (questions .entry)) (length (now (index .entry))) (headBody (now (s .entry)) head) .rows)) × (now (work .exit) ≡ workOf (now (s .entry)) (now (questions .entry)) (length (now (index .entry))) (now (work .entry)) (headBody (now (s .entry)) head)) ⌝ }
 {
     match head {
         TreeHead::Lone {
             state: _,
             index: reference,
-            next: _,
-        } => fill_leaf(records, 4 * first, reference),
-        TreeHead::Empty { state: _, next: _ } => Filled::Done {
-            records: 0,
-            lines: 0,
+            next,
+        } => TreeFill {
+            filled: fill_leaf(records, 4 * first, reference),
+            next,
+        },
+        TreeHead::Empty { state: _, next } => TreeFill {
+            filled: Filled::Done {
+                records: 0,
+                lines: 0,
+            },
+            next,
         },
         TreeHead::Lines {
             state: _,
             first: at,
-        } => fill_braces(
-            s,
-            at,
-            lines,
-            needed,
-            questions,
-            index,
-            records,
-            4 * first,
-            work,
-        ),
-        TreeHead::NoTree => Filled::Done {
-            records: 0,
-            lines: 0,
+        } => fill_braces(s, at, questions, index, records, 4 * first, work),
+        TreeHead::NoTree => TreeFill {
+            filled: Filled::Done {
+                records: 0,
+                lines: 0,
+            },
+            next: 0,
         },
     }
 }
@@ -97,8 +97,6 @@ fn fill_body(
 fn fill_tree(
     s: &[u8],
     at: usize,
-    lines: usize,
-    needed: usize,
     questions: &[u64],
     index: &[u64],
     trees: &mut [u64],
@@ -106,25 +104,16 @@ fn fill_tree(
     records: &mut [u64],
     first: usize,
     work: &mut [i64],
-) -> Filled
+) -> TreeFill
     requires { ⌜ Index (λ e. nameKey (nameAt (now s) (now questions) e)) (now index) × (length (now index) < 2 ^ 62) ⌝ }
-    requires { ⌜ Sized (now s) (headAt (now s) at) lines needed ⌝ }
-    requires { ⌜ (4 * row + 4 ≤ length (now trees)) × (4 * first + 4 * needed ≤ length (now records)) × (6 * lines ≤ length (now work)) ⌝ }
-    ensures { λ r. ⌜ (r ≡ bodyResult (now (s .entry)) (now (questions .entry)) (length (now (index .entry))) (headBody (now (s .entry)) (headAt (now (s .entry)) at)) .ends) × (now (trees .exit) ≡ sets (now (trees .entry)) (4 * row) (rowWords (headState (headAt (now (s .entry)) at)) first r)) × (now (records .exit) ≡ sets (now (records .entry)) (4 * first) (bodyResult (now (s .entry)) (now (questions .entry)) (length (now (index .entry))) (headBody (now (s .entry)) (headAt (now (s .entry)) at)) .rows)) × (now (work .exit) ≡ workOf (now (s .entry)) (now (questions .entry)) (length (now (index .entry))) (now (work .entry)) (headBody (now (s .entry)) (headAt (now (s .entry)) at))) ⌝ }
+    requires { ⌜ Whole (now s) (headAt (now s) at) ⌝ }
+    requires { ⌜ (4 * row + 4 ≤ length (now trees)) × (4 * first + 4 * bodyRecords (headBody (now s) (headAt (now s) at)) ≤ length (now records)) × (6 * bodyLines (headBody (now s) (headAt (now s) at)) ≤ length (now work)) ⌝ }
+    ensures { λ r. ⌜ (r .filled ≡ bodyResult (now (s .entry)) (now (questions .entry)) (length (now (index .entry))) (headBody (now (s .entry)) (headAt (now (s .entry)) at)) .ends) × (r .next ≡ headEnd (now (s .entry)) (headAt (now (s .entry)) at)) × (now (trees .exit) ≡ sets (now (trees .entry)) (4 * row) (rowWords (headState (headAt (now (s .entry)) at)) first (r .filled))) × (now (records .exit) ≡ sets (now (records .entry)) (4 * first) (bodyResult (now (s .entry)) (now (questions .entry)) (length (now (index .entry))) (headBody (now (s .entry)) (headAt (now (s .entry)) at)) .rows)) × (now (work .exit) ≡ workOf (now (s .entry)) (now (questions .entry)) (length (now (index .entry))) (now (work .entry)) (headBody (now (s .entry)) (headAt (now (s .entry)) at))) ⌝ }
 {
     let head = tree_head(s, at);
     let state = state_of(head);
-    let filled = fill_body(
-        s,
-        head,
-        lines,
-        needed,
-        questions,
-        index,
-        records,
-        first,
-        work,
-    );
+    let t = fill_body(s, head, questions, index, records, first, work);
+    let filled = t.filled;
     match filled {
         Filled::Done {
             records: m,
@@ -136,7 +125,7 @@ fn fill_tree(
         Filled::QuestionRef(_) => {}
         Filled::LoneNode => {}
     }
-    filled
+    t
 }
 
 // How linking ends where tree `row` is the last.
@@ -165,6 +154,7 @@ pub fn fill_trees(
     work: &mut [i64],
 ) -> Linked
     requires { ⌜ Index (λ e. nameKey (nameAt (now s) (now questions) e)) (now index) × (length (now index) < 2 ^ 62) ⌝ }
+    requires { ⌜ treesAt (now s) at .ending ≡ doneAt (length (now s)) ⌝ }
     requires { ⌜ (4 * length (treesAt (now s) at .items) ≤ length (now trees)) × (4 * total treeRecords (treesAt (now s) at .items) ≤ length (now records)) × (6 * largest treeLines 0 (treesAt (now s) at .items) ≤ length (now work)) ⌝ }
     ensures { λ r. ⌜ (r ≡ treesEnd (now (s .entry)) (now (questions .entry)) (length (now (index .entry))) 0 (treesAt (now (s .entry)) at .items)) × (now (trees .exit) ≡ sets (now (trees .entry)) 0 (treeWords (now (s .entry)) (now (questions .entry)) (length (now (index .entry))) 0 (treesAt (now (s .entry)) at .items))) × (now (records .exit) ≡ sets (now (records .entry)) 0 (recordWords (now (s .entry)) (now (questions .entry)) (length (now (index .entry))) (treesAt (now (s .entry)) at .items))) × (now (work .exit) ≡ workAfter (now (s .entry)) (now (questions .entry)) (length (now (index .entry))) (now (work .entry)) (treesAt (now (s .entry)) at .items)) ⌝ }
 {
@@ -172,70 +162,36 @@ pub fn fill_trees(
     let mut row = 0;
     let mut first = 0;
     loop {
-        match survey_tree(s, i) {
-            TreeSurvey::Next {
-                negative: _,
-                records: needed,
-                lines,
-                next,
-            } => {
-                let filled = fill_tree(
-                    s,
-                    i,
-                    lines,
-                    needed,
-                    questions,
-                    index,
-                    trees,
-                    row,
-                    records,
-                    first,
-                    work,
-                );
-                match filled {
-                    Filled::Done {
-                        records: m,
-                        lines: _,
-                    } => {
-                        first = first + m;
-                        row = row + 1;
-                        i = next;
-                    }
-                    Filled::NodeRef(_) => {
-                        return ended(row, filled);
-                    }
-                    Filled::QuestionRef(_) => {
-                        return ended(row, filled);
-                    }
-                    Filled::LoneNode => {
-                        return ended(row, filled);
-                    }
+        let t = fill_tree(
+            s, i, questions, index, trees, row, records, first, work,
+        );
+        let filled = t.filled;
+        match filled {
+            Filled::Done {
+                records: m,
+                lines: _,
+            } => match after_tree(s, t.next) {
+                TreeStep::Next(next) => {
+                    first = first + m;
+                    row = row + 1;
+                    i = next;
                 }
+                TreeStep::End => {
+                    return Linked::Done;
+                }
+                // never, of a text in the grammar
+                TreeStep::Broken(_) => {
+                    return Linked::Done;
+                }
+            },
+            Filled::NodeRef(_) => {
+                return ended(row, filled);
             }
-            TreeSurvey::Last {
-                negative: _,
-                records: needed,
-                lines,
-            } => {
-                return ended(
-                    row,
-                    fill_tree(
-                        s,
-                        i,
-                        lines,
-                        needed,
-                        questions,
-                        index,
-                        trees,
-                        row,
-                        records,
-                        first,
-                        work,
-                    ),
-                );
+            Filled::QuestionRef(_) => {
+                return ended(row, filled);
             }
-            TreeSurvey::Broken(_) => {
-                return Linked::Done;
+            Filled::LoneNode => {
+                return ended(row, filled);
             }
         }
     }
