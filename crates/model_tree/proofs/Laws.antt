@@ -16,8 +16,10 @@ use Rattle.tree_reference.specs.declared.TreeIndex.the-variants.{Node, Pdf}
 use Rattle.tree_line.specs.Lines.{lineStepAt, linesAt}
 use Rattle.tree_line.specs.declared.Line.{Line}
 use Rattle.tree_line.specs.declared.LineStep.the-variants as answer
-use Rattle.line_survey.specs.Counts.{linePdfs, recordsOf}
-use Rattle.line_survey.proofs.Counting.{items-next, items-last, items-broken}
+use Rattle.laws.specs.Steps.{doneAt, brokenAt}
+use Rattle.line_survey.specs.Counts.{linePdfs, recordsOf, linesCounted}
+use Rattle.line_survey.specs.declared.LineCount.the-variants as count
+use Rattle.line_survey.proofs.Counting.{items-next, items-last, items-broken, counted, not-counted, lines-some}
 use Rattle.link_refs.specs.Lines.{linesFrom, pdfsOf}
 use Rattle.link.specs.Linked.{linkOutcome, linkedRows, rowsAfter, Linking}
 use Rattle.link.specs.declared.Link.{Link}
@@ -27,7 +29,7 @@ use Rattle.link.proofs.Local.{Agree, outcome-same, rows-same, pdfs-same}
 use Rattle.model_lines.specs.Words.{askedAt, lineWords}
 use Rattle.model_lines.proofs.Decoded.{workLine, words-length, decode, pdfs-count}
 use Rattle.tree.specs.Trees.{lone}
-use Rattle.model_tree.specs.Bodies.{Result, leafResult, linkEnds, linkResult, linesResult, bodyResult, singleOf}
+use Rattle.model_tree.specs.Bodies.{Result, leafResult, linkEnds, linkResult, linesResult, bodyResult, placeOf, linesEnd, singleOf}
 use Rattle.model_tree.specs.declared.Filled.{Filled}
 use Rattle.model_tree.specs.declared.Filled.the-variants as filled
 use Rattle.model_tree.specs.declared.Single.{Single}
@@ -147,6 +149,30 @@ module _ (s questions : List ℕ) (nq : ℕ) (ls : List Line) where
         ap₂ (λ o r. record { ends = linkEnds (length ls) m o; rows = rowsAfter o r (4 * m) })
         (outcome-same (length ls) (sets work 0 (lineWords s questions nq ls)) (lineWords s questions nq ls) agree)
         (rows-same (length ls) (sets work 0 (lineWords s questions nq ls)) (lineWords s questions nq ls) agree)
+
+-- ---- lines that were counted: n of them, with k PDF references, up to e
+
+module _ (s : List ℕ) (at : ℕ) {n k e : ℕ} (h : count.Counted n k e ≡ linesCounted 0 0 (linesAt s at)) where
+  pub counted-lines : n ≡ length (linesAt s at .items)
+  counted-lines = sym (counted s at n k e h .lines)
+
+  pub counted-some : 0 < n
+  counted-some = omega (arith, lines-some s at e (counted s at n k e h .done), counted-lines)
+
+  pub counted-end : e ≡ linesEnd s at
+  counted-end = sym (ap placeOf (counted s at n k e h .done))
+
+  pub counted-needed : Several ≡ singleOf (linesAt s at .items) → n + k ≡ recordsOf (linesAt s at .items)
+  counted-needed q =
+      let d = counted s at n k e h in
+      omega (arith, several-result s [] 0 (linesAt s at .items) (omega (arith, counted-some, counted-lines)) (sym q) .1, d .lines, d .pdfs)
+
+-- lines that can be read are counted
+pub counted-always : (s : List ℕ) (at : ℕ) {e : ℕ} → count.Broken ≡ linesCounted 0 0 (linesAt s at) → linesAt s at .ending ≡ doneAt e → {A : Type 0} → A
+counted-always s at {e} h d =
+    let x = not-counted s at h in
+    let v : brokenAt (x .0) ≡ doneAt e = sym (x .1) ∙ d in
+    let u : _≡_ {A = ℕ} 0 1 = cc in absurd (omega arith)
 
 -- ---- what `fill_braces` knows of a tree of n lines that needs m records
 
