@@ -8,47 +8,49 @@ use lib.ListN.{length}
 use lib.Seq.{sets, length-sets}
 use Rattle.tree_reference.specs.declared.TreeIndex.{TreeIndex}
 use Rattle.tree_line.specs.Lines.{linesAt}
-use Rattle.line_survey.specs.Counts.{recordsOf}
+use Rattle.laws.specs.Steps.{doneAt}
 use Rattle.tree.specs.declared.TreeHead.{TreeHead}
 use Rattle.tree.specs.declared.TreeHead.the-variants.{Lone, Empty, Lines, NoTree}
 use Rattle.model_lines.specs.Words.{lineWords}
-use Rattle.model_tree.specs.Bodies.{bodyResult}
+use Rattle.tree_survey.specs.Survey.{bodyRecords, bodyLines}
+use Rattle.model_tree.specs.Bodies.{bodyResult, linesEnd}
 use Rattle.model_tree.specs.declared.Filled.{Filled}
 use Rattle.model_tree.specs.declared.Filled.the-variants.{Done}
-use Rattle.model_trees.specs.Trees.{headState, headBody, Sized, leaf, empty, lines, rowWords, workOf}
+use Rattle.model_trees.specs.Trees.{headState, headBody, headEnd, Whole, leaf, empty, lines, rowWords, workOf}
 
 module _ (s : List ℕ) where
-  -- ---- what a tree's size says of each head
+  -- ---- a tree whose lines can be read, by its head
 
-  pub sized-leaf : {t : TreeHead} {n m : ℕ} → Sized s t n m → {x : ℤ} {r : TreeIndex} {e : ℕ} → t ≡ Lone x r e → m ≡ 1
-  sized-leaf leaf q = refl
-  sized-leaf empty q = let u : _≡_ {A = ℕ} 0 1 = cc in absurd (omega arith)
-  sized-leaf (lines a b d) q = let u : _≡_ {A = ℕ} 0 1 = cc in absurd (omega arith)
+  pub whole-lines : {t : TreeHead} → Whole s t → {x : ℤ} {f : ℕ} → t ≡ Lines x f → linesAt s f .ending ≡ doneAt (linesEnd s f)
+  whole-lines leaf q = let u : _≡_ {A = ℕ} 0 1 = cc in absurd (omega arith)
+  whole-lines empty q = let u : _≡_ {A = ℕ} 0 1 = cc in absurd (omega arith)
+  whole-lines (lines {f = g} d) {f = f} q =
+      let u : g ≡ f = cc in subst (λ (k : ℕ). linesAt s k .ending ≡ doneAt (linesEnd s k)) u d
 
-  pub sized-lines : {t : TreeHead} {n m : ℕ} → Sized s t n m → {x : ℤ} {f : ℕ} → t ≡ Lines x f → (n ≡ length (linesAt s f .items)) × (0 < n) × (m ≡ recordsOf (linesAt s f .items))
-  sized-lines leaf q = let u : _≡_ {A = ℕ} 0 1 = cc in absurd (omega arith)
-  sized-lines empty q = let u : _≡_ {A = ℕ} 0 1 = cc in absurd (omega arith)
-  sized-lines (lines {f = g} a b d) {f = f} q =
-      let u : g ≡ f = cc in
-      (a ∙ ap (λ (k : ℕ). length (linesAt s k .items)) u, b, d ∙ ap (λ (k : ℕ). recordsOf (linesAt s k .items)) u)
+  -- room for r records from first on and for l lines
+  abbrev Room : ℕ → ℕ → ℕ → TreeHead → Type 0
+  Room first r l t = (4 * first + 4 * bodyRecords (headBody s t) ≤ r) × (6 * bodyLines (headBody s t) ≤ l)
+
+  pub room-by : (first r l : ℕ) {t u : TreeHead} → t ≡ u → Room first r l t → Room first r l u
+  room-by first r l e p = subst (Room first r l) e p
 
   -- ---- what a tree's body gives, by its head
 
-  module _ (questions : List ℕ) (n : ℕ) (records : List ℕ) (k : ℕ) (work : List ℤ) where
-    abbrev pub Given : TreeHead → Filled → List ℕ → List ℤ → Type 0
-    Given t r records₁ work₁ =
-        (r ≡ bodyResult s questions n (headBody s t) .ends) × (records₁ ≡ sets records k (bodyResult s questions n (headBody s t) .rows)) × (work₁ ≡ workOf s questions n work (headBody s t))
+  module _ (questions : List ℕ) (n : ℕ) (records : List ℕ) (place : ℕ) (work : List ℤ) where
+    abbrev pub Given : TreeHead → Filled → ℕ → List ℕ → List ℤ → Type 0
+    Given t r e records₁ work₁ =
+        (r ≡ bodyResult s questions n (headBody s t) .ends) × (e ≡ headEnd s t) × (records₁ ≡ sets records place (bodyResult s questions n (headBody s t) .rows)) × (work₁ ≡ workOf s questions n work (headBody s t))
 
-    pub by-head : {t u : TreeHead} {r : Filled} {records₁ : List ℕ} {work₁ : List ℤ} → t ≡ u → Given u r records₁ work₁ → Given t r records₁ work₁
-    by-head {r = r} {records₁ = records₁} {work₁ = work₁} e p = subst (λ t. Given t r records₁ work₁) (sym e) p
+    pub by-head : {t u : TreeHead} {r : Filled} {k : ℕ} {records₁ : List ℕ} {work₁ : List ℤ} → t ≡ u → Given u r k records₁ work₁ → Given t r k records₁ work₁
+    by-head {r = r} {k = k} {records₁ = records₁} {work₁ = work₁} e p = subst (λ t. Given t r k records₁ work₁) (sym e) p
 
-    pub empty-head : {t : TreeHead} {x : ℤ} {e : ℕ} → t ≡ Empty x e → Given t (Done 0 0) records work
+    pub empty-head : {t : TreeHead} {x : ℤ} {e : ℕ} → t ≡ Empty x e → Given t (Done 0 0) e records work
     unfolding lineWords
-    empty-head q = by-head q (refl, refl, refl)
+    empty-head q = by-head q (refl, refl, refl, refl)
 
-    pub no-head : {t : TreeHead} → t ≡ NoTree → Given t (Done 0 0) records work
+    pub no-head : {t : TreeHead} → t ≡ NoTree → Given t (Done 0 0) 0 records work
     unfolding lineWords
-    no-head q = by-head q (refl, refl, refl)
+    no-head q = by-head q (refl, refl, refl, refl)
 
 -- ---- a tree's row
 

@@ -13,26 +13,23 @@ use Rattle.laws.specs.Steps.{Ending, doneAt, brokenAt, Step, next, last, broken
 use Rattle.laws.specs.Totals.{total, larger, largest}
 use Rattle.laws.proofs.Tables.{sets-append}
 use Rattle.tree_line.specs.Lines.{linesAt}
-use Rattle.line_survey.specs.Counts.{recordsOf}
-use Rattle.line_survey.proofs.Counting.{lines-some}
 use Rattle.tree.specs.Trees.{Body, lone, braces, Tree, headAt, afterTree, treeFollowed, treeRead, treeHeaded, treeStepAt, treesAt}
 use Rattle.tree.specs.declared.TreeHead.{TreeHead}
 use Rattle.tree.specs.declared.TreeHead.the-variants as head
 use Rattle.tree.specs.declared.TreeStep.{TreeStep}
 use Rattle.tree.specs.declared.TreeStep.the-variants as after
 use Rattle.tree.proofs.Filling.{trees-are}
-use Rattle.tree_survey.specs.Survey.{bodyRecords, bodyLines, treeRecords, treeLines, treeSurveyed}
-use Rattle.tree_survey.specs.declared.TreeSurvey.the-variants as surveyed
-use Rattle.tree_survey.proofs.Counting.{Seen, seen-next, seen-last, seen-broken, more-in}
+use Rattle.tree_survey.specs.Survey.{bodyRecords, bodyLines, treeRecords, treeLines}
+use Rattle.tree_survey.proofs.Counting.{step-next}
 use Rattle.link_refs.specs.Lines.{natOf}
 use Rattle.model_lines.specs.Words.{lineWords}
-use Rattle.model_tree.specs.Bodies.{Result, bodyResult}
+use Rattle.model_tree.specs.Bodies.{Result, bodyResult, placeOf, linesEnd}
 use Rattle.model_tree.specs.declared.Filled.{Filled}
 use Rattle.model_tree.specs.declared.Filled.the-variants as filled
 use Rattle.model_tree.proofs.Laws.{lines-size, lone-size}
 use Rattle.model_trees.specs.declared.Linked.{Linked}
 use Rattle.model_trees.specs.declared.Linked.the-variants.{Done}
-use Rattle.model_trees.specs.Trees.{headState, headBody, Sized, leaf, empty, lines, rowWords, workOf, endedAt, thenRest, treesEnd, treeWords, recordWords, workAfter}
+use Rattle.model_trees.specs.Trees.{headState, headBody, headEnd, Whole, leaf, empty, lines, rowWords, workOf, endedAt, thenRest, treesEnd, treeWords, recordWords, workAfter}
 
 -- ---- the largest of a list
 
@@ -83,71 +80,102 @@ module _ {A : Type 0} (w : A → ℕ) where
 -- ---- one tree, by the step that reads it
 
 module _ (s : List ℕ) where
-  pub record Facts (i : ℕ) (t : Tree) : Type 0 where
-    pub body : t .body ≡ headBody s (headAt s i)
-    pub state : natOf (t .state) ≡ headState (headAt s i)
-    pub sized : Sized s (headAt s i) (treeLines t) (treeRecords t)
-
-  abbrev Sees : ℕ → Step Tree → Type 0
-  Sees i (next t j) = Facts i t
-  Sees i (last t j) = Facts i t
-  Sees i (broken j) = Unit {0}
-
-  sees : (i : ℕ) → Sees i (treeStepAt s i)
-  unfolding treeStepAt recordsOf
-  sees i = go (headAt s i) refl
-    where
-      followed : (t : Tree) → Facts i t → (a : TreeStep) → Sees i (treeFollowed s t a)
-      followed t f (after.Next j) = f
-      followed t f after.End = f
-      followed t f (after.Broken j) = tt
-
-      made : {t : Tree} {h : TreeHead} → headAt s i ≡ h → t .body ≡ headBody s h → natOf (t .state) ≡ headState h → Sized s h (treeLines t) (treeRecords t) → Facts i t
-      made {t} e b x z =
-          record {
-            body = b ∙ sym (ap (headBody s) e);
-            state = x ∙ sym (ap headState e);
-            sized = subst (λ (h : TreeHead). Sized s h (treeLines t) (treeRecords t)) (sym e) z;
-          }
-
-      go : (h : TreeHead) → headAt s i ≡ h → Sees i (treeHeaded s i h)
-      go (head.Lone x r e) q = followed _ (made q refl refl leaf) (afterTree s e)
-      go (head.Empty x e) q = followed _ (made q refl refl empty) (afterTree s e)
-      go (head.Lines x f) q = read (linesAt s f .ending) refl
-        where
-          read : (d : Ending) → linesAt s f .ending ≡ d → Sees i (treeRead s i x (linesAt s f .items) d)
-          read (doneAt e) h = followed _ (made q refl refl (lines refl (lines-some s f e h) refl)) (afterTree s e)
-          read (brokenAt e) h = tt
-      go head.NoTree q = tt
-
   abbrev pub items : ℕ → List Tree
   items i = treesAt s i .items
 
-  -- the tree at i needs m records and has n lines; the others stand from j on
-  pub record Went (i m n : ℕ) (rest : List Tree) : Type 0 where
+  -- reading the trees from i on comes to the end of the text
+  abbrev pub Through : ℕ → Type 0
+  Through i = treesAt s i .ending ≡ doneAt (length s)
+
+  pub record Facts (i : ℕ) (t : Tree) : Type 0 where
+    pub body : t .body ≡ headBody s (headAt s i)
+    pub state : natOf (t .state) ≡ headState (headAt s i)
+    pub whole : Whole s (headAt s i)
+    pub follows : treeStepAt s i ≡ treeFollowed s t (afterTree s (headEnd s (headAt s i)))
+
+  -- no step is broken on the way to the end
+  never : (i : ℕ) {j : ℕ} → Through i → treeStepAt s i ≡ broken j → {A : Type 0} → A
+  never i {j} z e =
+      let v : brokenAt j ≡ doneAt (length s) = sym (ap (λ (r : Reading Tree). r .ending) (trees-are s i ∙ ap (readOf (treesAt s)) e)) ∙ z in
+      let u : _≡_ {A = ℕ} 0 1 = cc in absurd (omega arith)
+
+  stands : (i : ℕ) → Through i → (t : Tree) × Facts i t
+  unfolding treeStepAt
+  stands i z = go (headAt s i) refl
+    where
+      made : (t : Tree) {h : TreeHead} → headAt s i ≡ h → t .body ≡ headBody s h → natOf (t .state) ≡ headState h → Whole s h
+          → treeHeaded s i (headAt s i) ≡ treeFollowed s t (afterTree s (headEnd s h)) → Facts i t
+      made t e b x w f =
+          record {
+            body = b ∙ sym (ap (headBody s) e);
+            state = x ∙ sym (ap headState e);
+            whole = subst (Whole s) (sym e) w;
+            follows = f ∙ sym (ap (λ (h : TreeHead). treeFollowed s t (afterTree s (headEnd s h))) e);
+          }
+
+      go : (h : TreeHead) → headAt s i ≡ h → (t : Tree) × Facts i t
+      go (head.Lone x r e) q = let t : Tree = record { star = i; state = x; body = lone r } in (t, made t q refl refl leaf (ap (treeHeaded s i) q))
+      go (head.Empty x e) q = let t : Tree = record { star = i; state = x; body = braces [] } in (t, made t q refl refl empty (ap (treeHeaded s i) q))
+      go (head.Lines x f) q = read (linesAt s f .ending) refl
+        where
+          read : (d : Ending) → linesAt s f .ending ≡ d → (t : Tree) × Facts i t
+          read (doneAt e) h =
+              let t : Tree = record { star = i; state = x; body = braces (linesAt s f .items) } in
+              let u : linesEnd s f ≡ e = ap placeOf h in (
+                t,
+                made t q refl refl (lines (h ∙ ap doneAt (sym u)))
+                    (ap (treeHeaded s i) q ∙ ap (treeRead s i x (linesAt s f .items)) h ∙ ap (λ (k : ℕ). treeFollowed s t (afterTree s k)) (sym u)),
+              )
+          read (brokenAt e) h = never i z (ap (treeHeaded s i) q ∙ ap (treeRead s i x (linesAt s f .items)) h)
+      go head.NoTree q = never i z (ap (treeHeaded s i) q)
+
+  -- the tree at i, and those behind it
+  pub record Went (i : ℕ) : Type 0 where
     pub it : Tree
+    pub rest : List Tree
     pub all : items i ≡ it ∷ rest
     pub facts : Facts i it
-    pub sized : Sized s (headAt s i) n m
-    pub records : treeRecords it ≡ m
-    pub lines : treeLines it ≡ n
 
-  went-of : {i m n : ℕ} {rest : List Tree} (t : Tree) → items i ≡ t ∷ rest → Facts i t → treeRecords t ≡ m → treeLines t ≡ n → Went i m n rest
-  went-of {i} t a f x y =
-      record { it = t; all = a; facts = f; sized = subst (Sized s (headAt s i) _) x (subst (λ (k : ℕ). Sized s (headAt s i) k (treeRecords t)) y (f .sized)); records = x; lines = y }
+  steps-are : {i : ℕ} {t : Tree} {a : TreeStep} → Facts i t → a ≡ afterTree s (headEnd s (headAt s i)) → treesAt s i ≡ readOf (treesAt s) (treeFollowed s t a)
+  steps-are {i} {t} f e = trees-are s i ∙ ap (readOf (treesAt s)) (f .follows ∙ ap (treeFollowed s t) (sym e))
 
-  pub went-next : (i : ℕ) {b : Bool} {m n j : ℕ} → surveyed.Next b m n j ≡ treeSurveyed (treeStepAt s i) → Went i m n (items j)
-  went-next i {b} {m} {n} {j} h =
-      let r = seen-next s i b m n j h in
-      went-of (r .it) (ap (λ (r : Reading Tree). r .items) (trees-are s i ∙ ap (readOf (treesAt s)) (r .steps))) (subst (Sees i) (r .steps) (sees i)) (r .records) (r .lines)
+  pub went : (i : ℕ) → Through i → Went i
+  went i z = go (afterTree s (headEnd s (headAt s i))) refl
+    where
+      t : Tree
+      t = stands i z .0
 
-  pub went-last : (i : ℕ) {b : Bool} {m n : ℕ} → surveyed.Last b m n ≡ treeSurveyed (treeStepAt s i) → Went i m n []
-  went-last i {b} {m} {n} h =
-      let r = seen-last s i b m n h in
-      went-of (r .it) (ap (λ (r : Reading Tree). r .items) (trees-are s i ∙ ap (readOf (treesAt s)) (r .steps .1))) (subst (Sees i) (r .steps .1) (sees i)) (r .records) (r .lines)
+      f : Facts i t
+      f = stands i z .1
 
-  pub went-broken : (i : ℕ) {j : ℕ} → surveyed.Broken j ≡ treeSurveyed (treeStepAt s i) → items i ≡ []
-  went-broken i {j} h = ap (λ (r : Reading Tree). r .items) (trees-are s i ∙ ap (readOf (treesAt s)) (seen-broken s i j h))
+      all-are : {a : TreeStep} → a ≡ afterTree s (headEnd s (headAt s i)) → items i ≡ readOf (treesAt s) (treeFollowed s t a) .items
+      all-are e = ap (λ (r : Reading Tree). r .items) (steps-are f e)
+
+      go : (a : TreeStep) → a ≡ afterTree s (headEnd s (headAt s i)) → Went i
+      go (after.Next j) e = record { it = t; rest = items j; all = all-are e; facts = f }
+      go after.End e = record { it = t; rest = []; all = all-are e; facts = f }
+      go (after.Broken j) e = never i z (f .follows ∙ ap (treeFollowed s t) (sym e))
+
+  module _ {i : ℕ} (w : Went i) where
+    tail-is : {l : List Tree} → items i ≡ w .it ∷ l → w .rest ≡ l
+    tail-is {l} e = let u : w .it ∷ w .rest ≡ w .it ∷ l = sym (w .all) ∙ e in cc
+
+    -- another follows
+    module _ {j : ℕ} (e : after.Next j ≡ afterTree s (headEnd s (headAt s i))) where
+      pub went-next : w .rest ≡ items j
+      went-next = tail-is (ap (λ (r : Reading Tree). r .items) (steps-are (w .facts) e))
+
+      pub through-next : Through i → Through j
+      through-next z = sym (ap (λ (r : Reading Tree). r .ending) (steps-are (w .facts) e)) ∙ z
+
+      pub next-inside : (i < j) × (j ≤ length s)
+      next-inside = let z = step-next s i j (w .it) (w .facts .follows ∙ ap (treeFollowed s (w .it)) (sym e)) in (z .0, z .1)
+
+    pub went-last : after.End ≡ afterTree s (headEnd s (headAt s i)) → w .rest ≡ []
+    went-last e = tail-is (ap (λ (r : Reading Tree). r .items) (steps-are (w .facts) e))
+
+    pub went-never : {j : ℕ} → after.Broken j ≡ afterTree s (headEnd s (headAt s i)) → Through i → {A : Type 0} → A
+    went-never e z = never i z (w .facts .follows ∙ ap (treeFollowed s (w .it)) (sym e))
 
   -- ---- the tables meanwhile
 
@@ -157,13 +185,14 @@ module _ (s : List ℕ) where
     body-size (braces ls) h = lines-size s q n ls h
 
     -- what is stored of the tree at i
-    abbrev pub Stored : List ℕ → List ℕ → List ℤ → ℕ → ℕ → ℕ → Filled → List ℕ → List ℕ → List ℤ → Type 0
-    Stored trees records work i row first r trees₁ records₁ work₁ =
-        (r ≡ bodyResult s q n (headBody s (headAt s i)) .ends) × (trees₁ ≡ sets trees (4 * row) (rowWords (headState (headAt s i)) first r))
+    abbrev pub Stored : List ℕ → List ℕ → List ℤ → ℕ → ℕ → ℕ → Filled → ℕ → List ℕ → List ℕ → List ℤ → Type 0
+    Stored trees records work i row first r e trees₁ records₁ work₁ =
+        (r ≡ bodyResult s q n (headBody s (headAt s i)) .ends) × (e ≡ headEnd s (headAt s i)) × (trees₁ ≡ sets trees (4 * row) (rowWords (headState (headAt s i)) first r))
         × (records₁ ≡ sets records (4 * first) (bodyResult s q n (headBody s (headAt s i)) .rows)) × (work₁ ≡ workOf s q n work (headBody s (headAt s i)))
 
     module _ (at : ℕ) (trees₀ records₀ : List ℕ) (work₀ : List ℤ) where
       pub record Filling (trees records : List ℕ) (work : List ℤ) (i row first : ℕ) : Type 0 where
+        pub through : Through i
         pub long : length trees ≡ length trees₀
         pub long-records : length records ≡ length records₀
         pub long-work : length work ≡ length work₀
@@ -181,27 +210,33 @@ module _ (s : List ℕ) where
           (r ≡ treesEnd s q n 0 (items at)) × (trees ≡ sets trees₀ 0 (treeWords s q n 0 (items at))) × (records ≡ sets records₀ 0 (recordWords s q n (items at)))
           × (work ≡ workAfter s q n work₀ (items at))
 
-      pub filling-none : 4 * length (items at) ≤ length trees₀ → 4 * total treeRecords (items at) ≤ length records₀ → 6 * largest treeLines 0 (items at) ≤ length work₀ → Filling trees₀ records₀ work₀ at 0 0
-      filling-none a b c = record { long = refl; long-records = refl; long-work = refl; room = omega arith; room-records = omega arith; room-work = c; ends = refl; rows = refl; stored = refl; left = refl }
+      pub filling-none : Through at → 4 * length (items at) ≤ length trees₀ → 4 * total treeRecords (items at) ≤ length records₀ → 6 * largest treeLines 0 (items at) ≤ length work₀ → Filling trees₀ records₀ work₀ at 0 0
+      filling-none z a b c = record { through = z; long = refl; long-records = refl; long-work = refl; room = omega arith; room-records = omega arith; room-work = c; ends = refl; rows = refl; stored = refl; left = refl }
 
-      module _ (trees records : List ℕ) (work : List ℤ) (i row first : ℕ) (p : Filling trees records work i row first) {m l : ℕ} {rest : List Tree} (w : Went i m l rest) where
-        pub tree-room : (4 * row + 4 ≤ length trees) × (4 * first + 4 * m ≤ length records) × (6 * l ≤ length work)
+      module _ (trees records : List ℕ) (work : List ℤ) (i row first : ℕ) (p : Filling trees records work i row first) where
+        w : Went i
+        w = went i (p .through)
+
+        pub tree-room : (4 * row + 4 ≤ length trees) × (4 * first + 4 * bodyRecords (headBody s (headAt s i)) ≤ length records) × (6 * bodyLines (headBody s (headAt s i)) ≤ length work)
         unfolding total
         tree-room = (
           omega (arith, p .room, p .long, ap length (w .all)),
-          omega (arith, p .room-records, p .long-records, ap (total treeRecords) (w .all), w .records),
-          omega (arith, p .room-work, p .long-work, ap (largest treeLines 0) (w .all), largest-first treeLines (w .it) rest, w .lines),
+          omega (arith, p .room-records, p .long-records, ap (total treeRecords) (w .all), ap bodyRecords (w .facts .body)),
+          omega (arith, p .room-work, p .long-work, ap (largest treeLines 0) (w .all), largest-first treeLines (w .it) (w .rest), ap bodyLines (w .facts .body)),
         )
 
         same-body : bodyResult s q n (headBody s (headAt s i)) ≡ bodyResult s q n (w .it .body)
         same-body = sym (ap (bodyResult s q n) (w .facts .body))
 
-        module _ {r : Filled} {trees₁ records₁ : List ℕ} {work₁ : List ℤ} (e : Stored trees records work i row first r trees₁ records₁ work₁) where
+        pub tree-whole : Whole s (headAt s i)
+        tree-whole = w .facts .whole
+
+        module _ {r : Filled} {place : ℕ} {trees₁ records₁ : List ℕ} {work₁ : List ℤ} (e : Stored trees records work i row first r place trees₁ records₁ work₁) where
           pub same-lengths : (length trees₁ ≡ length trees₀) × (length records₁ ≡ length records₀) × (length work₁ ≡ length work₀)
           same-lengths = (
-            ap length (e .1) ∙ length-sets trees (4 * row) (rowWords (headState (headAt s i)) first r) ∙ p .long,
-            ap length (e .2) ∙ length-sets records (4 * first) (bodyResult s q n (headBody s (headAt s i)) .rows) ∙ p .long-records,
-            ap length (e .3) ∙ same (headBody s (headAt s i)) ∙ p .long-work,
+            ap length (e .2) ∙ length-sets trees (4 * row) (rowWords (headState (headAt s i)) first r) ∙ p .long,
+            ap length (e .3) ∙ length-sets records (4 * first) (bodyResult s q n (headBody s (headAt s i)) .rows) ∙ p .long-records,
+            ap length (e .4) ∙ same (headBody s (headAt s i)) ∙ p .long-work,
           )
             where
               same : (b : Body) → length (workOf s q n work b) ≡ length work
@@ -212,18 +247,20 @@ module _ (s : List ℕ) where
           ends-are = e .0 ∙ ap (λ (r : Result). r .ends) same-body
 
           rows-are : trees₁ ≡ sets trees (4 * row) (rowWords (natOf (w .it .state)) first (bodyResult s q n (w .it .body) .ends))
-          rows-are = e .1 ∙ ap₂ (λ (x : ℕ) (r : Filled). sets trees (4 * row) (rowWords x first r)) (sym (w .facts .state)) ends-are
+          rows-are = e .2 ∙ ap₂ (λ (x : ℕ) (r : Filled). sets trees (4 * row) (rowWords x first r)) (sym (w .facts .state)) ends-are
 
           records-are : records₁ ≡ sets records (4 * first) (bodyResult s q n (w .it .body) .rows)
-          records-are = e .2 ∙ ap (λ (r : Result). sets records (4 * first) (r .rows)) same-body
+          records-are = e .3 ∙ ap (λ (r : Result). sets records (4 * first) (r .rows)) same-body
 
           work-is : work₁ ≡ workOf s q n work (w .it .body)
-          work-is = e .3 ∙ sym (ap (workOf s q n work) (w .facts .body))
+          work-is = e .4 ∙ sym (ap (workOf s q n work) (w .facts .body))
 
           -- the tree has its records, and another follows
-          pub filling-more : {j a k : ℕ} → rest ≡ items j → r ≡ filled.Done a k → Filling trees₁ records₁ work₁ j (row + 1) (first + a)
+          pub filling-more : {j a k : ℕ} → after.Next j ≡ afterTree s place → r ≡ filled.Done a k → Filling trees₁ records₁ work₁ j (row + 1) (first + a)
           unfolding total treesEnd treeWords recordWords workAfter
-          filling-more {j} {a} {k} y d =
+          filling-more {j} {a} {k} f d =
+              let g : after.Next j ≡ afterTree s (headEnd s (headAt s i)) = f ∙ ap (afterTree s) (e .1) in
+              let y = went-next w g in
               let B = w .it .body in
               let R = bodyResult s q n B in
               let E : R .ends ≡ filled.Done a k = sym ends-are ∙ d in
@@ -234,6 +271,7 @@ module _ (s : List ℕ) where
               let all : items i ≡ w .it ∷ items j = w .all ∙ ap (w .it ∷_) y in
               let X = natOf (w .it .state) in
               record {
+                through = through-next w g (p .through);
                 long = same-lengths .0;
                 long-records = same-lengths .1;
                 long-work = same-lengths .2;
@@ -263,28 +301,28 @@ module _ (s : List ℕ) where
           -- nothing is stored of the others: there are none, or the tree is refused
           closing :
               (f : Filled) → f ≡ bodyResult s q n (w .it .body) .ends
-              → thenRest f (endedAt row f) (λ m. treesEnd s q n (suc row) rest) ≡ endedAt row f
-              → thenRest f [] (λ m. treeWords s q n (first + m) rest) ≡ []
-              → thenRest f [] (λ m. recordWords s q n rest) ≡ []
-              → thenRest f (workOf s q n work (w .it .body)) (λ m. workAfter s q n (workOf s q n work (w .it .body)) rest) ≡ workOf s q n work (w .it .body)
+              → thenRest f (endedAt row f) (λ m. treesEnd s q n (suc row) (w .rest)) ≡ endedAt row f
+              → thenRest f [] (λ m. treeWords s q n (first + m) (w .rest)) ≡ []
+              → thenRest f [] (λ m. recordWords s q n (w .rest)) ≡ []
+              → thenRest f (workOf s q n work (w .it .body)) (λ m. workAfter s q n (workOf s q n work (w .it .body)) (w .rest)) ≡ workOf s q n work (w .it .body)
               → f ≡ r → Ended (endedAt row r) trees₁ records₁ work₁
           unfolding treesEnd treeWords recordWords workAfter
           closing f h a b c d u =
               let B = w .it .body in
               let R = bodyResult s q n B in
               let X = natOf (w .it .state) in (
-                ap (endedAt row) (sym u) ∙ sym a ∙ ap (λ (f : Filled). thenRest f (endedAt row f) (λ m. treesEnd s q n (suc row) rest)) h ∙ sym (ap (treesEnd s q n row) (w .all)) ∙ p .ends,
+                ap (endedAt row) (sym u) ∙ sym a ∙ ap (λ (f : Filled). thenRest f (endedAt row f) (λ m. treesEnd s q n (suc row) (w .rest))) h ∙ sym (ap (treesEnd s q n row) (w .all)) ∙ p .ends,
                 rows-are
                     ∙ sym
-                    (ap (λ (f : Filled). sets trees (4 * row) (rowWords X first (R .ends) ++ thenRest f [] (λ m. treeWords s q n (first + m) rest))) (sym h)
+                    (ap (λ (f : Filled). sets trees (4 * row) (rowWords X first (R .ends) ++ thenRest f [] (λ m. treeWords s q n (first + m) (w .rest)))) (sym h)
                     ∙ ap (λ (l : List ℕ). sets trees (4 * row) (rowWords X first (R .ends) ++ l)) b ∙ ap (sets trees (4 * row)) (append-nil (rowWords X first (R .ends))))
                     ∙ sym (ap (λ (ts : List Tree). sets trees (4 * row) (treeWords s q n first ts)) (w .all)) ∙ p .rows,
                 records-are
                     ∙ sym
-                    (ap (λ (f : Filled). sets records (4 * first) (R .rows ++ thenRest f [] (λ m. recordWords s q n rest))) (sym h)
+                    (ap (λ (f : Filled). sets records (4 * first) (R .rows ++ thenRest f [] (λ m. recordWords s q n (w .rest)))) (sym h)
                     ∙ ap (λ (l : List ℕ). sets records (4 * first) (R .rows ++ l)) c ∙ ap (sets records (4 * first)) (append-nil (R .rows)))
                     ∙ sym (ap (λ (ts : List Tree). sets records (4 * first) (recordWords s q n ts)) (w .all)) ∙ p .stored,
-                work-is ∙ sym d ∙ ap (λ (f : Filled). thenRest f (workOf s q n work B) (λ m. workAfter s q n (workOf s q n work B) rest)) h ∙ sym (ap (workAfter s q n work) (w .all)) ∙ p .left,
+                work-is ∙ sym d ∙ ap (λ (f : Filled). thenRest f (workOf s q n work B) (λ m. workAfter s q n (workOf s q n work B) (w .rest))) h ∙ sym (ap (workAfter s q n work) (w .all)) ∙ p .left,
               )
 
           pub refused-node : {k : ℕ} → r ≡ filled.NodeRef k → Ended (endedAt row r) trees₁ records₁ work₁
@@ -296,10 +334,9 @@ module _ (s : List ℕ) where
           pub refused-lone : r ≡ filled.LoneNode → Ended (endedAt row r) trees₁ records₁ work₁
           refused-lone h = closing filled.LoneNode (sym h ∙ ends-are) refl refl refl refl (sym h)
 
-          -- the last tree, however it ends
-          pub closed-last : rest ≡ [] → Ended (endedAt row r) trees₁ records₁ work₁
+          last-closed : w .rest ≡ [] → Ended (endedAt row r) trees₁ records₁ work₁
           unfolding treesEnd treeWords recordWords workAfter
-          closed-last y = go r refl
+          last-closed y = go r refl
             where
               go : (f : Filled) → f ≡ r → Ended (endedAt row r) trees₁ records₁ work₁
               go (filled.Done a k) h =
@@ -309,12 +346,14 @@ module _ (s : List ℕ) where
               go (filled.QuestionRef k) h = refused-question (sym h)
               go filled.LoneNode h = refused-lone (sym h)
 
-      -- no tree stands at i
-      pub none-left : (trees records : List ℕ) (work : List ℤ) (i row first : ℕ) → Filling trees records work i row first → items i ≡ [] → Ended Done trees records work
-      unfolding treesEnd treeWords recordWords workAfter
-      none-left trees records work i row first p e = (
-        sym (ap (treesEnd s q n row) e) ∙ p .ends,
-        sym (ap (λ (ts : List Tree). sets trees (4 * row) (treeWords s q n first ts)) e) ∙ p .rows,
-        sym (ap (λ (ts : List Tree). sets records (4 * first) (recordWords s q n ts)) e) ∙ p .stored,
-        sym (ap (workAfter s q n work) e) ∙ p .left,
-      )
+          -- another follows, and stands behind this one
+          pub goes-on : {j : ℕ} → after.Next j ≡ afterTree s place → (i < j) × (j ≤ length s)
+          goes-on f = next-inside w (f ∙ ap (afterTree s) (e .1))
+
+          -- the last tree has its records
+          pub closed-last : {a k : ℕ} → after.End ≡ afterTree s place → r ≡ filled.Done a k → Ended Done trees₁ records₁ work₁
+          closed-last f d = subst (λ (o : Linked). Ended o trees₁ records₁ work₁) (ap (endedAt row) d) (last-closed (went-last w (f ∙ ap (afterTree s) (e .1))))
+
+          -- what follows a tree of a text in the grammar is another, or the end
+          pub never-other : {j : ℕ} → after.Broken j ≡ afterTree s place → {A : Type 0} → A
+          never-other f = went-never w (f ∙ ap (afterTree s) (e .1)) (p .through)

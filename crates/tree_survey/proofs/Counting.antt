@@ -116,7 +116,7 @@ module _ (s : List ℕ) where
   tree-size : {i j : ℕ} {t : says.Tree} {u : says.TreePlace} → TreeAt s i j t u → treeRecords (treeOf t u) + i ≤ j
   tree-size (tree (byte p (byte q (byte r end))) a (byte o end) n (byte c end) b g) = omega (arith, run-le a, number-le s n, run-le b, body-size g)
 
-  step-next : (i j : ℕ) (t : Tree) → treeStepAt s i ≡ next t j → (i < j) × (j ≤ length s) × (treeRecords t + i ≤ j)
+  pub step-next : (i j : ℕ) (t : Tree) → treeStepAt s i ≡ next t j → (i < j) × (j ≤ length s) × (treeRecords t + i ≤ j)
   step-next i j t e =
       let r = reads s .was-on i j t e in
       let u = onward (reads s) .on i j t e in

@@ -2,8 +2,9 @@
 use Prim.Native.Nat.{_*_}
 use lib.ListN.{length}
 use mathlib.Core.Path.{refl, sym, ap, _∙_}
-use Rattle.model_trees.proofs.Laws.{by-head, empty-head, no-head, sized-leaf, sized-lines}
+use Rattle.model_trees.proofs.Laws.{by-head, empty-head, no-head, whole-lines, room-by}
 use native.Mathlib.Omega.{arith}
+use borrow.Author.Needs.{needs}
 use borrow.Author.Needs.{needs}
 use Rattle.model_trees.proofs.fill_body.Statement.{statement}
 use Rattle.model_trees.proofs.fill_body.Tie as tie
@@ -19,31 +20,35 @@ mul-fill-leaf : tie.Need-mul-fill-leaf
 mul-fill-leaf c = search needs
 
 fill-leaf-requires : tie.Need-fill-leaf-requires
-fill-leaf-requires c κs = omega (arith, c .before .before .before .before .before .before .before .before .pre .1 .1 .0, sized-leaf _ (c .before .before .before .before .before .before .before .before .pre .1 .0) (c .before .before .head .given .1))
-
-enum-told : tie.Need-enum-told
-enum-told c = search needs
+fill-leaf-requires c κs =
+    let a = c .before .before .before .before .before .before .before .before .args in
+    omega (arith, room-by (a .s .now) (a .first) (length (a .records .now)) (length (a .work .now)) (c .before .before .head .given .1) (c .before .before .before .before .before .before .before .before .pre .1 .1) .0)
 
 enum-known-head-2 : tie.Need-enum-known-head-2
 enum-known-head-2 c = search needs
+
+enum-known-head-3 : tie.Need-enum-known-head-3
+enum-known-head-3 c = search needs
 
 mul-fill-braces : tie.Need-mul-fill-braces
 mul-fill-braces c = search needs
 
 fill-braces-requires : tie.Need-fill-braces-requires
-fill-braces-requires c κs = (c .before .before .before .before .before .before .before .before .before .pre .0, (sized-lines _ (c .before .before .before .before .before .before .before .before .before .pre .1 .0) (c .before .before .before .head2 .given .1), c .before .before .before .before .before .before .before .before .before .pre .1 .1))
+fill-braces-requires c κs =
+    let a = c .before .before .before .before .before .before .before .before .before .args in
+    (c .before .before .before .before .before .before .before .before .before .pre .0, (whole-lines (a .s .now) (c .before .before .before .before .before .before .before .before .before .pre .1 .0) (c .before .before .before .head3 .given .1), room-by (a .s .now) (a .first) (length (a .records .now)) (length (a .work .now)) (c .before .before .before .head3 .given .1) (c .before .before .before .before .before .before .before .before .before .pre .1 .1)))
 
-enum-told-2 : tie.Need-enum-told-2
-enum-told-2 c = search needs
+enum-told : tie.Need-enum-told
+enum-told c = search needs
 
 same-length : tie.Need-same-length
 same-length c = search needs
 
 returns : tie.Need-returns
-returns c = let a = c .before .before .before .before .before .before .before .before .before .before .before .args in by-head (a .s .now) (a .questions .now) (length (a .index .now)) (a .records .now) (4 * a .first) (a .work .now) (c .before .before .before .before .before .head .given .1) (c .before .before .fill-leaf .ensures .0, c .before .before .fill-leaf .ensures .1, refl)
+returns c = let a = c .before .before .before .before .before .before .before .before .before .before .before .args in by-head (a .s .now) (a .questions .now) (length (a .index .now)) (a .records .now) (4 * a .first) (a .work .now) (c .before .before .before .before .before .head .given .1) (c .before .before .fill-leaf .ensures .0, refl, c .before .before .fill-leaf .ensures .1, refl)
 
 returns-2 : tie.Need-returns-2
-returns-2 c = let a = c .before .before .before .before .before .before .args in empty-head (a .s .now) (a .questions .now) (length (a .index .now)) (a .records .now) (4 * a .first) (a .work .now) (c .enum-told .given .1)
+returns-2 c = let a = c .before .before .before .before .before .before .before .args in empty-head (a .s .now) (a .questions .now) (length (a .index .now)) (a .records .now) (4 * a .first) (a .work .now) (c .before .head2 .given .1)
 
 same-length-2 : tie.Need-same-length-2
 same-length-2 c = search needs
@@ -52,10 +57,10 @@ same-length-3 : tie.Need-same-length-3
 same-length-3 c = search needs
 
 returns-3 : tie.Need-returns-3
-returns-3 c = let a = c .before .before .before .before .before .before .before .before .before .before .before .before .before .args in by-head (a .s .now) (a .questions .now) (length (a .index .now)) (a .records .now) (4 * a .first) (a .work .now) (c .before .before .before .before .before .before .before .head2 .given .1) (c .before .before .before .fill-braces .ensures)
+returns-3 c = let a = c .before .before .before .before .before .before .before .before .before .before .before .before .before .args in by-head (a .s .now) (a .questions .now) (length (a .index .now)) (a .records .now) (4 * a .first) (a .work .now) (c .before .before .before .before .before .before .before .head3 .given .1) (c .before .before .before .fill-braces .ensures)
 
 returns-4 : tie.Need-returns-4
-returns-4 c = let a = c .before .before .before .before .before .before .args in no-head (a .s .now) (a .questions .now) (length (a .index .now)) (a .records .now) (4 * a .first) (a .work .now) (c .enum-told2 .given .1)
+returns-4 c = let a = c .before .before .before .before .before .before .args in no-head (a .s .now) (a .questions .now) (length (a .index .now)) (a .records .now) (4 * a .first) (a .work .now) (c .enum-told .given .1)
 
 pub fill-body-spec : {M : Type 1} → statement M
 fill-body-spec =
@@ -64,11 +69,11 @@ fill-body-spec =
     enum-known-head
     mul-fill-leaf
     fill-leaf-requires
-    enum-told
     enum-known-head-2
+    enum-known-head-3
     mul-fill-braces
     fill-braces-requires
-    enum-told-2
+    enum-told
     same-length
     returns
     returns-2

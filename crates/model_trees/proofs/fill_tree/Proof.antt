@@ -1,10 +1,13 @@
 -- `model_trees::fill_tree`: the records of a tree's body, and where it has them its row. Assumes nothing.
 use Rattle.tree.specs.Trees.{headAt}
-use Rattle.model_trees.specs.Trees.{headState, Sized}
-use Rattle.model_trees.proofs.Laws.{by-head, row-done, no-row}
-use mathlib.Core.Path.{refl, sym, _∙_, subst}
+use Rattle.model_tree.specs.declared.Filled.{Filled}
+use Rattle.model_trees.specs.Trees.{headState, Whole, rowWords}
+use Rattle.model_trees.proofs.Laws.{by-head, room-by, row-done, no-row}
+use mathlib.Core.Path.{refl, sym, ap, _∙_, subst}
 use Prim.Native.Nat.{_*_}
 use lib.ListN.{length}
+use lib.Seq.{sets}
+use borrow.Author.Needs.{needs}
 use borrow.Author.Needs.{needs}
 use Rattle.model_trees.proofs.fill_tree.Statement.{statement}
 use Rattle.model_trees.proofs.fill_tree.Tie as tie
@@ -24,7 +27,8 @@ state-of-requires c κs = search needs
 fill-body-requires : tie.Need-fill-body-requires
 fill-body-requires c κs =
     let a = c .before .before .before .before .before .before .before .before .before .args in
-    (c .before .before .before .before .before .before .before .before .before .pre .0, (subst (λ t. Sized (a .s .now) t (a .lines) (a .needed)) (sym (c .before .before .before .tree-head .ensures)) (c .before .before .before .before .before .before .before .before .before .pre .1 .0), (c .before .before .before .before .before .before .before .before .before .pre .1 .1 .1, c .before .before .before .before .before .before .before .before .before .pre .1 .1 .2)))
+    let h = sym (c .before .before .before .tree-head .ensures) in
+    (c .before .before .before .before .before .before .before .before .before .pre .0, (subst (Whole (a .s .now)) h (c .before .before .before .before .before .before .before .before .before .pre .1 .0), room-by (a .s .now) (a .first) (length (a .records .now)) (length (a .work .now)) h (c .before .before .before .before .before .before .before .before .before .pre .1 .1 .1, c .before .before .before .before .before .before .before .before .before .pre .1 .1 .2)))
 
 enum-known-filled : tie.Need-enum-known-filled
 enum-known-filled c = search needs
@@ -56,8 +60,14 @@ same-length-3 c = search needs
 returns : tie.Need-returns
 returns c =
     let a = c .before .before .before .before .before .before .before .before .before .before .before .before .before .before .before .before .before .before .before .before .args in
-    let p = by-head (a .s .now) (a .questions .now) (length (a .index .now)) (a .records .now) (4 * a .first) (a .work .now) (sym (c .before .before .before .before .before .before .before .before .before .before .before .before .before .before .tree-head .ensures)) (c .before .before .before .before .before .before .before .before .before .before .fill-body .ensures) in
-    (sym (c .before .before .before .before .before .filled .given .1) ∙ p .0, row-done (a .trees .now) (4 * a .row) (a .first) (c .before .before .before .before .before .filled .given .0 .0) (c .before .before .before .before .before .filled .given .0 .1 .0) (c .before .before .put4 .ensures) (c .before .before .before .before .before .before .before .before .before .before .before .before .before .state-of .ensures) (c .before .before .before .before .before .before .before .before .before .before .before .before .before .before .tree-head .ensures), p .1, p .2)
+    let p = by-head (a .s .now) (a .questions .now) (length (a .index .now)) (a .records .now) (4 * a .first) (a .work .now) (sym (c .before .before .before .before .before .before .before .before .before .before .before .before .before .before .tree-head .ensures)) (c .before .before .before .before .before .before .before .before .before .before .fill-body .ensures) in (
+      p .0,
+      p .1,
+      row-done (a .trees .now) (4 * a .row) (a .first) (c .before .before .before .before .before .filled .given .0 .0) (c .before .before .before .before .before .filled .given .0 .1 .0) (c .before .before .put4 .ensures) (c .before .before .before .before .before .before .before .before .before .before .before .before .before .state-of .ensures) (c .before .before .before .before .before .before .before .before .before .before .before .before .before .before .tree-head .ensures)
+          ∙ ap (λ (f : Filled). sets (a .trees .now) (4 * a .row) (rowWords (headState (headAt (a .s .now) (a .at))) (a .first) f)) (sym (c .before .before .before .before .before .filled .given .1)),
+      p .2,
+      p .3,
+    )
 
 same-length-4 : tie.Need-same-length-4
 same-length-4 c = search needs
@@ -69,7 +79,7 @@ returns-2 : tie.Need-returns-2
 returns-2 c =
     let a = c .before .before .before .before .before .before .before .before .before .before .before .before .before .before .before .args in
     let p = by-head (a .s .now) (a .questions .now) (length (a .index .now)) (a .records .now) (4 * a .first) (a .work .now) (sym (c .before .before .before .before .before .before .before .before .before .tree-head .ensures)) (c .before .before .before .before .before .fill-body .ensures) in
-    (p .0, no-row (a .trees .now) (4 * a .row) (a .first) (headState (headAt (a .s .now) (a .at))) (c .enum-told .given .1) refl, p .1, p .2)
+    (p .0, p .1, no-row (a .trees .now) (4 * a .row) (a .first) (headState (headAt (a .s .now) (a .at))) (c .enum-told .given .1) refl, p .2, p .3)
 
 same-length-6 : tie.Need-same-length-6
 same-length-6 c = search needs
@@ -81,7 +91,7 @@ returns-3 : tie.Need-returns-3
 returns-3 c =
     let a = c .before .before .before .before .before .before .before .before .before .before .before .before .before .before .before .args in
     let p = by-head (a .s .now) (a .questions .now) (length (a .index .now)) (a .records .now) (4 * a .first) (a .work .now) (sym (c .before .before .before .before .before .before .before .before .before .tree-head .ensures)) (c .before .before .before .before .before .fill-body .ensures) in
-    (p .0, no-row (a .trees .now) (4 * a .row) (a .first) (headState (headAt (a .s .now) (a .at))) (c .enum-told2 .given .1) refl, p .1, p .2)
+    (p .0, p .1, no-row (a .trees .now) (4 * a .row) (a .first) (headState (headAt (a .s .now) (a .at))) (c .enum-told2 .given .1) refl, p .2, p .3)
 
 same-length-8 : tie.Need-same-length-8
 same-length-8 c = search needs
@@ -93,7 +103,7 @@ returns-4 : tie.Need-returns-4
 returns-4 c =
     let a = c .before .before .before .before .before .before .before .before .before .before .before .before .before .before .before .args in
     let p = by-head (a .s .now) (a .questions .now) (length (a .index .now)) (a .records .now) (4 * a .first) (a .work .now) (sym (c .before .before .before .before .before .before .before .before .before .tree-head .ensures)) (c .before .before .before .before .before .fill-body .ensures) in
-    (p .0, no-row (a .trees .now) (4 * a .row) (a .first) (headState (headAt (a .s .now) (a .at))) (c .enum-told3 .given .1) refl, p .1, p .2)
+    (p .0, p .1, no-row (a .trees .now) (4 * a .row) (a .first) (headState (headAt (a .s .now) (a .at))) (c .enum-told3 .given .1) refl, p .2, p .3)
 
 pub fill-tree-spec : {M : Type 1} → statement M
 fill-tree-spec =
