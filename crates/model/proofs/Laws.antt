@@ -126,6 +126,7 @@ module _ (d : List ℕ) (p : Plan) (s : Sound d p) (q a t r b v w : ℕ) (h : ro
       let m = room-is p q a t r b v w h in
       record {
         begins = k .begins;
+        through = record { end = k .ends; done = k .through };
         asked = k .asked;
         question-room = omega (arith, m .questions);
         pattern-room = omega (arith, m .patterns, k .patterns);

@@ -64,6 +64,8 @@ module _ (s : List ℕ) (i : ℕ) where
 
   pub record Was (f q p t r l : ℕ) : Type 0 where
     pub begins : questionsAt s i .ending ≡ doneAt f
+    pub ends : ℕ
+    pub through : treesAt s f .ending ≡ doneAt ends
     pub survey : surveyAt s i ≡ survey.Counted q p t r l
     pub asked : q ≡ length (questionsAt s i .items)
     pub patterns : p ≡ total patternCount (questionsAt s i .items)
@@ -103,6 +105,8 @@ module _ (s : List ℕ) (i : ℕ) where
                   let l′ : l ≡ largest treeLines 0 (treesAt s x .items) = cc in
                   record {
                     begins = e ∙ ap doneAt (sym a);
+                    ends = y;
+                    through = ap (λ (k : ℕ). treesAt s k .ending) a ∙ e′;
                     survey =
                         ap (λ (d : Ending). surveyOf (textRead s qs d)) e ∙ ap (surveyEnded T) e′ ∙ ap (λ (b : Bool). cond b survey.Negative C) n
                         ∙ sym (λ z. survey.Counted (b z) (c z) (t′ z) (r′ z) (l′ z));

@@ -14,13 +14,14 @@ use Rattle.question_survey.specs.Counts.{patternCount}
 use Rattle.tree.specs.Trees.{treesAt}
 use Rattle.tree_survey.specs.Survey.{treeRecords, treeLines}
 use Rattle.model_questions.specs.Words.{questionWords}
-use Rattle.model_trees.specs.Trees.{treesEnd, treeWords, recordWords}
+use Rattle.model_trees.specs.Trees.{Through, treesEnd, treeWords, recordWords}
 use Rattle.model_trees.specs.declared.Linked.{Linked}
 use Rattle.model_trees.specs.declared.Linked.the-variants.{Done, NodeRef, QuestionRef, LoneNode}
 
--- the tables, of so many words each, have room for the text's n questions and its trees
+-- the text is in the grammar, and the tables, of so many words each, have room for its n questions and its trees
 pub record Fits (s : List ℕ) (i f n questions patterns trees records work : ℕ) : Type 0 where
   pub begins : questionsAt s i .ending ≡ doneAt f
+  pub through : Through s f
   pub asked : n ≡ length (questionsAt s i .items)
   pub question-room : 4 * n ≤ questions
   pub pattern-room : 2 * total patternCount (questionsAt s i .items) ≤ patterns

@@ -29,7 +29,7 @@ use Rattle.model_tree.specs.declared.Filled.the-variants as filled
 use Rattle.model_tree.proofs.Laws.{lines-size, lone-size}
 use Rattle.model_trees.specs.declared.Linked.{Linked}
 use Rattle.model_trees.specs.declared.Linked.the-variants.{Done}
-use Rattle.model_trees.specs.Trees.{headState, headBody, headEnd, Whole, leaf, empty, lines, rowWords, workOf, endedAt, thenRest, treesEnd, treeWords, recordWords, workAfter}
+use Rattle.model_trees.specs.Trees.{headState, headBody, headEnd, Whole, Through, leaf, empty, lines, rowWords, workOf, endedAt, thenRest, treesEnd, treeWords, recordWords, workAfter}
 
 -- ---- the largest of a list
 
@@ -83,10 +83,6 @@ module _ (s : List ℕ) where
   abbrev pub items : ℕ → List Tree
   items i = treesAt s i .items
 
-  -- reading the trees from i on comes to the end of the text
-  abbrev pub Through : ℕ → Type 0
-  Through i = treesAt s i .ending ≡ doneAt (length s)
-
   pub record Facts (i : ℕ) (t : Tree) : Type 0 where
     pub body : t .body ≡ headBody s (headAt s i)
     pub state : natOf (t .state) ≡ headState (headAt s i)
@@ -94,12 +90,12 @@ module _ (s : List ℕ) where
     pub follows : treeStepAt s i ≡ treeFollowed s t (afterTree s (headEnd s (headAt s i)))
 
   -- no step is broken on the way to the end
-  never : (i : ℕ) {j : ℕ} → Through i → treeStepAt s i ≡ broken j → {A : Type 0} → A
+  never : (i : ℕ) {j : ℕ} → Through s i → treeStepAt s i ≡ broken j → {A : Type 0} → A
   never i {j} z e =
-      let v : brokenAt j ≡ doneAt (length s) = sym (ap (λ (r : Reading Tree). r .ending) (trees-are s i ∙ ap (readOf (treesAt s)) e)) ∙ z in
+      let v : brokenAt j ≡ doneAt (z .end) = sym (ap (λ (r : Reading Tree). r .ending) (trees-are s i ∙ ap (readOf (treesAt s)) e)) ∙ z .done in
       let u : _≡_ {A = ℕ} 0 1 = cc in absurd (omega arith)
 
-  stands : (i : ℕ) → Through i → (t : Tree) × Facts i t
+  stands : (i : ℕ) → Through s i → (t : Tree) × Facts i t
   unfolding treeStepAt
   stands i z = go (headAt s i) refl
     where
@@ -139,7 +135,7 @@ module _ (s : List ℕ) where
   steps-are : {i : ℕ} {t : Tree} {a : TreeStep} → Facts i t → a ≡ afterTree s (headEnd s (headAt s i)) → treesAt s i ≡ readOf (treesAt s) (treeFollowed s t a)
   steps-are {i} {t} f e = trees-are s i ∙ ap (readOf (treesAt s)) (f .follows ∙ ap (treeFollowed s t) (sym e))
 
-  pub went : (i : ℕ) → Through i → Went i
+  pub went : (i : ℕ) → Through s i → Went i
   went i z = go (afterTree s (headEnd s (headAt s i))) refl
     where
       t : Tree
@@ -165,8 +161,8 @@ module _ (s : List ℕ) where
       pub went-next : w .rest ≡ items j
       went-next = tail-is (ap (λ (r : Reading Tree). r .items) (steps-are (w .facts) e))
 
-      pub through-next : Through i → Through j
-      through-next z = sym (ap (λ (r : Reading Tree). r .ending) (steps-are (w .facts) e)) ∙ z
+      pub through-next : Through s i → Through s j
+      through-next z = record { end = z .end; done = sym (ap (λ (r : Reading Tree). r .ending) (steps-are (w .facts) e)) ∙ z .done }
 
       pub next-inside : (i < j) × (j ≤ length s)
       next-inside = let z = step-next s i j (w .it) (w .facts .follows ∙ ap (treeFollowed s (w .it)) (sym e)) in (z .0, z .1)
@@ -174,7 +170,7 @@ module _ (s : List ℕ) where
     pub went-last : after.End ≡ afterTree s (headEnd s (headAt s i)) → w .rest ≡ []
     went-last e = tail-is (ap (λ (r : Reading Tree). r .items) (steps-are (w .facts) e))
 
-    pub went-never : {j : ℕ} → after.Broken j ≡ afterTree s (headEnd s (headAt s i)) → Through i → {A : Type 0} → A
+    pub went-never : {j : ℕ} → after.Broken j ≡ afterTree s (headEnd s (headAt s i)) → Through s i → {A : Type 0} → A
     went-never e z = never i z (w .facts .follows ∙ ap (treeFollowed s (w .it)) (sym e))
 
   -- ---- the tables meanwhile
@@ -192,7 +188,7 @@ module _ (s : List ℕ) where
 
     module _ (at : ℕ) (trees₀ records₀ : List ℕ) (work₀ : List ℤ) where
       pub record Filling (trees records : List ℕ) (work : List ℤ) (i row first : ℕ) : Type 0 where
-        pub through : Through i
+        pub through : Through s i
         pub long : length trees ≡ length trees₀
         pub long-records : length records ≡ length records₀
         pub long-work : length work ≡ length work₀
@@ -210,7 +206,7 @@ module _ (s : List ℕ) where
           (r ≡ treesEnd s q n 0 (items at)) × (trees ≡ sets trees₀ 0 (treeWords s q n 0 (items at))) × (records ≡ sets records₀ 0 (recordWords s q n (items at)))
           × (work ≡ workAfter s q n work₀ (items at))
 
-      pub filling-none : Through at → 4 * length (items at) ≤ length trees₀ → 4 * total treeRecords (items at) ≤ length records₀ → 6 * largest treeLines 0 (items at) ≤ length work₀ → Filling trees₀ records₀ work₀ at 0 0
+      pub filling-none : Through s at → 4 * length (items at) ≤ length trees₀ → 4 * total treeRecords (items at) ≤ length records₀ → 6 * largest treeLines 0 (items at) ≤ length work₀ → Filling trees₀ records₀ work₀ at 0 0
       filling-none z a b c = record { through = z; long = refl; long-records = refl; long-work = refl; room = omega arith; room-records = omega arith; room-work = c; ends = refl; rows = refl; stored = refl; left = refl }
 
       module _ (trees records : List ℕ) (work : List ℤ) (i row first : ℕ) (p : Filling trees records work i row first) where

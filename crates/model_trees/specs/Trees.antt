@@ -9,7 +9,7 @@ use lib.Seq.{sets}
 use Rattle.laws.specs.Steps.{doneAt}
 use Rattle.tree_reference.specs.declared.TreeIndex.{TreeIndex}
 use Rattle.tree_line.specs.Lines.{linesAt}
-use Rattle.tree.specs.Trees.{Body, lone, braces, Tree}
+use Rattle.tree.specs.Trees.{Body, lone, braces, Tree, treesAt}
 use Rattle.tree.specs.declared.TreeHead.{TreeHead}
 use Rattle.tree.specs.declared.TreeHead.the-variants.{Lone, Empty, Lines, NoTree}
 use Rattle.link_refs.specs.Lines.{natOf}
@@ -46,6 +46,11 @@ pub data Whole (s : List ℕ) : TreeHead → Type 0 where
   leaf : {x : ℤ} {r : TreeIndex} {e : ℕ} → Whole s (Lone x r e)
   empty : {x : ℤ} {e : ℕ} → Whole s (Empty x e)
   lines : {x : ℤ} {f : ℕ} → linesAt s f .ending ≡ doneAt (linesEnd s f) → Whole s (Lines x f)
+
+-- reading the trees from i on comes to the end of the text
+pub record Through (s : List ℕ) (i : ℕ) : Type 0 where
+  pub end : ℕ
+  pub done : treesAt s i .ending ≡ doneAt end
 
 -- ---- one tree
 

@@ -16,14 +16,13 @@ ghost use mathlib.Core.Path.{_≡_};
 ghost use Prim.Native.Nat.{_+_, _*_, _≤_, _<_, _^_};
 ghost use lib.ListN.{length};
 ghost use lib.Seq.{sets};
-ghost use Rattle.laws.specs.Steps.{doneAt};
 ghost use Rattle.laws.specs.Totals.{total, largest};
 ghost use Rattle.order.specs.Keys.{nameKey, nameAt};
 ghost use Rattle.search.specs.Index.{Index};
 ghost use Rattle.tree.specs.Trees.{headAt, treesAt};
 ghost use Rattle.tree_survey.specs.Survey.{bodyRecords, bodyLines, treeRecords, treeLines};
 ghost use Rattle.model_tree.specs.Bodies.{bodyResult};
-ghost use Rattle.model_trees.specs.Trees.{headState, headBody, headEnd, Whole, rowWords, workOf, endedAt, treesEnd, treeWords, recordWords, workAfter};
+ghost use Rattle.model_trees.specs.Trees.{headState, headBody, headEnd, Whole, Through, rowWords, workOf, endedAt, treesEnd, treeWords, recordWords, workAfter};
 
 // How linking ends: all trees have their records; or the first that is refused, and the line.
 pub enum Linked {
@@ -154,7 +153,7 @@ pub fn fill_trees(
     work: &mut [i64],
 ) -> Linked
     requires { ⌜ Index (λ e. nameKey (nameAt (now s) (now questions) e)) (now index) × (length (now index) < 2 ^ 62) ⌝ }
-    requires { ⌜ treesAt (now s) at .ending ≡ doneAt (length (now s)) ⌝ }
+    requires { ⌜ Through (now s) at ⌝ }
     requires { ⌜ (4 * length (treesAt (now s) at .items) ≤ length (now trees)) × (4 * total treeRecords (treesAt (now s) at .items) ≤ length (now records)) × (6 * largest treeLines 0 (treesAt (now s) at .items) ≤ length (now work)) ⌝ }
     ensures { λ r. ⌜ (r ≡ treesEnd (now (s .entry)) (now (questions .entry)) (length (now (index .entry))) 0 (treesAt (now (s .entry)) at .items)) × (now (trees .exit) ≡ sets (now (trees .entry)) 0 (treeWords (now (s .entry)) (now (questions .entry)) (length (now (index .entry))) 0 (treesAt (now (s .entry)) at .items))) × (now (records .exit) ≡ sets (now (records .entry)) 0 (recordWords (now (s .entry)) (now (questions .entry)) (length (now (index .entry))) (treesAt (now (s .entry)) at .items))) × (now (work .exit) ≡ workAfter (now (s .entry)) (now (questions .entry)) (length (now (index .entry))) (now (work .entry)) (treesAt (now (s .entry)) at .items)) ⌝ }
 {

@@ -56,7 +56,7 @@ fill-trees-requires c κs =
     let h = c .before .before .before .before .before .before .before .before .before .before .before .before .before .before .before .before .before .before .before .before .before .before .pre in
     let q = c .before .before .before .before .before .before .before .before .before .before .before .before .before .before .before .fill-questions .ensures in
     let p = c .before .before .before .before .before .before .before .before .before .index-names .ensures in
-    ((is-index (a .s .now) (a .at) (a .first) (a .n) h _ _ _ refl p, omega (arith, index-count (a .s .now) (a .at) (a .first) (a .n) h _ _ _ refl p, h .question-room, c .before .before .before .before .before .before .before .before .before .before .before .before .before .before .before .before .before .before .before .before .before .before .good)), (h .tree-room, h .record-room, h .work-room))
+    ((is-index (a .s .now) (a .at) (a .first) (a .n) h _ _ _ refl p, omega (arith, index-count (a .s .now) (a .at) (a .first) (a .n) h _ _ _ refl p, h .question-room, c .before .before .before .before .before .before .before .before .before .before .before .before .before .before .before .before .before .before .before .before .before .before .good)), (h .through, (h .tree-room, h .record-room, h .work-room)))
 
 same-length : tie.Need-same-length
 same-length c = search needs
