@@ -65,7 +65,13 @@ fn put_line(work: &mut [i64], at: usize, line: Line, question: i64)
 }
 
 // The lines of a tree whose first stands at `at`, into the work from its front on; and their count, so that a load reads them once.
-pub fn fill_lines(s: &[u8], at: usize, questions: &[u64], index: &[u64], work: &mut [i64]) -> LineCount
+pub fn fill_lines(
+    s: &[u8],
+    at: usize,
+    questions: &[u64],
+    index: &[u64],
+    work: &mut [i64],
+) -> LineCount
     requires { ⌜ Index (λ e. nameKey (nameAt (now s) (now questions) e)) (now index) × (length (now index) < 2 ^ 62) × (6 * length (linesAt (now s) at .items) ≤ length (now work)) ⌝ }
     ensures { λ r. ⌜ (r ≡ linesCounted 0 0 (linesAt (now (s .entry)) at)) × (now (work .exit) ≡ sets (now (work .entry)) 0 (lineWords (now (s .entry)) (now (questions .entry)) (length (now (index .entry))) (linesAt (now (s .entry)) at .items))) ⌝ }
 {

@@ -7,16 +7,20 @@ use lib.ListN.{length}
 use lib.Seq.{sets, length-sets}
 use Rattle.written.specs.Bytes.{Span}
 use Rattle.written.specs.Said.{QuestionPlace}
-use Rattle.laws.specs.Steps.{Reading}
+use Rattle.laws.specs.Steps.{Ending, doneAt, brokenAt, Reading}
 use Rattle.laws.specs.Totals.{total}
 use Rattle.laws.proofs.Tables.{sets-append}
-use Rattle.question.specs.Questions.{patternStepAt, itemAt, patternsAt, questionsAt}
+use Rattle.question.specs.Questions.{headAt, patternStepAt, itemAt, afterQuestion, patternsAt, questionsAt}
+use Rattle.question.specs.declared.QuestionHead.the-variants as head
+use Rattle.question.specs.declared.Item.{Item}
 use Rattle.question.specs.declared.Item.the-variants as item
 use Rattle.question.specs.declared.PatternStep.the-variants as pattern
-use Rattle.question.proofs.Filling.{span, patterns-next, patterns-last, patterns-broken, questions-from}
-use Rattle.question_survey.specs.Counts.{patternCount}
-use Rattle.model_questions.specs.Words.{spanWords, patternWords}
-use Rattle.model_questions.proofs.Laws.{Went, Ended, first-items, no-items}
+use Rattle.question.proofs.Filling.{span, patterns-next, patterns-last, patterns-broken, questions-from, questions-next, questions-last, questions-stopped, begins-question}
+use Rattle.question_survey.specs.Counts.{patternCount, patternsEnded, patternsCounted}
+use Rattle.question_survey.specs.declared.Patterns.the-variants as patterns
+use Rattle.question_survey.proofs.Counting.{counted-done}
+use Rattle.model_questions.specs.Words.{Done, spanWords, patternWords}
+use Rattle.model_questions.proofs.Laws.{place, Went, Ended, first-items, no-items}
 
 pub span-length : (ws : List Span) → length (spanWords ws) ≡ 2 * length ws
 unfolding spanWords
@@ -74,6 +78,36 @@ module _ (s : List ℕ) where
 
   -- ---- the patterns of all questions
 
+  -- no question is broken on the way to the first tree
+  never : (i : ℕ) → Done (questions-from s i) → {e : ℕ} → questions-from s i .ending ≡ brokenAt e → {A : Type 0} → A
+  never i z {e} b =
+      let v : brokenAt e ≡ doneAt (z .end) = sym b ∙ z .done in
+      let u : _≡_ {A = ℕ} 0 1 = cc in absurd (omega arith)
+
+  module _ (i : ℕ) (z : Done (questions-from s i)) {b n f : ℕ} (h : head.Named b n f ≡ headAt s i) where
+    standing : (rest : List QuestionPlace) × (questions-from s i .items ≡ place s b n f ∷ rest)
+    standing = go (patternsAt s f .ending) refl
+      where
+        go : (d : Ending) → patternsAt s f .ending ≡ d → (rest : List QuestionPlace) × (questions-from s i .items ≡ place s b n f ∷ rest)
+        go (doneAt e) d = pick (afterQuestion s e) refl
+          where
+            pick : (t : Item) → t ≡ afterQuestion s e → (rest : List QuestionPlace) × (questions-from s i .items ≡ place s b n f ∷ rest)
+            pick (item.Question j) a = (questions-from s j .items, ap (λ (r : Reading QuestionPlace). r .items) (questions-next s i h d a))
+            pick (item.Tree j) a = ([], ap (λ (r : Reading QuestionPlace). r .items) (questions-last s i h d a))
+        go (brokenAt e) d = never i z (ap (λ (r : Reading QuestionPlace). r .ending) (questions-stopped s i h d))
+
+    pub never-broken : patterns.Broken ≡ patternsCounted 0 (patternsAt s f) → {A : Type 0} → A
+    unfolding patternsCounted
+    never-broken x {A} = go (patternsAt s f .ending) refl x
+      where
+        go : (d : Ending) → patternsAt s f .ending ≡ d → patterns.Broken ≡ patternsEnded (0 + length (patternsAt s f .items)) d → A
+        go (doneAt e) d x = let u : _≡_ {A = ℕ} 0 1 = cc in absurd (omega arith)
+        go (brokenAt e) d x = never i z (ap (λ (r : Reading QuestionPlace). r .ending) (questions-stopped s i h d))
+
+    pub done-next : {m e j : ℕ} → patterns.Counted m e ≡ patternsCounted 0 (patternsAt s f) → item.Question j ≡ afterQuestion s e → Done (questions-from s j)
+    done-next {m} {e} {j} x a =
+        record { end = z .end; done = sym (ap (λ (r : Reading QuestionPlace). r .ending) (questions-next s i h (counted-done s (patternsAt s f) m e x .0) a)) ∙ z .done }
+
   module _ (at : ℕ) (table₀ : List ℕ) where
     abbrev pub words : ℕ → List ℕ
     words i = patternWords (questions-from s i .items)
@@ -114,6 +148,11 @@ module _ (s : List ℕ) where
                   ∙ sym (ap (λ (qs : List QuestionPlace). sets table word (patternWords qs)) (w .items)) ∙ p .stored;
             }
 
+      -- the question at i, of questions that can be read
+      pub standing-room : Done (questions-from s i) → {b n f : ℕ} → head.Named b n f ≡ headAt s i → word + 2 * length (patternsAt s f .items) ≤ length table
+      unfolding total
+      standing-room z h = let a = standing i z h in omega (arith, p .room, p .long, ap (total patternCount) (a .1))
+
       module _ {b n f m : ℕ} (w : Ended s i b n f m) where
         final : patterns-of i ≡ length (spans f) + 0
         unfolding total
@@ -136,6 +175,9 @@ module _ (s : List ℕ) where
 
   pub first-patterns : (at : ℕ) {j n : ℕ} → item.Question j ≡ itemAt s at → 2 * total patternCount (questionsAt s at .items) ≤ n → 2 * total patternCount (questions-from s j .items) ≤ n
   first-patterns at e h = omega (arith, ap (total patternCount) (first-items s at e))
+
+  pub first-done : (at : ℕ) {j : ℕ} → item.Question j ≡ itemAt s at → Done (questionsAt s at) → Done (questions-from s j)
+  first-done at e z = record { end = z .end; done = sym (ap (λ (r : Reading QuestionPlace). r .ending) (begins-question s at e)) ∙ z .done }
 
   pub first-listed : (at : ℕ) {j : ℕ} → item.Question j ≡ itemAt s at → (table table₁ : List ℕ)
       → table₁ ≡ sets table 0 (patternWords (questions-from s j .items)) → table₁ ≡ sets table 0 (patternWords (questionsAt s at .items))

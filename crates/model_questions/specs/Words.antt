@@ -1,10 +1,12 @@
 -- The questions of a tree text as words of the tables: question rows of four words, pattern rows of two (01, 'Linking and tables').
 -- Also what is answered of one question. Assumes nothing.
+use mathlib.Core.Path.{_≡_}
 use mathlib.Core.List.{List, [], _∷_, _++_}
 use Prim.Native.Nat.{ℕ, _+_}
 use lib.ListN.{length}
 use Rattle.written.specs.Bytes.{Span}
 use Rattle.written.specs.Said.{QuestionPlace}
+use Rattle.laws.specs.Steps.{doneAt, Reading}
 use Rattle.question.specs.Questions.{headAt, patternsAt, afterQuestion}
 use Rattle.question.specs.declared.QuestionHead.{QuestionHead}
 use Rattle.question.specs.declared.QuestionHead.the-variants as head
@@ -15,6 +17,11 @@ use Rattle.question_survey.specs.declared.Patterns.{Patterns}
 use Rattle.question_survey.specs.declared.Patterns.the-variants as patterns
 use Rattle.model_questions.specs.declared.QuestionRow.{QuestionRow}
 use Rattle.model_questions.specs.declared.QuestionRow.the-variants.{Next, Last, Broken}
+
+-- questions that can be read: reading comes to the first tree
+pub record Done (r : Reading QuestionPlace) : Type 0 where
+  pub end : ℕ
+  pub done : r .ending ≡ doneAt end
 
 -- ---- words of the tables
 

@@ -1,5 +1,6 @@
 // After model/mod.rs, `parse_questions`: the question rows and the pattern rows of a tree text, into lent tables (01, 'Linking and tables').
-// Every function takes any bytes and any place; a text that doesn't fit gives the rows of the questions before the fault. Assumes nothing.
+// Question rows: any bytes and any place; a text that doesn't fit gives the rows of the questions before the fault. Pattern rows: questions that can be
+// read, so that no pattern is counted once more before it is stored. Assumes nothing.
 use question::Item;
 use question::PatternStep;
 use question::QuestionHead;
@@ -18,8 +19,8 @@ ghost use lib.Seq.{sets};
 ghost use Rattle.laws.specs.Steps.{read};
 ghost use Rattle.laws.specs.Totals.{total};
 ghost use Rattle.question.specs.Questions.{patternsAt, questionStepAt, questionsAt};
-ghost use Rattle.question_survey.specs.Counts.{patternCount};
-ghost use Rattle.model_questions.specs.Words.{rowAt, spanWords, patternWords, questionWords};
+ghost use Rattle.question_survey.specs.Counts.{patternCount, patternsCounted};
+ghost use Rattle.model_questions.specs.Words.{Done, rowAt, spanWords, patternWords, questionWords};
 
 // A question: its name, where its first pattern stands, how many it has; and where the next question stands, if one follows.
 enum QuestionRow {
@@ -132,30 +133,31 @@ pub fn fill_questions(s: &[u8], at: usize, questions: &mut [u64])
     }
 }
 
-// The pattern rows of the question whose first pattern stands at `at`, from word `from` on.
-pub fn fill_patterns(s: &[u8], at: usize, patterns: &mut [u64], from: usize)
+// The pattern rows of the question whose first pattern stands at `at`, from word `from` on; and their count.
+pub fn fill_patterns(s: &[u8], at: usize, patterns: &mut [u64], from: usize) -> Patterns
     requires { ⌜ from + 2 * length (patternsAt (now s) at .items) ≤ length (now patterns) ⌝ }
-    ensures { λ r. ⌜ now (patterns .exit) ≡ sets (now (patterns .entry)) from (spanWords (patternsAt (now (s .entry)) at .items)) ⌝ }
+    ensures { λ r. ⌜ (r ≡ patternsCounted 0 (patternsAt (now (s .entry)) at)) × (now (patterns .exit) ≡ sets (now (patterns .entry)) from (spanWords (patternsAt (now (s .entry)) at .items))) ⌝ }
 {
     let mut i = at;
     let mut word = from;
+    let mut n = 0;
     loop {
         match next_pattern(s, i) {
             PatternStep::Next { start, len, next } => {
                 put2(patterns, word, start as u64, len as u64);
                 word = word + 2;
+                n = n + 1;
                 i = next;
             }
-            PatternStep::Last {
-                start,
-                len,
-                next: _,
-            } => {
+            PatternStep::Last { start, len, next } => {
                 put2(patterns, word, start as u64, len as u64);
-                return;
+                return Patterns::Counted {
+                    patterns: n + 1,
+                    next,
+                };
             }
             PatternStep::Broken => {
-                return;
+                return Patterns::Broken;
             }
         }
     }
@@ -163,34 +165,37 @@ pub fn fill_patterns(s: &[u8], at: usize, patterns: &mut [u64], from: usize)
 
 // The pattern rows of all questions from the first question's place on.
 fn fill_patterns_from(s: &[u8], at: usize, patterns: &mut [u64])
+    requires { ⌜ Done (read (questionStepAt (now s)) (length (now s)) at) ⌝ }
     requires { ⌜ 2 * total patternCount (read (questionStepAt (now s)) (length (now s)) at .items) ≤ length (now patterns) ⌝ }
     ensures { λ r. ⌜ now (patterns .exit) ≡ sets (now (patterns .entry)) 0 (patternWords (read (questionStepAt (now (s .entry))) (length (now (s .entry))) at .items)) ⌝ }
 {
     let mut i = at;
     let mut word = 0;
     loop {
-        match question_row(s, i) {
-            QuestionRow::Next {
+        match question_head(s, i) {
+            QuestionHead::Named {
                 start: _,
                 len: _,
                 first,
-                patterns: n,
-                next,
-            } => {
-                fill_patterns(s, first, patterns, word);
-                word = word + 2 * n;
-                i = next;
-            }
-            QuestionRow::Last {
-                start: _,
-                len: _,
-                first,
-                patterns: _,
-            } => {
-                fill_patterns(s, first, patterns, word);
-                return;
-            }
-            QuestionRow::Broken => {
+            } => match fill_patterns(s, first, patterns, word) {
+                Patterns::Counted {
+                    patterns: n,
+                    next: end,
+                } => match after_question(s, end) {
+                    Item::Question(next) => {
+                        word = word + 2 * n;
+                        i = next;
+                    }
+                    Item::Tree(_) => {
+                        return;
+                    }
+                },
+                // never, of questions that can be read
+                Patterns::Broken => {
+                    return;
+                }
+            },
+            QuestionHead::NoQuestion => {
                 return;
             }
         }
@@ -199,6 +204,7 @@ fn fill_patterns_from(s: &[u8], at: usize, patterns: &mut [u64])
 
 // The pattern rows of all questions of a text that begins at `at`, into the table from its front on.
 pub fn fill_all_patterns(s: &[u8], at: usize, patterns: &mut [u64])
+    requires { ⌜ Done (questionsAt (now s) at) ⌝ }
     requires { ⌜ 2 * total patternCount (questionsAt (now s) at .items) ≤ length (now patterns) ⌝ }
     ensures { λ r. ⌜ now (patterns .exit) ≡ sets (now (patterns .entry)) 0 (patternWords (questionsAt (now (s .entry)) at .items)) ⌝ }
 {

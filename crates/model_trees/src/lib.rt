@@ -161,9 +161,7 @@ pub fn fill_trees(
     let mut row = 0;
     let mut first = 0;
     loop {
-        let t = fill_tree(
-            s, i, questions, index, trees, row, records, first, work,
-        );
+        let t = fill_tree(s, i, questions, index, trees, row, records, first, work);
         let filled = t.filled;
         match filled {
             Filled::Done {

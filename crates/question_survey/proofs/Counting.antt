@@ -71,7 +71,7 @@ module _ (s : List ℕ) where
 
   -- ---- one question
 
-  counted-done : (r : Reading Span) (k e : ℕ) → patterns.Counted k e ≡ patternsCounted 0 r → (r .ending ≡ doneAt e) × (length (r .items) ≡ k)
+  pub counted-done : (r : Reading Span) (k e : ℕ) → patterns.Counted k e ≡ patternsCounted 0 r → (r .ending ≡ doneAt e) × (length (r .items) ≡ k)
   unfolding patternsCounted
   counted-done r k e h = go (r .ending) refl h
     where

@@ -1,6 +1,6 @@
 -- `model_questions::fill_all_patterns`: from the first question on, or none. Assumes nothing.
 use mathlib.Core.Path.{sym, _∙_}
-use Rattle.model_questions.proofs.Patterns.{first-patterns, first-listed, none-listed}
+use Rattle.model_questions.proofs.Patterns.{first-patterns, first-done, first-listed, none-listed}
 use borrow.Author.Needs.{needs}
 use Rattle.model_questions.proofs.fill_all_patterns.Statement.{statement}
 use Rattle.model_questions.proofs.fill_all_patterns.Tie as tie
@@ -12,7 +12,7 @@ enum-known-first : tie.Need-enum-known-first
 enum-known-first c = search needs
 
 fill-patterns-from-requires : tie.Need-fill-patterns-from-requires
-fill-patterns-from-requires c κs = first-patterns _ _ (sym (c .before .before .first .given .1) ∙ c .before .before .before .before .first-item .ensures) (c .before .before .before .before .before .before .before .pre)
+fill-patterns-from-requires c κs = let e = (sym (c .before .before .first .given .1) ∙ c .before .before .before .before .first-item .ensures) in (first-done _ _ e (c .before .before .before .before .before .before .before .pre .0), first-patterns _ _ e (c .before .before .before .before .before .before .before .pre .1))
 
 enum-told : tie.Need-enum-told
 enum-told c = search needs

@@ -23,7 +23,7 @@ enum-told : tie.Need-enum-told
 enum-told c = search needs
 
 fill-all-patterns-requires : tie.Need-fill-all-patterns-requires
-fill-all-patterns-requires c κs = search needs
+fill-all-patterns-requires c κs = (record { end = c .before .before .before .before .before .before .before .before .before .before .before .before .before .before .before .before .before .before .before .before .before .before .before .before .before .before .args .first; done = c .before .before .before .before .before .before .before .before .before .before .before .before .before .before .before .before .before .before .before .before .before .before .before .before .before .before .pre .begins }, search needs)
 
 enum-told-2 : tie.Need-enum-told-2
 enum-told-2 c = search needs
