@@ -1,9 +1,12 @@
 // After base.rs, `sp` and `sp1`, and what the readers build of them: a name between blanks, what parts two items, what closes braces (01, 'Tree text').
 // Every function takes any bytes and any place, also one past the end. A place is an index into the slice. Assumes nothing.
 use base::blank_end;
+use base::byte_at;
 use base::name_end;
 use base::space_or_tab_end;
 ghost use mathlib.Core.Path.{_≡_};
+ghost use Rattle.written.specs.Bytes.{blank};
+ghost use Rattle.laws.specs.Runs.{stop};
 ghost use Rattle.base_spaces.specs.Spaces.{pastByte, nameOf, nameAt, newlineAt, partingAt, linePartingAt, closeAt};
 
 // Where reading goes on, if what was looked for stands there.
@@ -90,6 +93,20 @@ pub fn past_line_parting(s: &[u8], at: usize) -> Place
             let tabs = space_or_tab_end(s, next);
             Place::At(blank_end(s, tabs))
         }
+        Place::Nowhere => Place::Nowhere,
+    }
+}
+
+// The same, where the blanks from `at` on are known to end at `past`: unless a tab stands there, this is where the next line does.
+pub fn line_parting(s: &[u8], at: usize, past: usize) -> Place
+    requires { ⌜ past ≡ stop blank (now s) at ⌝ }
+    ensures { λ r. ⌜ r ≡ linePartingAt (now (s .entry)) at ⌝ }
+{
+    if byte_at(s, past) == 9 {
+        return past_line_parting(s, at);
+    }
+    match past_newline(s, at) {
+        Place::At(_) => Place::At(past),
         Place::Nowhere => Place::Nowhere,
     }
 }
