@@ -1,8 +1,8 @@
--- Spaces met eight at a time: the bytes ahead of a place, the number that they make, and how many of them are spaces before any other. Assumes nothing.
-use mathlib.Core.Bool.{Bool, cond}
+-- Runs met eight bytes at a time: the bytes ahead of a place, the number that they make, and how many of them pass a test before any other. Assumes nothing.
+use mathlib.Core.Bool.{Bool, cond, _&&_}
 use mathlib.Core.List.{List, [], _∷_}
 use Prim.Native.Nat.{ℕ, zero, suc, _+_, _*_}
-use lib.Dec.{eqb, ltb}
+use lib.Dec.{eqb, leb, ltb}
 use lib.ListN.{length, getD}
 use Rattle.laws.specs.Runs.{run}
 
@@ -19,7 +19,11 @@ little (b ∷ l) = b + 256 * little l
 abbrev pub isSpace : ℕ → Bool
 isSpace b = eqb b 32
 
--- how many spaces come first in the eight bytes from i on; none where no ninth byte stands behind them
-unfoldable pub spacesAhead : List ℕ → ℕ → ℕ
+-- ! to 127
+abbrev pub isPrinted : ℕ → Bool
+isPrinted b = leb 33 b && leb b 127
+
+-- how many of the eight bytes from i on pass p before any other; none where no ninth byte stands behind them
+unfoldable pub ahead : (ℕ → Bool) → List ℕ → ℕ → ℕ
 unfolding bytesAt
-spacesAhead s i = cond (ltb (i + 8) (length s)) (length (run isSpace (bytesAt 8 s i))) 0
+ahead p s i = cond (ltb (i + 8) (length s)) (length (run p (bytesAt 8 s i))) 0

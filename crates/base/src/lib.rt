@@ -6,7 +6,7 @@ ghost use Prim.Native.Nat.{_+_, _≤_, _<_};
 ghost use lib.ListN.{length};
 ghost use Rattle.written.specs.Bytes.{letter, digit, inPattern, inWord, blank, spaceOrTab, inName, isNewline, byteAt};
 ghost use Rattle.laws.specs.Runs.{stop};
-ghost use Rattle.base.specs.Ahead.{bytesAt, little, spacesAhead};
+ghost use Rattle.base.specs.Ahead.{bytesAt, little, isSpace, isPrinted, ahead};
 ghost use Rattle.base.specs.Classes.{classOf, testOf};
 
 // 01's classes.
@@ -164,7 +164,7 @@ fn eight(s: &[u8], at: usize) -> u64
 
 // How many spaces come first in the eight bytes at `at`; none where no ninth byte stands behind them. Half of a tree text are spaces, most of them in long runs.
 fn spaces_ahead(s: &[u8], at: usize) -> usize
-    ensures { λ r. ⌜ r ≡ spacesAhead (now (s .entry)) at ⌝ }
+    ensures { λ r. ⌜ r ≡ ahead isSpace (now (s .entry)) at ⌝ }
 {
     if s.len() <= at {
         return 0;
@@ -175,6 +175,22 @@ fn spaces_ahead(s: &[u8], at: usize) -> usize
     // zero in each byte that is a space, up to the first that isn't
     let apart = wrapping_sub_u64(eight(s, at), 0x2020_2020_2020_2020);
     (u64::trailing_zeros(apart) / 8) as usize
+}
+
+// The same of printed bytes, `!` to 127, which names are made of.
+fn printed_ahead(s: &[u8], at: usize) -> usize
+    ensures { λ r. ⌜ r ≡ ahead isPrinted (now (s .entry)) at ⌝ }
+{
+    if s.len() <= at {
+        return 0;
+    }
+    if s.len() - at <= 8 {
+        return 0;
+    }
+    let bytes = eight(s, at);
+    // the top bit of each byte: set in those above 127, and in the difference from 160 of those up to the space
+    let others = (wrapping_sub_u64(0xA0A0_A0A0_A0A0_A0A0, bytes) | bytes) & 0x8080_8080_8080_8080;
+    (u64::trailing_zeros(others) / 8) as usize
 }
 
 // The ends of the runs that most of a tree text is read by: a loop each, so that the test is not chosen anew at every byte.
@@ -197,6 +213,7 @@ pub fn name_end(s: &[u8], at: usize) -> usize
 {
     let mut i = at;
     while i < s.len() {
+        i = i + printed_ahead(s, i);
         if !is_name(s[i]) {
             return i;
         }

@@ -1,7 +1,7 @@
 -- `base::blank_end`: the place where the run stops is the same from each place that the loop passes, over the spaces ahead too. Assumes nothing.
-use Prim.Native.Nat.{_+_, _-_, _<_}
+use Prim.Native.Nat.{ℕ, _+_, _-_, _<_}
 use mathlib.Core.Bool.{true}
-use mathlib.Core.Path.{_≡_, refl, sym, _∙_}
+use mathlib.Core.Path.{_≡_, sym, _∙_}
 use native.Mathlib.Omega.{arith}
 use lib.ListN.{length}
 use borrow.Author.Needs.{needs}
@@ -9,6 +9,7 @@ use borrow.Author.Tests.{not-true, not-false}
 use Rattle.written.specs.Bytes.{blank}
 use Rattle.laws.specs.Runs.{stop}
 use Rattle.laws.proofs.Runs.{stop-on, stop-here, stop-end}
+use Rattle.base.specs.Ahead.{isSpace}
 use Rattle.base.proofs.Ahead.{past-in, stop-past}
 use Rattle.base.proofs.blank_end.Statement.{statement}
 use Rattle.base.proofs.blank_end.Tie as tie
@@ -19,9 +20,9 @@ Inv-loop s at i₀ i = stop blank s i ≡ stop blank s i₀
 abbrev μ-loop : tie.MeasureT-loop
 μ-loop s at i₀ i = length s - i
 
-takes-space : blank 32 ≡ true
+takes-spaces : (b : ℕ) → isSpace b ≡ true → blank b ≡ true
 unfolding blank
-takes-space = refl
+takes-spaces b e = rw e
 
 loop-holds : tie.Need-loop-holds Inv-loop μ-loop
 loop-holds c = search needs
@@ -31,13 +32,13 @@ spaces-ahead-requires c κs = search needs
 
 -- the spaces that are passed leave a byte behind them
 inside : (c : tie.After-spaces-ahead Inv-loop μ-loop) → c .before .before .loop .i + c .spaces-ahead .result < length (c .before .before .before .before .args .s .now)
-inside c = past-in _ _ _ (c .spaces-ahead .ensures) (c .before .loop-test .taken)
+inside c = past-in blank isSpace takes-spaces _ _ _ (c .spaces-ahead .ensures) (c .before .loop-test .taken)
 
 -- and the run stops where it did
 same-stop : (c : tie.After-spaces-ahead Inv-loop μ-loop)
     → stop blank (c .before .before .before .before .args .s .now) (c .before .before .loop .i + c .spaces-ahead .result)
     ≡ stop blank (c .before .before .before .before .args .s .now) (c .before .before .before .before .args .at)
-same-stop c = stop-past blank takes-space _ _ _ (c .spaces-ahead .ensures) ∙ c .before .before .loop .inv
+same-stop c = stop-past blank isSpace takes-spaces _ _ _ (c .spaces-ahead .ensures) ∙ c .before .before .loop .inv
 
 add-i : tie.Need-add-i Inv-loop μ-loop
 add-i c = omega (arith, inside c)
