@@ -1,8 +1,12 @@
 // After base.rs: classes of bytes, blanks, runs (01, 'Tree text'); numbers and patterns are in `base_values`. Not its `&str` twin.
 // Every function takes any bytes and any place, also one past the end. A place is an index into the slice. Assumes nothing.
+use std::num::wrapping_sub_u64;
 ghost use mathlib.Core.Path.{_≡_};
-ghost use Rattle.written.specs.Bytes.{letter, digit, inPattern, inWord, blank, spaceOrTab, inName, byteAt};
+ghost use Prim.Native.Nat.{_+_, _≤_, _<_};
+ghost use lib.ListN.{length};
+ghost use Rattle.written.specs.Bytes.{letter, digit, inPattern, inWord, blank, spaceOrTab, inName, isNewline, byteAt};
 ghost use Rattle.laws.specs.Runs.{stop};
+ghost use Rattle.base.specs.Ahead.{bytesAt, little, isSpace, isPrinted, ahead};
 ghost use Rattle.base.specs.Classes.{classOf, testOf};
 
 // 01's classes.
@@ -32,17 +36,22 @@ pub enum Test {
     Word,
 }
 
-// The class of a byte, which patterns and references go by.
+// The class of a byte, which patterns and references go by. A match up to `@` and one behind it: the bytes of the first fit the bits of a word, so each is few steps.
 pub fn class_of(b: u8) -> Class
     ensures { λ r. ⌜ r ≡ classOf b ⌝ }
 {
+    if b <= b'@' {
+        return match b {
+            b'0'..=b'9' => Class::Digit,
+            b'*' | b'?' => Class::Wildcard,
+            b'!' | b'#' | b'%' | b'&' | b'+' | b'-' | b'/' | b':' | b'=' | b'@' => Class::Mark,
+            _ => Class::Rest,
+        };
+    }
     match b {
         b'A'..=b'Z' => Class::Letter,
         b'a'..=b'z' => Class::Letter,
-        b'0'..=b'9' => Class::Digit,
-        b'*' | b'?' => Class::Wildcard,
-        b'!' | b'#' | b'%' | b'&' | b'+' | b'-' | b'/' | b':' | b'=' | b'@' | b'^' | b'_' | b'|' =>
-            Class::Mark,
+        b'^' | b'_' | b'|' => Class::Mark,
         _ => Class::Rest,
     }
 }
@@ -57,10 +66,10 @@ pub fn is_digit(b: u8) -> bool
 fn is_letter(b: u8) -> bool
     ensures { λ r. ⌜ r ≡ letter b ⌝ }
 {
-    if b <= b'Z' {
-        return b'A' <= b;
+    if b'a' <= b && b <= b'z' {
+        return true;
     }
-    b'a' <= b && b <= b'z'
+    b'A' <= b && b <= b'Z'
 }
 
 // A byte that patterns are made of.
@@ -109,26 +118,14 @@ pub fn is_space_or_tab(b: u8) -> bool
     b == b' ' || b == b'\t'
 }
 
-// ASCII without blanks: a byte that names of questions are made of.
+// ASCII without blanks: a byte that names of questions are made of. Nearly all are printed ones, so these are decided at once.
 pub fn is_name(b: u8) -> bool
     ensures { λ r. ⌜ r ≡ inName b ⌝ }
 {
-    if b <= 127 { !is_blank(b) } else { false }
-}
-
-// Whether a byte passes a test.
-pub fn passes(t: Test, b: u8) -> bool
-    ensures { λ r. ⌜ r ≡ testOf t b ⌝ }
-{
-    match t {
-        Test::Blank => is_blank(b),
-        Test::SpaceOrTab => is_space_or_tab(b),
-        Test::Newline => b == b'\n',
-        Test::Name => is_name(b),
-        Test::Digits => is_digit(b),
-        Test::Pattern => is_pattern(b),
-        Test::Word => is_word(b),
+    if b' ' < b && b <= 127 {
+        return true;
     }
+    b < b' ' && b != b'\n'
 }
 
 fn wide(b: u8) -> u32
@@ -144,12 +141,65 @@ pub fn byte_at(s: &[u8], at: usize) -> u32
     if at < s.len() { wide(s[at]) } else { 256 }
 }
 
+fn broad(b: u8) -> u64
+    ensures { λ r. ⌜ (r ≡ b) × (r < 256) ⌝ }
+{
+    b as u64
+}
+
+// The eight bytes at `at` as a number, the first one lowest. The compiler makes this one read.
+fn eight(s: &[u8], at: usize) -> u64
+    requires { ⌜ at + 8 ≤ length (now s) ⌝ }
+    ensures { λ r. ⌜ r ≡ little (bytesAt 8 (now (s .entry)) at) ⌝ }
+{
+    broad(s[at])
+        + broad(s[at + 1]) * 0x100
+        + broad(s[at + 2]) * 0x1_0000
+        + broad(s[at + 3]) * 0x100_0000
+        + broad(s[at + 4]) * 0x1_0000_0000
+        + broad(s[at + 5]) * 0x100_0000_0000
+        + broad(s[at + 6]) * 0x1_0000_0000_0000
+        + broad(s[at + 7]) * 0x100_0000_0000_0000
+}
+
+// How many spaces come first in the eight bytes at `at`; none where no ninth byte stands behind them. Half of a tree text are spaces, most of them in long runs.
+fn spaces_ahead(s: &[u8], at: usize) -> usize
+    ensures { λ r. ⌜ r ≡ ahead isSpace (now (s .entry)) at ⌝ }
+{
+    if s.len() <= at {
+        return 0;
+    }
+    if s.len() - at <= 8 {
+        return 0;
+    }
+    // zero in each byte that is a space, up to the first that isn't
+    let apart = wrapping_sub_u64(eight(s, at), 0x2020_2020_2020_2020);
+    (u64::trailing_zeros(apart) / 8) as usize
+}
+
+// The same of printed bytes, `!` to 127, which names are made of.
+fn printed_ahead(s: &[u8], at: usize) -> usize
+    ensures { λ r. ⌜ r ≡ ahead isPrinted (now (s .entry)) at ⌝ }
+{
+    if s.len() <= at {
+        return 0;
+    }
+    if s.len() - at <= 8 {
+        return 0;
+    }
+    let bytes = eight(s, at);
+    // the top bit of each byte: set in those above 127, and in the difference from 160 of those up to the space
+    let others = (wrapping_sub_u64(0xA0A0_A0A0_A0A0_A0A0, bytes) | bytes) & 0x8080_8080_8080_8080;
+    (u64::trailing_zeros(others) / 8) as usize
+}
+
 // The ends of the runs that most of a tree text is read by: a loop each, so that the test is not chosen anew at every byte.
-fn blank_end(s: &[u8], at: usize) -> usize
+pub fn blank_end(s: &[u8], at: usize) -> usize
     ensures { λ r. ⌜ r ≡ stop blank (now (s .entry)) at ⌝ }
 {
     let mut i = at;
     while i < s.len() {
+        i = i + spaces_ahead(s, i);
         if !is_blank(s[i]) {
             return i;
         }
@@ -158,11 +208,12 @@ fn blank_end(s: &[u8], at: usize) -> usize
     i
 }
 
-fn name_end(s: &[u8], at: usize) -> usize
+pub fn name_end(s: &[u8], at: usize) -> usize
     ensures { λ r. ⌜ r ≡ stop inName (now (s .entry)) at ⌝ }
 {
     let mut i = at;
     while i < s.len() {
+        i = i + printed_ahead(s, i);
         if !is_name(s[i]) {
             return i;
         }
@@ -171,7 +222,7 @@ fn name_end(s: &[u8], at: usize) -> usize
     i
 }
 
-fn pattern_end(s: &[u8], at: usize) -> usize
+pub fn pattern_end(s: &[u8], at: usize) -> usize
     ensures { λ r. ⌜ r ≡ stop inPattern (now (s .entry)) at ⌝ }
 {
     let mut i = at;
@@ -184,7 +235,7 @@ fn pattern_end(s: &[u8], at: usize) -> usize
     i
 }
 
-fn word_end(s: &[u8], at: usize) -> usize
+pub fn word_end(s: &[u8], at: usize) -> usize
     ensures { λ r. ⌜ r ≡ stop inWord (now (s .entry)) at ⌝ }
 {
     let mut i = at;
@@ -197,12 +248,38 @@ fn word_end(s: &[u8], at: usize) -> usize
     i
 }
 
-fn test_end(t: Test, s: &[u8], at: usize) -> usize
-    ensures { λ r. ⌜ r ≡ stop (testOf t) (now (s .entry)) at ⌝ }
+pub fn space_or_tab_end(s: &[u8], at: usize) -> usize
+    ensures { λ r. ⌜ r ≡ stop spaceOrTab (now (s .entry)) at ⌝ }
 {
     let mut i = at;
     while i < s.len() {
-        if !passes(t, s[i]) {
+        if !is_space_or_tab(s[i]) {
+            return i;
+        }
+        i = i + 1;
+    }
+    i
+}
+
+fn newline_end(s: &[u8], at: usize) -> usize
+    ensures { λ r. ⌜ r ≡ stop isNewline (now (s .entry)) at ⌝ }
+{
+    let mut i = at;
+    while i < s.len() {
+        if s[i] != b'\n' {
+            return i;
+        }
+        i = i + 1;
+    }
+    i
+}
+
+fn digit_end(s: &[u8], at: usize) -> usize
+    ensures { λ r. ⌜ r ≡ stop digit (now (s .entry)) at ⌝ }
+{
+    let mut i = at;
+    while i < s.len() {
+        if !is_digit(s[i]) {
             return i;
         }
         i = i + 1;
@@ -219,6 +296,8 @@ pub fn run_end(t: Test, s: &[u8], at: usize) -> usize
         Test::Name => name_end(s, at),
         Test::Pattern => pattern_end(s, at),
         Test::Word => word_end(s, at),
-        _ => test_end(t, s, at),
+        Test::SpaceOrTab => space_or_tab_end(s, at),
+        Test::Newline => newline_end(s, at),
+        Test::Digits => digit_end(s, at),
     }
 }

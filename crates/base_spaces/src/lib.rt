@@ -1,8 +1,12 @@
 // After base.rs, `sp` and `sp1`, and what the readers build of them: a name between blanks, what parts two items, what closes braces (01, 'Tree text').
 // Every function takes any bytes and any place, also one past the end. A place is an index into the slice. Assumes nothing.
-use base::Test;
-use base::run_end;
+use base::blank_end;
+use base::byte_at;
+use base::name_end;
+use base::space_or_tab_end;
 ghost use mathlib.Core.Path.{_≡_};
+ghost use Rattle.written.specs.Bytes.{blank};
+ghost use Rattle.laws.specs.Runs.{stop};
 ghost use Rattle.base_spaces.specs.Spaces.{pastByte, nameOf, nameAt, newlineAt, partingAt, linePartingAt, closeAt};
 
 // Where reading goes on, if what was looked for stands there.
@@ -57,9 +61,9 @@ fn some_name(at: usize, start: usize, end: usize, next: usize) -> Name
 pub fn name_between(s: &[u8], at: usize) -> Name
     ensures { λ r. ⌜ r ≡ nameAt (now (s .entry)) at ⌝ }
 {
-    let start = run_end(Test::Blank, s, at);
-    let end = run_end(Test::Name, s, start);
-    let next = run_end(Test::Blank, s, end);
+    let start = blank_end(s, at);
+    let end = name_end(s, start);
+    let next = blank_end(s, end);
     some_name(at, start, end, next)
 }
 
@@ -67,7 +71,7 @@ pub fn name_between(s: &[u8], at: usize) -> Name
 fn past_newline(s: &[u8], at: usize) -> Place
     ensures { λ r. ⌜ r ≡ newlineAt (now (s .entry)) at ⌝ }
 {
-    past_byte(s, run_end(Test::SpaceOrTab, s, at), b'\n')
+    past_byte(s, space_or_tab_end(s, at), b'\n')
 }
 
 // What parts two questions or two trees: where the next one stands.
@@ -75,7 +79,7 @@ pub fn past_parting(s: &[u8], at: usize) -> Place
     ensures { λ r. ⌜ r ≡ partingAt (now (s .entry)) at ⌝ }
 {
     match past_newline(s, at) {
-        Place::At(next) => Place::At(run_end(Test::Blank, s, next)),
+        Place::At(next) => Place::At(blank_end(s, next)),
         Place::Nowhere => Place::Nowhere,
     }
 }
@@ -86,9 +90,23 @@ pub fn past_line_parting(s: &[u8], at: usize) -> Place
 {
     match past_newline(s, at) {
         Place::At(next) => {
-            let tabs = run_end(Test::SpaceOrTab, s, next);
-            Place::At(run_end(Test::Blank, s, tabs))
+            let tabs = space_or_tab_end(s, next);
+            Place::At(blank_end(s, tabs))
         }
+        Place::Nowhere => Place::Nowhere,
+    }
+}
+
+// The same, where the blanks from `at` on are known to end at `past`: unless a tab stands there, this is where the next line does.
+pub fn line_parting(s: &[u8], at: usize, past: usize) -> Place
+    requires { ⌜ past ≡ stop blank (now s) at ⌝ }
+    ensures { λ r. ⌜ r ≡ linePartingAt (now (s .entry)) at ⌝ }
+{
+    if byte_at(s, past) == 9 {
+        return past_line_parting(s, at);
+    }
+    match past_newline(s, at) {
+        Place::At(_) => Place::At(past),
         Place::Nowhere => Place::Nowhere,
     }
 }
@@ -97,5 +115,5 @@ pub fn past_line_parting(s: &[u8], at: usize) -> Place
 pub fn past_brace(s: &[u8], at: usize) -> Place
     ensures { λ r. ⌜ r ≡ closeAt (now (s .entry)) at ⌝ }
 {
-    past_byte(s, run_end(Test::Blank, s, at), b'}')
+    past_byte(s, blank_end(s, at), b'}')
 }

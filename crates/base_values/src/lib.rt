@@ -1,9 +1,8 @@
 // After base.rs: decimal numbers, patterns, and comparing two byte strings (01, 'Tree text').
 // Every function takes any bytes and any place, also one past the end. A place is an index into the slice. Assumes nothing.
-use base::Test;
 use base::byte_at;
 use base::is_digit;
-use base::run_end;
+use base::pattern_end;
 ghost use mathlib.Core.Path.{_≡_};
 ghost use mathlib.Core.Bool.{cond};
 ghost use Prim.Native.Nat.{_≤_, _<_, _^_};
@@ -155,13 +154,13 @@ pub fn parse_pattern(s: &[u8], at: usize) -> Pattern
     ensures { λ r. ⌜ r ≡ patternAt (now (s .entry)) at ⌝ }
 {
     if byte_at(s, at) == 34 {
-        let end = run_end(Test::Pattern, s, at + 1);
+        let end = pattern_end(s, at + 1);
         if byte_at(s, end) == 34 {
             return some_pattern(at + 1, end, end + 1);
         }
         return Pattern::NoPattern;
     }
-    let end = run_end(Test::Pattern, s, at);
+    let end = pattern_end(s, at);
     some_pattern(at, end, end)
 }
 

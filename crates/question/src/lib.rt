@@ -1,8 +1,7 @@
 // After model/question.rs: the questions of a tree text (01, 'Tree text'). `QS`, blanks, a name, blanks, `{`, patterns parted by commas, `}`.
 // A caller reads in order: `first_item`; for each question its `question_head`, then `next_pattern` up to the last, then `after_question`.
 // Every function takes any bytes and any place, also one past the end. A place is an index into the slice. Assumes nothing.
-use base::Test;
-use base::run_end;
+use base::blank_end;
 use base_spaces::Name;
 use base_spaces::Place;
 use base_spaces::name_between;
@@ -60,7 +59,7 @@ fn starts_question(s: &[u8], at: usize) -> bool
     ensures { λ r. ⌜ r ≡ startsQuestion (now (s .entry)) at ⌝ }
 {
     match past_qs(s, at) {
-        Place::At(next) => next < run_end(Test::Blank, s, next),
+        Place::At(next) => next < blank_end(s, next),
         Place::Nowhere => false,
     }
 }
@@ -75,7 +74,7 @@ pub fn question_head(s: &[u8], at: usize) -> QuestionHead
                 Place::At(inside) => QuestionHead::Named {
                     start,
                     len,
-                    first: run_end(Test::Blank, s, inside),
+                    first: blank_end(s, inside),
                 },
                 Place::Nowhere => QuestionHead::NoQuestion,
             },
@@ -93,7 +92,7 @@ fn after_pattern(s: &[u8], start: usize, len: usize, end: usize) -> PatternStep
         Place::At(past) => PatternStep::Next {
             start,
             len,
-            next: run_end(Test::Blank, s, past),
+            next: blank_end(s, past),
         },
         Place::Nowhere => match past_brace(s, end) {
             Place::At(next) => PatternStep::Last { start, len, next },
@@ -119,7 +118,7 @@ pub fn first_item(s: &[u8], at: usize) -> Item
     if starts_question(s, at) {
         Item::Question(at)
     } else {
-        Item::Tree(run_end(Test::Blank, s, at))
+        Item::Tree(blank_end(s, at))
     }
 }
 
@@ -132,9 +131,9 @@ pub fn after_question(s: &[u8], at: usize) -> Item
             if starts_question(s, next) {
                 Item::Question(next)
             } else {
-                Item::Tree(run_end(Test::Blank, s, at))
+                Item::Tree(blank_end(s, at))
             }
         }
-        Place::Nowhere => Item::Tree(run_end(Test::Blank, s, at)),
+        Place::Nowhere => Item::Tree(blank_end(s, at)),
     }
 }

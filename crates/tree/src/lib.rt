@@ -2,8 +2,7 @@
 // `{*}`, `[state]` with blanks around it, then one reference, or `{` lines `}` with possibly no line. Lines are read by `tree_line`.
 // A caller reads in order: `tree_head`; where it has lines, these up to the last; then `after_tree`.
 // Every function takes any bytes and any place, also one past the end. A place is an index into the slice. Assumes nothing.
-use base::Test;
-use base::run_end;
+use base::blank_end;
 use base_spaces::Place;
 use base_spaces::past_brace;
 use base_spaces::past_byte;
@@ -62,7 +61,7 @@ fn parse_number(s: &[u8], at: usize) -> Signed
         Signed::Number { value, next } => match past_byte(s, next, b']') {
             Place::At(past) => Signed::Number {
                 value,
-                next: run_end(Test::Blank, s, past),
+                next: blank_end(s, past),
             },
             Place::Nowhere => Signed::NoNumber,
         },
@@ -75,7 +74,7 @@ fn parse_state(s: &[u8], at: usize) -> Signed
     ensures { λ r. ⌜ r ≡ stateAt (now (s .entry)) at ⌝ }
 {
     match past_star(s, at) {
-        Place::At(past) => match past_byte(s, run_end(Test::Blank, s, past), b'[') {
+        Place::At(past) => match past_byte(s, blank_end(s, past), b'[') {
             Place::At(inside) => parse_number(s, inside),
             Place::Nowhere => Signed::NoNumber,
         },
@@ -92,7 +91,7 @@ fn parse_body(s: &[u8], at: usize, state: i64) -> TreeHead
             Place::At(next) => TreeHead::Empty { state, next },
             Place::Nowhere => TreeHead::Lines {
                 state,
-                first: run_end(Test::Blank, s, inside),
+                first: blank_end(s, inside),
             },
         },
         Place::Nowhere => match parse_tree_index(s, at) {
@@ -116,7 +115,7 @@ pub fn tree_head(s: &[u8], at: usize) -> TreeHead
 pub fn after_tree(s: &[u8], at: usize) -> TreeStep
     ensures { λ r. ⌜ r ≡ afterTree (now (s .entry)) at ⌝ }
 {
-    let end = run_end(Test::Blank, s, at);
+    let end = blank_end(s, at);
     if end == s.len() {
         return TreeStep::End;
     }

@@ -1,13 +1,12 @@
 // After model/tree.rs, `parse_node`: the lines of a tree (01, 'Tree text'). Id, question name, no reference, yes reference: on the page no stands before yes.
 // A caller reads the lines of a tree in order, by `next_line` from the place of the first up to the last.
 // Every function takes any bytes and any place, also one past the end. A place is an index into the slice. Assumes nothing.
-use base::Test;
-use base::run_end;
+use base::blank_end;
 use base_spaces::Name;
 use base_spaces::Place;
+use base_spaces::line_parting;
 use base_spaces::name_between;
-use base_spaces::past_brace;
-use base_spaces::past_line_parting;
+use base_spaces::past_byte;
 use base_values::Signed;
 use base_values::parse_signed;
 use tree_reference::Reference;
@@ -51,7 +50,7 @@ pub enum LineStep {
 fn parse_yes(s: &[u8], at: usize, no: TreeIndex) -> Branches
     ensures { λ r. ⌜ r ≡ yesAt (now (s .entry)) at no ⌝ }
 {
-    let start = run_end(Test::Blank, s, at);
+    let start = blank_end(s, at);
     if start <= at {
         return Branches::NoBranches;
     }
@@ -108,9 +107,10 @@ pub fn parse_line(s: &[u8], at: usize) -> ReadLine
 fn after_line(s: &[u8], line: Line, end: usize) -> LineStep
     ensures { λ r. ⌜ r ≡ afterLine (now (s .entry)) line end ⌝ }
 {
-    match past_brace(s, end) {
+    let past = blank_end(s, end);
+    match past_byte(s, past, b'}') {
         Place::At(next) => LineStep::Last { line, next },
-        Place::Nowhere => match past_line_parting(s, end) {
+        Place::Nowhere => match line_parting(s, end, past) {
             Place::At(next) => LineStep::Next { line, next },
             Place::Nowhere => LineStep::Broken,
         },

@@ -1,9 +1,8 @@
 // After model/tree.rs, `parse_tree_index`: references (01, 'Tree text').
 // A reference is bare or in `"`: a number that fits signed 64 bits is a node; failing that, letters, digits and `_` are a PDF, by the digits at their end.
 // Every function takes any bytes and any place, also one past the end. A place is an index into the slice. Assumes nothing.
-use base::Test;
 use base::is_digit;
-use base::run_end;
+use base::word_end;
 use base_spaces::Place;
 use base_spaces::past_byte;
 use base_values::Signed;
@@ -43,7 +42,7 @@ fn digits_start(s: &[u8], at: usize, end: usize) -> usize
 fn parse_pdf(s: &[u8], at: usize) -> Reference
     ensures { λ r. ⌜ r ≡ pdfAt (now (s .entry)) at ⌝ }
 {
-    let end = run_end(Test::Word, s, at);
+    let end = word_end(s, at);
     let start = digits_start(s, at, end);
     if end <= start {
         return Reference::NoReference;

@@ -1,12 +1,16 @@
--- `base::blank_end`: the place where the run stops is the same from each place that the loop passes. Assumes nothing.
-use Prim.Native.Nat.{_-_}
+-- `base::blank_end`: the place where the run stops is the same from each place that the loop passes, over the spaces ahead too. Assumes nothing.
+use Prim.Native.Nat.{ℕ, _+_, _-_, _<_}
+use mathlib.Core.Bool.{true}
 use mathlib.Core.Path.{_≡_, sym, _∙_}
+use native.Mathlib.Omega.{arith}
 use lib.ListN.{length}
 use borrow.Author.Needs.{needs}
 use borrow.Author.Tests.{not-true, not-false}
 use Rattle.written.specs.Bytes.{blank}
 use Rattle.laws.specs.Runs.{stop}
 use Rattle.laws.proofs.Runs.{stop-on, stop-here, stop-end}
+use Rattle.base.specs.Ahead.{isSpace}
+use Rattle.base.proofs.Ahead.{past-in, stop-past}
 use Rattle.base.proofs.blank_end.Statement.{statement}
 use Rattle.base.proofs.blank_end.Tie as tie
 
@@ -16,30 +20,50 @@ Inv-loop s at i₀ i = stop blank s i ≡ stop blank s i₀
 abbrev μ-loop : tie.MeasureT-loop
 μ-loop s at i₀ i = length s - i
 
+takes-spaces : (b : ℕ) → isSpace b ≡ true → blank b ≡ true
+unfolding blank
+takes-spaces b e = rw e
+
 loop-holds : tie.Need-loop-holds Inv-loop μ-loop
 loop-holds c = search needs
 
+spaces-ahead-requires : tie.Need-spaces-ahead-requires Inv-loop μ-loop
+spaces-ahead-requires c κs = search needs
+
+-- the spaces that are passed leave a byte behind them
+inside : (c : tie.After-spaces-ahead Inv-loop μ-loop) → c .before .before .loop .i + c .spaces-ahead .result < length (c .before .before .before .before .args .s .now)
+inside c = past-in blank isSpace takes-spaces _ _ _ (c .spaces-ahead .ensures) (c .before .loop-test .taken)
+
+-- and the run stops where it did
+same-stop : (c : tie.After-spaces-ahead Inv-loop μ-loop)
+    → stop blank (c .before .before .before .before .args .s .now) (c .before .before .loop .i + c .spaces-ahead .result)
+    ≡ stop blank (c .before .before .before .before .args .s .now) (c .before .before .before .before .args .at)
+same-stop c = stop-past blank isSpace takes-spaces _ _ _ (c .spaces-ahead .ensures) ∙ c .before .before .loop .inv
+
+add-i : tie.Need-add-i Inv-loop μ-loop
+add-i c = omega (arith, inside c)
+
 shared-slice-read-is-blank : tie.Need-shared-slice-read-is-blank Inv-loop μ-loop
-shared-slice-read-is-blank c = search needs
+shared-slice-read-is-blank c = inside (c .before)
 
 is-blank-requires : tie.Need-is-blank-requires Inv-loop μ-loop
 is-blank-requires c κs = search needs
 
 returns : tie.Need-returns Inv-loop μ-loop
 returns c =
-    let at-loop = c .before .before .before .before in
-    sym (stop-here _ _ _ (c .before .before .before .loop-test .taken) (sym (c .before .is-blank .ensures) ∙ not-true _ (c .if1 .taken))) ∙ at-loop .loop .inv
+    let ahead = c .before .before .before in
+    sym (stop-here _ _ _ (inside ahead) (sym (c .before .is-blank .ensures) ∙ not-true _ (c .if1 .taken))) ∙ same-stop ahead
 
-add-i : tie.Need-add-i Inv-loop μ-loop
-add-i c = search needs
+add-i-2 : tie.Need-add-i-2 Inv-loop μ-loop
+add-i-2 c = omega (arith, inside (c .before .before .before))
 
 loop-less : tie.Need-loop-less Inv-loop μ-loop
-loop-less c = search needs
+loop-less c = omega (arith, inside (c .before .before .before))
 
 loop-again : tie.Need-loop-again Inv-loop μ-loop
 loop-again c =
-    let at-loop = c .before .before .before .before in
-    sym (stop-on _ _ _ (c .before .before .before .loop-test .taken) (sym (c .before .is-blank .ensures) ∙ not-false _ (c .if1 .left))) ∙ at-loop .loop .inv
+    let ahead = c .before .before .before in
+    sym (stop-on _ _ _ (inside ahead) (sym (c .before .is-blank .ensures) ∙ not-false _ (c .if1 .left))) ∙ same-stop ahead
 
 returns-2 : tie.Need-returns-2 Inv-loop μ-loop
 returns-2 c = sym (stop-end _ _ _ (c .loop-test .left)) ∙ c .before .loop .inv
@@ -51,10 +75,12 @@ blank-end-spec =
     Inv-loop
     μ-loop
     loop-holds
+    spaces-ahead-requires
+    add-i
     shared-slice-read-is-blank
     is-blank-requires
     returns
-    add-i
+    add-i-2
     loop-less
     loop-again
     returns-2)

@@ -1,46 +1,39 @@
--- `base::is_letter`: up to `Z` only the first range can hold, behind it only the second. Assumes nothing.
-use mathlib.Core.Path.{_≡_, refl}
+-- `base::is_letter`: `a` to `z` at once, and behind that only the other range can hold. Assumes nothing.
+use mathlib.Core.Path.{_≡_, refl, sym}
 use mathlib.Core.Bool.{Bool, true, false, _&&_, _||_}
+use mathlib.Core.Logic.{_⊎_, ⊎-elim, inl, inr}
 use Prim.Native.Nat.{ℕ, _≤_, _<_}
 use native.Mathlib.Omega.{arith}
-use borrow.Author.Tests.{le-leb, lt-leb}
+use borrow.Author.Tests.{le-leb, lt-leb, leb-true, leb-false}
 use lib.Dec.{leb}
 use Rattle.written.specs.Bytes.{letter}
 use Rattle.base.proofs.is_letter.Statement.{statement}
 use Rattle.base.proofs.is_letter.Tie as tie
 
-up-to : (b : ℕ) → b ≤ 90 → leb 65 b ≡ letter b
+small : (b : ℕ) → 97 ≤ b → b ≤ 122 → letter b ≡ true
 unfolding letter
-up-to b h = rw (le-leb b 90 h, lt-leb 97 b (omega arith)) (go (leb 65 b) (leb b 122))
-  where
-    go : (x y : Bool) → x ≡ ((x && true) || (false && y))
-    go true y = refl
-    go false y = refl
+small b h l = rw (le-leb 65 b (omega arith), lt-leb b 90 (omega arith), le-leb 97 b h, le-leb b 122 l)
 
-behind : (b : ℕ) → 90 < b → 97 ≤ b → leb b 122 ≡ letter b
+large : (b : ℕ) → 65 ≤ b → (b < 97) ⊎ (122 < b) → leb b 90 ≡ letter b
 unfolding letter
-behind b h k = rw (lt-leb b 90 h, le-leb 97 b k) (go (leb 65 b) (leb b 122))
+large b h w = rw (le-leb 65 b h) (⊎-elim (λ l. rw (lt-leb 97 b l) (go (leb b 90))) (λ g. rw (le-leb 97 b (omega arith), lt-leb b 90 (omega arith), lt-leb b 122 g)) w)
   where
-    go : (x y : Bool) → y ≡ ((x && false) || (true && y))
-    go true y = refl
-    go false y = refl
+    go : (x : Bool) → x ≡ (x || false)
+    go true = refl
+    go false = refl
 
-between : (b : ℕ) → 90 < b → b < 97 → leb 97 b ≡ letter b
+neither : (b : ℕ) → b < 65 → leb 65 b ≡ letter b
 unfolding letter
-between b h k = rw (lt-leb b 90 h, lt-leb 97 b k) (go (leb 65 b) (leb b 122))
-  where
-    go : (x y : Bool) → false ≡ ((x && false) || (false && y))
-    go true y = refl
-    go false y = refl
+neither b h = rw (lt-leb 65 b h, lt-leb 97 b (omega arith))
 
 returns : tie.Need-returns
-returns c = up-to _ (c .if1 .taken)
+returns c = sym (small _ (c .before .if1 .taken) (leb-true _ _ (c .if2 .taken)))
 
 returns-2 : tie.Need-returns-2
-returns-2 c = behind _ (c .before .if1 .left) (c .if2 .taken)
+returns-2 c = large _ (c .if3 .taken) (⊎-elim (λ w. inr (leb-false _ _ (w .1 .left))) (λ w. inl (w .left)) (c .before .if1 .came))
 
 returns-3 : tie.Need-returns-3
-returns-3 c = between _ (c .before .if1 .left) (c .if2 .left)
+returns-3 c = neither _ (c .if3 .left)
 
 pub is-letter-spec : {M : Type 1} → statement M
 is-letter-spec = tie.close (tie.spec returns returns-2 returns-3)

@@ -27,8 +27,23 @@ enum-told-4 c = search needs
 word-end-requires : tie.Need-word-end-requires
 word-end-requires c κs = search needs
 
-test-end-requires : tie.Need-test-end-requires
-test-end-requires c κs = search needs
+enum-told-5 : tie.Need-enum-told-5
+enum-told-5 c = search needs
+
+space-or-tab-end-requires : tie.Need-space-or-tab-end-requires
+space-or-tab-end-requires c κs = search needs
+
+enum-told-6 : tie.Need-enum-told-6
+enum-told-6 c = search needs
+
+newline-end-requires : tie.Need-newline-end-requires
+newline-end-requires c κs = search needs
+
+enum-told-7 : tie.Need-enum-told-7
+enum-told-7 c = search needs
+
+digit-end-requires : tie.Need-digit-end-requires
+digit-end-requires c κs = search needs
 
 returns : tie.Need-returns
 returns c = rw (c .before .enum-told .given .1) (c .blank-end .ensures)
@@ -43,7 +58,13 @@ returns-4 : tie.Need-returns-4
 returns-4 c = rw (c .before .enum-told4 .given .1) (c .word-end .ensures)
 
 returns-5 : tie.Need-returns-5
-returns-5 c = search needs
+returns-5 c = rw (c .before .enum-told5 .given .1) (c .space-or-tab-end .ensures)
+
+returns-6 : tie.Need-returns-6
+returns-6 c = rw (c .before .enum-told6 .given .1) (c .newline-end .ensures)
+
+returns-7 : tie.Need-returns-7
+returns-7 c = rw (c .before .enum-told7 .given .1) (c .digit-end .ensures)
 
 pub run-end-spec : {M : Type 1} → statement M
 run-end-spec =
@@ -57,9 +78,16 @@ run-end-spec =
     pattern-end-requires
     enum-told-4
     word-end-requires
-    test-end-requires
+    enum-told-5
+    space-or-tab-end-requires
+    enum-told-6
+    newline-end-requires
+    enum-told-7
+    digit-end-requires
     returns
     returns-2
     returns-3
     returns-4
-    returns-5)
+    returns-5
+    returns-6
+    returns-7)

@@ -13,22 +13,22 @@ runs : (s : List ℕ) (i : ℕ) {b c d : ℕ} → b ≡ stop blank s i → c ≡
 unfolding nameAt
 runs s i p q r = rw (r, q, p)
 
-run-end-requires : tie.Need-run-end-requires
-run-end-requires c κs = search needs
+blank-end-requires : tie.Need-blank-end-requires
+blank-end-requires c κs = search needs
 
-run-end-requires-2 : tie.Need-run-end-requires-2
-run-end-requires-2 c κs = search needs
+name-end-requires : tie.Need-name-end-requires
+name-end-requires c κs = search needs
 
-run-end-requires-3 : tie.Need-run-end-requires-3
-run-end-requires-3 c κs = search needs
+blank-end-requires-2 : tie.Need-blank-end-requires-2
+blank-end-requires-2 c κs = search needs
 
 some-name-requires : tie.Need-some-name-requires
 some-name-requires c κs = search needs
 
 returns : tie.Need-returns
-returns c = c .some-name .ensures ∙ runs _ _ (c .before .before .before .run-end .ensures) (c .before .before .run-end2 .ensures) (c .before .run-end3 .ensures)
+returns c = c .some-name .ensures ∙ runs _ _ (c .before .before .before .blank-end .ensures) (c .before .before .name-end .ensures) (c .before .blank-end2 .ensures)
 
 pub name-between-spec : {M : Type 1} → statement M
 name-between-spec =
     tie.close
-    (tie.spec run-end-requires run-end-requires-2 run-end-requires-3 some-name-requires returns)
+    (tie.spec blank-end-requires name-end-requires blank-end-requires-2 some-name-requires returns)

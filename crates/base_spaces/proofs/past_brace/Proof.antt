@@ -6,15 +6,15 @@ use borrow.Author.Needs.{needs}
 use Rattle.base_spaces.proofs.past_brace.Statement.{statement}
 use Rattle.base_spaces.proofs.past_brace.Tie as tie
 
-run-end-requires : tie.Need-run-end-requires
-run-end-requires c κs = search needs
+blank-end-requires : tie.Need-blank-end-requires
+blank-end-requires c κs = search needs
 
 past-byte-requires : tie.Need-past-byte-requires
 past-byte-requires c κs = search needs
 
 returns : tie.Need-returns
 unfolding closeAt
-returns c = c .past-byte .ensures ∙ ap (pastByte unbrace _) (c .before .run-end .ensures)
+returns c = c .past-byte .ensures ∙ ap (pastByte unbrace _) (c .before .blank-end .ensures)
 
 pub past-brace-spec : {M : Type 1} → statement M
-past-brace-spec = tie.close (tie.spec run-end-requires past-byte-requires returns)
+past-brace-spec = tie.close (tie.spec blank-end-requires past-byte-requires returns)

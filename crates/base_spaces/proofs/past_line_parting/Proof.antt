@@ -14,11 +14,11 @@ past-newline-requires c κs = search needs
 enum-known-next : tie.Need-enum-known-next
 enum-known-next c = search needs
 
-run-end-requires : tie.Need-run-end-requires
-run-end-requires c κs = search needs
+space-or-tab-end-requires : tie.Need-space-or-tab-end-requires
+space-or-tab-end-requires c κs = search needs
 
-run-end-requires-2 : tie.Need-run-end-requires-2
-run-end-requires-2 c κs = search needs
+blank-end-requires : tie.Need-blank-end-requires
+blank-end-requires c κs = search needs
 
 enum-told : tie.Need-enum-told
 enum-told c = search needs
@@ -26,7 +26,7 @@ enum-told c = search needs
 returns : tie.Need-returns
 unfolding linePartingAt
 returns c =
-    ap At (c .run-end2 .ensures ∙ ap (stop blank _) (c .before .run-end .ensures))
+    ap At (c .blank-end .ensures ∙ ap (stop blank _) (c .before .space-or-tab-end .ensures))
     ∙ ap (thenAt (λ j. stop blank _ (stop spaceOrTab _ j))) (sym (c .before .before .before .next .given .1) ∙ c .before .before .before .before .before .past-newline .ensures)
 
 returns-2 : tie.Need-returns-2
@@ -39,8 +39,8 @@ past-line-parting-spec =
     (tie.spec
     past-newline-requires
     enum-known-next
-    run-end-requires
-    run-end-requires-2
+    space-or-tab-end-requires
+    blank-end-requires
     enum-told
     returns
     returns-2)

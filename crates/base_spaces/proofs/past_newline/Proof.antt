@@ -6,15 +6,15 @@ use borrow.Author.Needs.{needs}
 use Rattle.base_spaces.proofs.past_newline.Statement.{statement}
 use Rattle.base_spaces.proofs.past_newline.Tie as tie
 
-run-end-requires : tie.Need-run-end-requires
-run-end-requires c κs = search needs
+space-or-tab-end-requires : tie.Need-space-or-tab-end-requires
+space-or-tab-end-requires c κs = search needs
 
 past-byte-requires : tie.Need-past-byte-requires
 past-byte-requires c κs = search needs
 
 returns : tie.Need-returns
 unfolding newlineAt
-returns c = c .past-byte .ensures ∙ ap (pastByte newline _) (c .before .run-end .ensures)
+returns c = c .past-byte .ensures ∙ ap (pastByte newline _) (c .before .space-or-tab-end .ensures)
 
 pub past-newline-spec : {M : Type 1} → statement M
-past-newline-spec = tie.close (tie.spec run-end-requires past-byte-requires returns)
+past-newline-spec = tie.close (tie.spec space-or-tab-end-requires past-byte-requires returns)

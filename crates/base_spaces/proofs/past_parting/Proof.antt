@@ -14,15 +14,15 @@ past-newline-requires c κs = search needs
 enum-known-next : tie.Need-enum-known-next
 enum-known-next c = search needs
 
-run-end-requires : tie.Need-run-end-requires
-run-end-requires c κs = search needs
+blank-end-requires : tie.Need-blank-end-requires
+blank-end-requires c κs = search needs
 
 enum-told : tie.Need-enum-told
 enum-told c = search needs
 
 returns : tie.Need-returns
 unfolding partingAt
-returns c = ap At (c .run-end .ensures) ∙ ap (thenAt (stop blank _)) (sym (c .before .before .next .given .1) ∙ c .before .before .before .before .past-newline .ensures)
+returns c = ap At (c .blank-end .ensures) ∙ ap (thenAt (stop blank _)) (sym (c .before .before .next .given .1) ∙ c .before .before .before .before .past-newline .ensures)
 
 returns-2 : tie.Need-returns-2
 unfolding partingAt
@@ -31,4 +31,4 @@ returns-2 c = ap (thenAt (stop blank _)) (sym (c .enum-told .given .1) ∙ c .be
 pub past-parting-spec : {M : Type 1} → statement M
 past-parting-spec =
     tie.close
-    (tie.spec past-newline-requires enum-known-next run-end-requires enum-told returns returns-2)
+    (tie.spec past-newline-requires enum-known-next blank-end-requires enum-told returns returns-2)

@@ -30,11 +30,11 @@ module _ (s : List ℕ) (i : ℕ) {b e : ℕ} (first : b ≡ byteAt s i) where
 byte-at-requires : tie.Need-byte-at-requires
 byte-at-requires c κs = search needs
 
-add-run-end : tie.Need-add-run-end
-add-run-end c = omega (arith, read-in _ _ (c .before .byte-at .ensures) (c .if1 .taken) (omega arith))
+add-pattern-end : tie.Need-add-pattern-end
+add-pattern-end c = omega (arith, read-in _ _ (c .before .byte-at .ensures) (c .if1 .taken) (omega arith))
 
-run-end-requires : tie.Need-run-end-requires
-run-end-requires c κs = search needs
+pattern-end-requires : tie.Need-pattern-end-requires
+pattern-end-requires c κs = search needs
 
 byte-at-requires-2 : tie.Need-byte-at-requires-2
 byte-at-requires-2 c κs = search needs
@@ -49,33 +49,33 @@ some-pattern-requires : tie.Need-some-pattern-requires
 some-pattern-requires c κs = search needs
 
 returns : tie.Need-returns
-returns c = c .some-pattern .ensures ∙ closed _ _ (c .before .before .before .before .before .byte-at .ensures) (c .before .before .before .before .if1 .taken) (c .before .before .before .run-end .ensures) (c .before .before .byte-at2 .ensures) (c .before .if2 .taken)
+returns c = c .some-pattern .ensures ∙ closed _ _ (c .before .before .before .before .before .byte-at .ensures) (c .before .before .before .before .if1 .taken) (c .before .before .before .pattern-end .ensures) (c .before .before .byte-at2 .ensures) (c .before .if2 .taken)
 
 returns-2 : tie.Need-returns-2
-returns-2 c = unclosed _ _ (c .before .before .before .before .byte-at .ensures) (c .before .before .before .if1 .taken) (c .before .before .run-end .ensures) (c .before .byte-at2 .ensures) (c .if2 .left)
+returns-2 c = unclosed _ _ (c .before .before .before .before .byte-at .ensures) (c .before .before .before .if1 .taken) (c .before .before .pattern-end .ensures) (c .before .byte-at2 .ensures) (c .if2 .left)
 
-run-end-requires-2 : tie.Need-run-end-requires-2
-run-end-requires-2 c κs = search needs
+pattern-end-requires-2 : tie.Need-pattern-end-requires-2
+pattern-end-requires-2 c κs = search needs
 
 some-pattern-requires-2 : tie.Need-some-pattern-requires-2
 some-pattern-requires-2 c κs = search needs
 
 returns-3 : tie.Need-returns-3
-returns-3 c = c .some-pattern2 .ensures ∙ bare _ _ (c .before .before .before .byte-at .ensures) (c .before .before .if1 .left) (c .before .run-end2 .ensures)
+returns-3 c = c .some-pattern2 .ensures ∙ bare _ _ (c .before .before .before .byte-at .ensures) (c .before .before .if1 .left) (c .before .pattern-end2 .ensures)
 
 pub parse-pattern-spec : {M : Type 1} → statement M
 parse-pattern-spec =
     tie.close
     (tie.spec
     byte-at-requires
-    add-run-end
-    run-end-requires
+    add-pattern-end
+    pattern-end-requires
     byte-at-requires-2
     add-some-pattern
     add-some-pattern-2
     some-pattern-requires
     returns
     returns-2
-    run-end-requires-2
+    pattern-end-requires-2
     some-pattern-requires-2
     returns-3)

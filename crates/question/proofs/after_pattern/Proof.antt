@@ -16,8 +16,8 @@ past-byte-requires c κs = search needs
 enum-known-past : tie.Need-enum-known-past
 enum-known-past c = search needs
 
-run-end-requires : tie.Need-run-end-requires
-run-end-requires c κs = search needs
+blank-end-requires : tie.Need-blank-end-requires
+blank-end-requires c κs = search needs
 
 enum-told : tie.Need-enum-told
 enum-told c = search needs
@@ -33,7 +33,7 @@ enum-told-2 c = search needs
 
 returns : tie.Need-returns
 unfolding afterPattern
-returns c = further (c .run-end .ensures) ∙ ap (patternParted _ _ _ _) (sym (c .before .before .past .given .1) ∙ c .before .before .before .before .past-byte .ensures)
+returns c = further (c .blank-end .ensures) ∙ ap (patternParted _ _ _ _) (sym (c .before .before .past .given .1) ∙ c .before .before .before .before .past-byte .ensures)
 
 returns-2 : tie.Need-returns-2
 unfolding afterPattern
@@ -53,7 +53,7 @@ after-pattern-spec =
     (tie.spec
     past-byte-requires
     enum-known-past
-    run-end-requires
+    blank-end-requires
     enum-told
     past-brace-requires
     enum-known-next

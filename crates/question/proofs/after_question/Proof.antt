@@ -31,24 +31,24 @@ enum-known-next c = search needs
 starts-question-requires : tie.Need-starts-question-requires
 starts-question-requires c κs = search needs
 
-run-end-requires : tie.Need-run-end-requires
-run-end-requires c κs = search needs
+blank-end-requires : tie.Need-blank-end-requires
+blank-end-requires c κs = search needs
 
 enum-told : tie.Need-enum-told
 enum-told c = search needs
 
-run-end-requires-2 : tie.Need-run-end-requires-2
-run-end-requires-2 c κs = search needs
+blank-end-requires-2 : tie.Need-blank-end-requires-2
+blank-end-requires-2 c κs = search needs
 
 returns : tie.Need-returns
 returns c = another _ _ _ (sym (c .before .before .before .next .given .1) ∙ c .before .before .before .before .before .past-parting .ensures) (sym (c .before .starts-question .ensures) ∙ c .if1 .taken)
 
 returns-2 : tie.Need-returns-2
-returns-2 c = ap Tree (c .run-end .ensures) ∙ other _ _ _ (sym (c .before .before .before .before .next .given .1) ∙ c .before .before .before .before .before .before .past-parting .ensures) (sym (c .before .before .starts-question .ensures) ∙ c .before .if1 .left)
+returns-2 c = ap Tree (c .blank-end .ensures) ∙ other _ _ _ (sym (c .before .before .before .before .next .given .1) ∙ c .before .before .before .before .before .before .past-parting .ensures) (sym (c .before .before .starts-question .ensures) ∙ c .before .if1 .left)
 
 returns-3 : tie.Need-returns-3
 unfolding afterQuestion
-returns-3 c = ap Tree (c .run-end2 .ensures) ∙ ap (itemParted _ _) (sym (c .before .enum-told .given .1) ∙ c .before .before .before .past-parting .ensures)
+returns-3 c = ap Tree (c .blank-end2 .ensures) ∙ ap (itemParted _ _) (sym (c .before .enum-told .given .1) ∙ c .before .before .before .past-parting .ensures)
 
 pub after-question-spec : {M : Type 1} → statement M
 after-question-spec =
@@ -57,9 +57,9 @@ after-question-spec =
     past-parting-requires
     enum-known-next
     starts-question-requires
-    run-end-requires
+    blank-end-requires
     enum-told
-    run-end-requires-2
+    blank-end-requires-2
     returns
     returns-2
     returns-3)

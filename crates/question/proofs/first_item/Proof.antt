@@ -9,8 +9,8 @@ use Rattle.question.proofs.first_item.Tie as tie
 starts-question-requires : tie.Need-starts-question-requires
 starts-question-requires c κs = search needs
 
-run-end-requires : tie.Need-run-end-requires
-run-end-requires c κs = search needs
+blank-end-requires : tie.Need-blank-end-requires
+blank-end-requires c κs = search needs
 
 returns : tie.Need-returns
 unfolding itemAt
@@ -18,7 +18,7 @@ returns c = rw (sym (c .before .starts-question .ensures) ∙ c .if1 .taken)
 
 returns-2 : tie.Need-returns-2
 unfolding itemAt
-returns-2 c = ap Tree (c .run-end .ensures) ∙ rw (sym (c .before .before .starts-question .ensures) ∙ c .before .if1 .left)
+returns-2 c = ap Tree (c .blank-end .ensures) ∙ rw (sym (c .before .before .starts-question .ensures) ∙ c .before .if1 .left)
 
 pub first-item-spec : {M : Type 1} → statement M
-first-item-spec = tie.close (tie.spec starts-question-requires run-end-requires returns returns-2)
+first-item-spec = tie.close (tie.spec starts-question-requires blank-end-requires returns returns-2)

@@ -28,8 +28,8 @@ past-byte-requires c κs = search needs
 enum-known-inside : tie.Need-enum-known-inside
 enum-known-inside c = search needs
 
-run-end-requires : tie.Need-run-end-requires
-run-end-requires c κs = search needs
+blank-end-requires : tie.Need-blank-end-requires
+blank-end-requires c κs = search needs
 
 enum-told : tie.Need-enum-told
 enum-told c = search needs
@@ -43,7 +43,7 @@ enum-told-3 c = search needs
 returns : tie.Need-returns
 unfolding headAt
 returns c =
-    named (c .run-end .ensures)
+    named (c .blank-end .ensures)
     ∙ ap (headOpened _ _ _) (sym (c .before .before .inside .given .1) ∙ c .before .before .before .before .past-byte .ensures)
     ∙ ap (headNamed _) (sym (c .before .before .before .before .before .before .start .given .1) ∙ c .before .before .before .before .before .before .before .before .name-between .ensures)
     ∙ ap (headStarted _) (sym (c .before .before .before .before .before .before .before .before .before .before .past .given .1) ∙ c .before .before .before .before .before .before .before .before .before .before .before .before .past-qs .ensures)
@@ -75,7 +75,7 @@ question-head-spec =
     enum-known-start
     past-byte-requires
     enum-known-inside
-    run-end-requires
+    blank-end-requires
     enum-told
     enum-told-2
     enum-told-3

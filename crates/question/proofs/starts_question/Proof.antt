@@ -12,15 +12,15 @@ past-qs-requires c κs = search needs
 enum-known-next : tie.Need-enum-known-next
 enum-known-next c = search needs
 
-run-end-requires : tie.Need-run-end-requires
-run-end-requires c κs = search needs
+blank-end-requires : tie.Need-blank-end-requires
+blank-end-requires c κs = search needs
 
 enum-told : tie.Need-enum-told
 enum-told c = search needs
 
 returns : tie.Need-returns
 unfolding startsQuestion
-returns c = ap (ltb _) (c .run-end .ensures) ∙ ap (blankAt _) (sym (c .before .before .next .given .1) ∙ c .before .before .before .before .past-qs .ensures)
+returns c = ap (ltb _) (c .blank-end .ensures) ∙ ap (blankAt _) (sym (c .before .before .next .given .1) ∙ c .before .before .before .before .past-qs .ensures)
 
 returns-2 : tie.Need-returns-2
 unfolding startsQuestion
@@ -29,4 +29,4 @@ returns-2 c = ap (blankAt _) (sym (c .enum-told .given .1) ∙ c .before .before
 pub starts-question-spec : {M : Type 1} → statement M
 starts-question-spec =
     tie.close
-    (tie.spec past-qs-requires enum-known-next run-end-requires enum-told returns returns-2)
+    (tie.spec past-qs-requires enum-known-next blank-end-requires enum-told returns returns-2)

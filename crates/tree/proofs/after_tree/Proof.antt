@@ -33,11 +33,11 @@ module _ (s : List ℕ) (e : ℕ) {p : ℕ} (blanks : p ≡ stop blank s e) wher
     unparted : Nowhere ≡ partingAt s e → Broken p ≡ afterTree s e
     unparted q = ap (treeParted s p) q ∙ on
 
-run-end-requires : tie.Need-run-end-requires
-run-end-requires c κs = search needs
+blank-end-requires : tie.Need-blank-end-requires
+blank-end-requires c κs = search needs
 
 returns : tie.Need-returns
-returns c = ended _ _ (c .before .run-end .ensures) (c .if1 .taken)
+returns c = ended _ _ (c .before .blank-end .ensures) (c .if1 .taken)
 
 past-parting-requires : tie.Need-past-parting-requires
 past-parting-requires c κs = search needs
@@ -49,19 +49,19 @@ enum-told : tie.Need-enum-told
 enum-told c = search needs
 
 returns-2 : tie.Need-returns-2
-returns-2 c = further _ _ (c .before .before .before .before .before .before .run-end .ensures) (c .before .before .before .before .before .if1 .left) _ (sym (c .before .before .next .given .1) ∙ c .before .before .before .before .past-parting .ensures) (c .if2 .taken)
+returns-2 c = further _ _ (c .before .before .before .before .before .before .blank-end .ensures) (c .before .before .before .before .before .if1 .left) _ (sym (c .before .before .next .given .1) ∙ c .before .before .before .before .past-parting .ensures) (c .if2 .taken)
 
 returns-3 : tie.Need-returns-3
-returns-3 c = nothing _ _ (c .before .before .before .before .before .before .run-end .ensures) (c .before .before .before .before .before .if1 .left) _ (sym (c .before .before .next .given .1) ∙ c .before .before .before .before .past-parting .ensures) (c .if2 .left)
+returns-3 c = nothing _ _ (c .before .before .before .before .before .before .blank-end .ensures) (c .before .before .before .before .before .if1 .left) _ (sym (c .before .before .next .given .1) ∙ c .before .before .before .before .past-parting .ensures) (c .if2 .left)
 
 returns-4 : tie.Need-returns-4
-returns-4 c = unparted _ _ (c .before .before .before .before .run-end .ensures) (c .before .before .before .if1 .left) (sym (c .enum-told .given .1) ∙ c .before .before .past-parting .ensures)
+returns-4 c = unparted _ _ (c .before .before .before .before .blank-end .ensures) (c .before .before .before .if1 .left) (sym (c .enum-told .given .1) ∙ c .before .before .past-parting .ensures)
 
 pub after-tree-spec : {M : Type 1} → statement M
 after-tree-spec =
     tie.close
     (tie.spec
-    run-end-requires
+    blank-end-requires
     returns
     past-parting-requires
     enum-known-next

@@ -28,8 +28,8 @@ enum-known-next c = search needs
 enum-told : tie.Need-enum-told
 enum-told c = search needs
 
-run-end-requires : tie.Need-run-end-requires
-run-end-requires c κs = search needs
+blank-end-requires : tie.Need-blank-end-requires
+blank-end-requires c κs = search needs
 
 enum-told-2 : tie.Need-enum-told-2
 enum-told-2 c = search needs
@@ -53,7 +53,7 @@ returns c =
 returns-2 : tie.Need-returns-2
 unfolding bodyAt
 returns-2 c =
-    ap₂ Lines (back _ (c .before .before .before .before .before .before .before .before .before .fits .state .sfits)) (c .run-end .ensures)
+    ap₂ Lines (back _ (c .before .before .before .before .before .before .before .before .before .fits .state .sfits)) (c .blank-end .ensures)
     ∙ ap (bracesRead _ _ _) (sym (c .before .enum-told .given .1) ∙ c .before .before .before .past-brace .ensures)
     ∙ ap (bodyRead _ _ _) (sym (c .before .before .before .before .before .inside .given .1) ∙ c .before .before .before .before .before .before .before .past-byte .ensures)
 
@@ -79,7 +79,7 @@ parse-body-spec =
     past-brace-requires
     enum-known-next
     enum-told
-    run-end-requires
+    blank-end-requires
     enum-told-2
     parse-tree-index-requires
     enum-known-index

@@ -19,8 +19,8 @@ past-byte-requires c κs = search needs
 enum-known-past : tie.Need-enum-known-past
 enum-known-past c = search needs
 
-run-end-requires : tie.Need-run-end-requires
-run-end-requires c κs = search needs
+blank-end-requires : tie.Need-blank-end-requires
+blank-end-requires c κs = search needs
 
 enum-told : tie.Need-enum-told
 enum-told c = search needs
@@ -31,7 +31,7 @@ enum-told-2 c = search needs
 returns : tie.Need-returns
 unfolding numberAt
 returns c =
-    ap₂ Number (back _ (c .before .before .before .before .before .known-told .given .0 .1)) (c .run-end .ensures)
+    ap₂ Number (back _ (c .before .before .before .before .before .known-told .given .0 .1)) (c .blank-end .ensures)
     ∙ ap (numberClosed _ _) (sym (c .before .before .past .given .1) ∙ c .before .before .before .before .past-byte .ensures)
     ∙ ap (numberRead _) (sym (c .before .before .before .before .before .before .value .given .1) ∙ c .before .before .before .before .before .before .before .before .parse-signed .ensures)
 
@@ -53,7 +53,7 @@ parse-number-spec =
     enum-known-value
     past-byte-requires
     enum-known-past
-    run-end-requires
+    blank-end-requires
     enum-told
     enum-told-2
     returns

@@ -13,8 +13,8 @@ past-star-requires c κs = search needs
 enum-known-past : tie.Need-enum-known-past
 enum-known-past c = search needs
 
-run-end-requires : tie.Need-run-end-requires
-run-end-requires c κs = search needs
+blank-end-requires : tie.Need-blank-end-requires
+blank-end-requires c κs = search needs
 
 past-byte-requires : tie.Need-past-byte-requires
 past-byte-requires c κs = search needs
@@ -35,13 +35,13 @@ returns : tie.Need-returns
 unfolding stateAt
 returns c =
     c .parse-number .ensures
-    ∙ ap (stateOpened _) ((sym (c .before .before .inside .given .1) ∙ c .before .before .before .before .past-byte .ensures) ∙ ap (pastByte bracket _) (c .before .before .before .before .before .run-end .ensures))
+    ∙ ap (stateOpened _) ((sym (c .before .before .inside .given .1) ∙ c .before .before .before .before .past-byte .ensures) ∙ ap (pastByte bracket _) (c .before .before .before .before .before .blank-end .ensures))
     ∙ ap (stateStarred _) (sym (c .before .before .before .before .before .before .before .past .given .1) ∙ c .before .before .before .before .before .before .before .before .before .past-star .ensures)
 
 returns-2 : tie.Need-returns-2
 unfolding stateAt
 returns-2 c =
-    ap (stateOpened _) ((sym (c .enum-told .given .1) ∙ c .before .before .past-byte .ensures) ∙ ap (pastByte bracket _) (c .before .before .before .run-end .ensures))
+    ap (stateOpened _) ((sym (c .enum-told .given .1) ∙ c .before .before .past-byte .ensures) ∙ ap (pastByte bracket _) (c .before .before .before .blank-end .ensures))
     ∙ ap (stateStarred _) (sym (c .before .before .before .before .before .past .given .1) ∙ c .before .before .before .before .before .before .before .past-star .ensures)
 
 returns-3 : tie.Need-returns-3
@@ -54,7 +54,7 @@ parse-state-spec =
     (tie.spec
     past-star-requires
     enum-known-past
-    run-end-requires
+    blank-end-requires
     past-byte-requires
     enum-known-inside
     parse-number-requires

@@ -22,11 +22,11 @@ module _ (s : List ℕ) (i : ℕ) (n : TreeIndex) {b : ℕ} (blanks : b ≡ stop
   unfolding yesAt
   one h = rw (← blanks, lt-ltb i b h)
 
-run-end-requires : tie.Need-run-end-requires
-run-end-requires c κs = search needs
+blank-end-requires : tie.Need-blank-end-requires
+blank-end-requires c κs = search needs
 
 returns : tie.Need-returns
-returns c = none _ _ _ (c .before .run-end .ensures) (c .if1 .taken)
+returns c = none _ _ _ (c .before .blank-end .ensures) (c .if1 .taken)
 
 parse-tree-index-requires : tie.Need-parse-tree-index-requires
 parse-tree-index-requires c κs = search needs
@@ -40,18 +40,18 @@ enum-told c = search needs
 returns-2 : tie.Need-returns-2
 returns-2 c =
     ap (yesRead _) (sym (c .before .index .given .1) ∙ c .before .before .before .parse-tree-index .ensures)
-    ∙ one _ _ _ (c .before .before .before .before .before .run-end .ensures) (c .before .before .before .before .if1 .left)
+    ∙ one _ _ _ (c .before .before .before .before .before .blank-end .ensures) (c .before .before .before .before .if1 .left)
 
 returns-3 : tie.Need-returns-3
 returns-3 c =
     ap (yesRead _) (sym (c .enum-told .given .1) ∙ c .before .before .parse-tree-index .ensures)
-    ∙ one _ _ _ (c .before .before .before .before .run-end .ensures) (c .before .before .before .if1 .left)
+    ∙ one _ _ _ (c .before .before .before .before .blank-end .ensures) (c .before .before .before .if1 .left)
 
 pub parse-yes-spec : {M : Type 1} → statement M
 parse-yes-spec =
     tie.close
     (tie.spec
-    run-end-requires
+    blank-end-requires
     returns
     parse-tree-index-requires
     enum-known-index

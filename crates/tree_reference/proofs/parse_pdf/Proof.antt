@@ -27,14 +27,14 @@ module _ (s : List ℕ) (i : ℕ) {e d : ℕ} (end : e ≡ stop inWord s i) (sta
   unfolding pdfOf
   one h = rw (lt-ltb d e h) at is
 
-run-end-requires : tie.Need-run-end-requires
-run-end-requires c κs = search needs
+word-end-requires : tie.Need-word-end-requires
+word-end-requires c κs = search needs
 
 digits-start-requires : tie.Need-digits-start-requires
 digits-start-requires c κs = search needs
 
 returns : tie.Need-returns
-returns c = none _ _ (c .before .before .run-end .ensures) (c .before .digits-start .ensures) (c .if1 .taken)
+returns c = none _ _ (c .before .before .word-end .ensures) (c .before .digits-start .ensures) (c .if1 .taken)
 
 parse-signed-requires : tie.Need-parse-signed-requires
 parse-signed-requires c κs = search needs
@@ -49,18 +49,18 @@ returns-2 : tie.Need-returns-2
 returns-2 c =
     ap₂ Found (ap Pdf (back _ (c .known-told .given .0 .1))) refl
     ∙ ap pdfRead (sym (c .before .value .given .1) ∙ c .before .before .before .parse-signed .ensures)
-    ∙ one _ _ (c .before .before .before .before .before .before .run-end .ensures) (c .before .before .before .before .before .digits-start .ensures) (c .before .before .before .before .if1 .left)
+    ∙ one _ _ (c .before .before .before .before .before .before .word-end .ensures) (c .before .before .before .before .before .digits-start .ensures) (c .before .before .before .before .if1 .left)
 
 returns-3 : tie.Need-returns-3
 returns-3 c =
     ap pdfRead (sym (c .enum-told .given .1) ∙ c .before .before .parse-signed .ensures)
-    ∙ one _ _ (c .before .before .before .before .before .run-end .ensures) (c .before .before .before .before .digits-start .ensures) (c .before .before .before .if1 .left)
+    ∙ one _ _ (c .before .before .before .before .before .word-end .ensures) (c .before .before .before .before .digits-start .ensures) (c .before .before .before .if1 .left)
 
 pub parse-pdf-spec : {M : Type 1} → statement M
 parse-pdf-spec =
     tie.close
     (tie.spec
-    run-end-requires
+    word-end-requires
     digits-start-requires
     returns
     parse-signed-requires

@@ -1,34 +1,34 @@
--- `base::test_end`: the place where the run stops is the same from each place that the loop passes. Assumes nothing.
+-- `base::digit_end`: the place where the run stops is the same from each place that the loop passes. Assumes nothing.
 use Prim.Native.Nat.{_-_}
 use mathlib.Core.Path.{_≡_, sym, _∙_}
 use lib.ListN.{length}
 use borrow.Author.Needs.{needs}
 use borrow.Author.Tests.{not-true, not-false}
+use Rattle.written.specs.Bytes.{digit}
 use Rattle.laws.specs.Runs.{stop}
 use Rattle.laws.proofs.Runs.{stop-on, stop-here, stop-end}
-use Rattle.base.specs.Classes.{testOf}
-use Rattle.base.proofs.test_end.Statement.{statement}
-use Rattle.base.proofs.test_end.Tie as tie
+use Rattle.base.proofs.digit_end.Statement.{statement}
+use Rattle.base.proofs.digit_end.Tie as tie
 
 abbrev Inv-loop : tie.InvT-loop
-Inv-loop t s at i₀ i = stop (testOf t) s i ≡ stop (testOf t) s i₀
+Inv-loop s at i₀ i = stop digit s i ≡ stop digit s i₀
 
 abbrev μ-loop : tie.MeasureT-loop
-μ-loop t s at i₀ i = length s - i
+μ-loop s at i₀ i = length s - i
 
 loop-holds : tie.Need-loop-holds Inv-loop μ-loop
 loop-holds c = search needs
 
-shared-slice-read-passes : tie.Need-shared-slice-read-passes Inv-loop μ-loop
-shared-slice-read-passes c = search needs
+shared-slice-read-is-digit : tie.Need-shared-slice-read-is-digit Inv-loop μ-loop
+shared-slice-read-is-digit c = search needs
 
-passes-requires : tie.Need-passes-requires Inv-loop μ-loop
-passes-requires c κs = search needs
+is-digit-requires : tie.Need-is-digit-requires Inv-loop μ-loop
+is-digit-requires c κs = search needs
 
 returns : tie.Need-returns Inv-loop μ-loop
 returns c =
     let at-loop = c .before .before .before .before in
-    sym (stop-here _ _ _ (c .before .before .before .loop-test .taken) (sym (c .before .passes .ensures) ∙ not-true _ (c .if1 .taken))) ∙ at-loop .loop .inv
+    sym (stop-here _ _ _ (c .before .before .before .loop-test .taken) (sym (c .before .is-digit .ensures) ∙ not-true _ (c .if1 .taken))) ∙ at-loop .loop .inv
 
 add-i : tie.Need-add-i Inv-loop μ-loop
 add-i c = search needs
@@ -39,20 +39,20 @@ loop-less c = search needs
 loop-again : tie.Need-loop-again Inv-loop μ-loop
 loop-again c =
     let at-loop = c .before .before .before .before in
-    sym (stop-on _ _ _ (c .before .before .before .loop-test .taken) (sym (c .before .passes .ensures) ∙ not-false _ (c .if1 .left))) ∙ at-loop .loop .inv
+    sym (stop-on _ _ _ (c .before .before .before .loop-test .taken) (sym (c .before .is-digit .ensures) ∙ not-false _ (c .if1 .left))) ∙ at-loop .loop .inv
 
 returns-2 : tie.Need-returns-2 Inv-loop μ-loop
 returns-2 c = sym (stop-end _ _ _ (c .loop-test .left)) ∙ c .before .loop .inv
 
-pub test-end-spec : {M : Type 1} → statement M
-test-end-spec =
+pub digit-end-spec : {M : Type 1} → statement M
+digit-end-spec =
     tie.close
     (tie.spec
     Inv-loop
     μ-loop
     loop-holds
-    shared-slice-read-passes
-    passes-requires
+    shared-slice-read-is-digit
+    is-digit-requires
     returns
     add-i
     loop-less
