@@ -1,11 +1,11 @@
 // After header/mod.rs, what serde derives: which field a key names, how its value is read, and which fields must be there (01, 'Header text', its third
 // paragraph). A field's number is its place in its table; a key that names none has the number behind the last. Assumes nothing.
-use base_values::same_bytes;
 use de_values::Kind;
 ghost use mathlib.Core.Path.{_≡_};
 ghost use Prim.Native.Nat.{_≤_};
 ghost use Rattle.written.specs.Record.{global-fields, stream-fields, stream-group, position-fields, position-group};
 ghost use Rattle.de_values.specs.Values.{kindFrom};
+ghost use Rattle.header_fields.specs.Names.{nameIndex};
 ghost use Rattle.header_fields.specs.Fields.{fieldsOf, fieldIndex, kindAt, anyMissing};
 
 // The fields of a section, or of the groups of one.
@@ -18,94 +18,31 @@ pub enum Table {
     PositionGroup,
 }
 
-fn global_field(w: &[u8]) -> usize
-    ensures { λ r. ⌜ r ≡ fieldIndex global-fields (now (w .entry)) ⌝ }
+// The number of the name that w is, among names that end with a space each; behind the last where w is none of them. `same` is how many bytes of w the name
+// at hand has been so far, or more than w has once they differ. One loop over all names: a comparison for each name, which the compiler unrolls, takes
+// three to six times the code.
+fn name_index(names: &[u8], w: &[u8]) -> usize
+    ensures { λ r. ⌜ r ≡ nameIndex (now (w .entry)) 0 (now (names .entry)) ⌝ }
 {
-    if same_bytes(b"HTS_VOICE_VERSION", w) {
-        return 0;
+    let mut name = 0;
+    let mut same = 0;
+    let mut i = 0;
+    while i < names.len() {
+        let b = names[i];
+        if b == b' ' {
+            if same == w.len() {
+                return name;
+            }
+            name = name + 1;
+            same = 0;
+        } else if same < w.len() && b == w[same] {
+            same = same + 1;
+        } else {
+            same = w.len() + 1;
+        }
+        i = i + 1;
     }
-    if same_bytes(b"SAMPLING_FREQUENCY", w) {
-        return 1;
-    }
-    if same_bytes(b"FRAME_PERIOD", w) {
-        return 2;
-    }
-    if same_bytes(b"NUM_STATES", w) {
-        return 3;
-    }
-    if same_bytes(b"NUM_STREAMS", w) {
-        return 4;
-    }
-    if same_bytes(b"STREAM_TYPE", w) {
-        return 5;
-    }
-    if same_bytes(b"FULLCONTEXT_FORMAT", w) {
-        return 6;
-    }
-    if same_bytes(b"FULLCONTEXT_VERSION", w) {
-        return 7;
-    }
-    if same_bytes(b"GV_OFF_CONTEXT", w) {
-        return 8;
-    }
-    if same_bytes(b"COMMENT", w) {
-        return 9;
-    }
-    10
-}
-
-fn stream_group_field(w: &[u8]) -> usize
-    ensures { λ r. ⌜ r ≡ fieldIndex stream-group (now (w .entry)) ⌝ }
-{
-    if same_bytes(b"VECTOR_LENGTH", w) {
-        return 0;
-    }
-    if same_bytes(b"NUM_WINDOWS", w) {
-        return 1;
-    }
-    if same_bytes(b"IS_MSD", w) {
-        return 2;
-    }
-    if same_bytes(b"USE_GV", w) {
-        return 3;
-    }
-    if same_bytes(b"OPTION", w) {
-        return 4;
-    }
-    5
-}
-
-fn position_field(w: &[u8]) -> usize
-    ensures { λ r. ⌜ r ≡ fieldIndex position-fields (now (w .entry)) ⌝ }
-{
-    if same_bytes(b"DURATION_PDF", w) {
-        return 0;
-    }
-    if same_bytes(b"DURATION_TREE", w) {
-        return 1;
-    }
-    2
-}
-
-fn position_group_field(w: &[u8]) -> usize
-    ensures { λ r. ⌜ r ≡ fieldIndex position-group (now (w .entry)) ⌝ }
-{
-    if same_bytes(b"STREAM_WIN", w) {
-        return 0;
-    }
-    if same_bytes(b"STREAM_PDF", w) {
-        return 1;
-    }
-    if same_bytes(b"STREAM_TREE", w) {
-        return 2;
-    }
-    if same_bytes(b"GV_PDF", w) {
-        return 3;
-    }
-    if same_bytes(b"GV_TREE", w) {
-        return 4;
-    }
-    5
+    name
 }
 
 // The number of the field that a key names.
@@ -113,11 +50,14 @@ pub fn field_of(table: Table, w: &[u8]) -> usize
     ensures { λ r. ⌜ r ≡ fieldIndex (fieldsOf table) (now (w .entry)) ⌝ }
 {
     match table {
-        Table::Global => global_field(w),
+        Table::Global => name_index(
+            b"HTS_VOICE_VERSION SAMPLING_FREQUENCY FRAME_PERIOD NUM_STATES NUM_STREAMS STREAM_TYPE FULLCONTEXT_FORMAT FULLCONTEXT_VERSION GV_OFF_CONTEXT COMMENT ",
+            w,
+        ),
         Table::Stream => 0,
-        Table::StreamGroup => stream_group_field(w),
-        Table::Position => position_field(w),
-        Table::PositionGroup => position_group_field(w),
+        Table::StreamGroup => name_index(b"VECTOR_LENGTH NUM_WINDOWS IS_MSD USE_GV OPTION ", w),
+        Table::Position => name_index(b"DURATION_PDF DURATION_TREE ", w),
+        Table::PositionGroup => name_index(b"STREAM_WIN STREAM_PDF STREAM_TREE GV_PDF GV_TREE ", w),
     }
 }
 

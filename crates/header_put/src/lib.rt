@@ -1,5 +1,8 @@
 // The header record into the words that hold it (`header_words` says where each field stands); what is beyond stays as it was. The record comes in its parts:
-// put together it would only be copied once more, and it is large. Assumes nothing.
+// put together it would only be copied once more, and it is large.
+// A loop whose number of turns the compiler knows is unrolled, and the loops in it too: the code would be 23 KB larger. So the loops over groups, types and
+// contexts stop once on the way, at a number from 1 to the limit that is known only when the code runs, and go on. Which number it is doesn't matter.
+// Assumes nothing.
 use header::Global;
 use header::PositionData;
 use header::Range;
@@ -46,10 +49,14 @@ fn put_types(words: &mut [u64], at: usize, items: [Span; 8])
     ensures { λ r. ⌜ now (words .exit) ≡ sets (now (words .entry)) at (spansWords 8 items) ⌝ }
 {
     let mut k = 0;
-    while k < 8 {
+    let mut stop = words.len() % 8 + 1;
+    while k < stop {
         let x = items[k];
         put2(words, at + 2 * k, x.start as u64, x.len as u64);
         k = k + 1;
+        if k == stop {
+            stop = 8;
+        }
     }
 }
 
@@ -72,10 +79,14 @@ fn put_contexts(words: &mut [u64], at: usize, items: [Span; 32])
     ensures { λ r. ⌜ now (words .exit) ≡ sets (now (words .entry)) at (spansWords 32 items) ⌝ }
 {
     let mut k = 0;
-    while k < 32 {
+    let mut stop = words.len() % 32 + 1;
+    while k < stop {
         let x = items[k];
         put2(words, at + 2 * k, x.start as u64, x.len as u64);
         k = k + 1;
+        if k == stop {
+            stop = 32;
+        }
     }
 }
 
@@ -164,10 +175,14 @@ fn put_streams(words: &mut [u64], at: usize, items: [StreamData; 8])
     ensures { λ r. ⌜ now (words .exit) ≡ sets (now (words .entry)) at (streamsWords items) ⌝ }
 {
     let mut k = 0;
-    while k < 8 {
+    let mut stop = words.len() % 8 + 1;
+    while k < stop {
         let x = items[k];
         put_stream(words, at + STREAM_WORDS * k, x);
         k = k + 1;
+        if k == stop {
+            stop = 8;
+        }
     }
 }
 
@@ -203,10 +218,14 @@ fn put_positions(words: &mut [u64], at: usize, items: [PositionData; 8])
     ensures { λ r. ⌜ now (words .exit) ≡ sets (now (words .entry)) at (positionsWords items) ⌝ }
 {
     let mut k = 0;
-    while k < 8 {
+    let mut stop = words.len() % 8 + 1;
+    while k < stop {
         let x = items[k];
         put_position(words, at + POSITION_WORDS * k, x);
         k = k + 1;
+        if k == stop {
+            stop = 8;
+        }
     }
 }
 

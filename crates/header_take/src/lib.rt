@@ -1,5 +1,8 @@
 // The header record out of the words that hold it (`header_words` says where each field stands). Any words make a record; whether it fits a file is
-// judged where it is used. No function with a loop returns the whole record, which is large. Assumes nothing.
+// judged where it is used. No function with a loop returns the whole record, which is large.
+// A loop whose number of turns the compiler knows is unrolled, and the loops in it too: the code would be 4 KB larger. So the loops over groups, types and
+// contexts stop once on the way, at a number from 1 to the limit that is known only when the code runs, and go on. Which number it is doesn't matter.
+// Assumes nothing.
 use header::Global;
 use header::Header;
 use header::PositionData;
@@ -74,10 +77,14 @@ fn types_at(words: &[u64], at: usize) -> [Span; 8]
 {
     let mut items = [Span { start: 0, len: 0 }; 8];
     let mut k = 0;
-    while k < 8 {
+    let mut stop = words.len() % 8 + 1;
+    while k < stop {
         let x = span_at(words, at + 2 * k);
         items[k] = x;
         k = k + 1;
+        if k == stop {
+            stop = 8;
+        }
     }
     items
 }
@@ -104,10 +111,14 @@ fn contexts_at(words: &[u64], at: usize) -> [Span; 32]
 {
     let mut items = [Span { start: 0, len: 0 }; 32];
     let mut k = 0;
-    while k < 32 {
+    let mut stop = words.len() % 32 + 1;
+    while k < stop {
         let x = span_at(words, at + 2 * k);
         items[k] = x;
         k = k + 1;
+        if k == stop {
+            stop = 32;
+        }
     }
     items
 }
@@ -170,10 +181,14 @@ fn streams_at(words: &[u64], at: usize) -> [StreamData; 8]
     let none = StreamData::none();
     let mut items = [none; 8];
     let mut k = 0;
-    while k < 8 {
+    let mut stop = words.len() % 8 + 1;
+    while k < stop {
         let x = stream_at(words, at + STREAM_WORDS * k);
         items[k] = x;
         k = k + 1;
+        if k == stop {
+            stop = 8;
+        }
     }
     items
 }
@@ -202,10 +217,14 @@ fn positions_at(words: &[u64], at: usize) -> [PositionData; 8]
     let none = PositionData::none();
     let mut items = [none; 8];
     let mut k = 0;
-    while k < 8 {
+    let mut stop = words.len() % 8 + 1;
+    while k < stop {
         let x = position_at(words, at + POSITION_WORDS * k);
         items[k] = x;
         k = k + 1;
+        if k == stop {
+            stop = 8;
+        }
     }
     items
 }

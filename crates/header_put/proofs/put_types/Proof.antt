@@ -1,6 +1,6 @@
--- `header_put::put_types`: what is left to write gives the whole. Assumes nothing.
+-- `header_put::put_types`: what is left to write gives the whole; while one of the 8 is left, there is a turn before the stop. Assumes nothing.
 use mathlib.Core.Path.{refl}
-use Prim.Native.Nat.{_+_, _-_, _*_}
+use Prim.Native.Nat.{_+_, _-_, _*_, _≤_}
 use native.Mathlib.Omega.{arith}
 use borrow.Author.Needs.{needs}
 use lib.ListN.{length, getD}
@@ -11,13 +11,16 @@ use Rattle.header_put.proofs.put_types.Statement.{statement}
 use Rattle.header_put.proofs.put_types.Tie as tie
 
 abbrev Inv-loop : tie.InvT-loop
-Inv-loop words₀ at items k₀ words k = Laying (λ j. spanWords (getD items j noSpan)) 2 8 at words₀ words k
+Inv-loop words₀ at items k₀ stop₀ words k stop = Laying (λ j. spanWords (getD items j noSpan)) 2 8 at words₀ words k × ((stop ≤ 8) × (8 - k ≤ 8 * (stop - k)))
 
 abbrev μ-loop : tie.MeasureT-loop
-μ-loop words₀ at items k₀ words k = 8 - k
+μ-loop words₀ at items k₀ stop₀ words k stop = 8 - k
+
+add-stop : tie.Need-add-stop Inv-loop μ-loop
+add-stop c = omega arith
 
 loop-holds : tie.Need-loop-holds Inv-loop μ-loop
-loop-holds c = laying-none _ _ _ _ _
+loop-holds c = (laying-none _ _ _ _ _, (omega arith, omega arith))
 
 mul-x : tie.Need-mul-x Inv-loop μ-loop
 mul-x c = search needs
@@ -32,22 +35,30 @@ add-put2 : tie.Need-add-put2 Inv-loop μ-loop
 add-put2 c = search needs
 
 put2-requires : tie.Need-put2-requires Inv-loop μ-loop
-put2-requires c κs = omega (arith, c .before .before .before .loop .inv .long, c .before .before .loop-test .taken, c .before .before .before .before .before .pre)
+put2-requires c κs = omega (arith, c .before .before .before .loop .inv .0 .long, c .before .before .loop-test .taken, c .before .before .before .before .before .pre)
 
 add-k : tie.Need-add-k Inv-loop μ-loop
 add-k c = search needs
 
 loop-less : tie.Need-loop-less Inv-loop μ-loop
-loop-less c = omega (arith, c .before .before .before .before .before .loop-test .taken)
+loop-less c = omega (arith, c .before .before .before .before .before .before .loop-test .taken, c .before .before .before .before .before .before .before .loop .inv .1 .0)
 
 loop-again : tie.Need-loop-again Inv-loop μ-loop
-loop-again c = laying-more _ _ _ _ _ _ _ (c .before .before .before .before .before .before .loop .inv) _ (c .before .before .put2 .ensures) refl (c .before .before .before .before .before .loop-test .taken)
+loop-again c =
+    (laying-more _ _ _ _ _ _ _ (c .before .before .before .before .before .before .before .loop .inv .0) _ (c .before .before .before .put2 .ensures) refl (omega (arith, c .before .before .before .before .before .before .loop-test .taken, c .before .before .before .before .before .before .before .loop .inv .1 .0)), (omega arith, omega arith))
+
+loop-less-2 : tie.Need-loop-less-2 Inv-loop μ-loop
+loop-less-2 c = omega (arith, c .before .before .before .before .before .before .loop-test .taken, c .before .before .before .before .before .before .before .loop .inv .1 .0)
+
+loop-again-2 : tie.Need-loop-again-2 Inv-loop μ-loop
+loop-again-2 c =
+    (laying-more _ _ _ _ _ _ _ (c .before .before .before .before .before .before .before .loop .inv .0) _ (c .before .before .before .put2 .ensures) refl (omega (arith, c .before .before .before .before .before .before .loop-test .taken, c .before .before .before .before .before .before .before .loop .inv .1 .0)), (omega arith, omega (arith, c .if1 .left, c .before .before .before .before .before .before .loop-test .taken)))
 
 same-length : tie.Need-same-length Inv-loop μ-loop
-same-length c = c .before .loop .inv .long
+same-length c = c .before .loop .inv .0 .long
 
 returns : tie.Need-returns Inv-loop μ-loop
-returns c = laying-done _ _ _ _ _ _ _ (c .before .loop .inv) (c .loop-test .left)
+returns c = laying-done _ _ _ _ _ _ _ (c .before .loop .inv .0) (omega (arith, c .loop-test .left, c .before .loop .inv .1 .1))
 
 pub put-types-spec : {M : Type 1} → statement M
 put-types-spec =
@@ -55,6 +66,7 @@ put-types-spec =
     (tie.spec
     Inv-loop
     μ-loop
+    add-stop
     loop-holds
     mul-x
     array-copy-out-x
@@ -64,5 +76,7 @@ put-types-spec =
     add-k
     loop-less
     loop-again
+    loop-less-2
+    loop-again-2
     same-length
     returns)
