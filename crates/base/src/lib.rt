@@ -148,7 +148,7 @@ fn broad(b: u8) -> u64
 }
 
 // The eight bytes at `at` as a number, the first one lowest. The compiler makes this one read.
-fn eight(s: &[u8], at: usize) -> u64
+pub fn eight(s: &[u8], at: usize) -> u64
     requires { ⌜ at + 8 ≤ length (now s) ⌝ }
     ensures { λ r. ⌜ r ≡ little (bytesAt 8 (now (s .entry)) at) ⌝ }
 {
