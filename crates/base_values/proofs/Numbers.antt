@@ -1,5 +1,5 @@
 -- The laws of `unsignedFrom`: a digit more, the end of the digits, and a number that is too large already. Assumes nothing.
-use Prim.Native.Nat.{ℕ, suc, _+_, _*_, _-_, _^_, _≤_, _<_}
+use Prim.Native.Nat.{ℕ, zero, suc, _+_, _*_, _-_, _^_, _≤_, _<_}
 use mathlib.Core.Path.{_≡_, refl, sym, ap, _∙_}
 use mathlib.Core.Bool.{Bool, true, false, _&&_}
 use mathlib.Core.List.{List, [], _∷_}
@@ -9,6 +9,7 @@ use lib.Dec.{leb}
 use lib.ListN.{length, getD, drop}
 use Rattle.written.specs.Bytes.{digit, decimal}
 use Rattle.laws.specs.Runs.{run, stop}
+use Rattle.laws.proofs.Ranges.{at}
 use Rattle.laws.proofs.Runs.{run-on, run-here, run-end, stop-on, stop-here, stop-end, byte-is, byte-out}
 use Rattle.base_values.specs.Answers.{unsignedOf, unsignedFrom, unsignedAt}
 use Rattle.base_values.specs.declared.Unsigned.the-variants.{Number, TooLarge, NoDigit}
@@ -57,3 +58,23 @@ module _ (s : List ℕ) (i : ℕ) where
   pub at-digit : i < length s → digit (getD s i 0) ≡ true → unsignedAt s i ≡ unsignedFrom 0 s i
   unfolding unsignedAt
   at-digit h e = rw (byte-is s i h, e)
+
+-- ---- numbers of few digits
+
+-- one more than the largest number of k digits
+unfoldable pub tens : ℕ → ℕ
+tens zero = 1
+tens (suc k) = 10 * tens k
+
+-- nineteen digits fit 64 bits
+pub tens-fit : (k : ℕ) → k ≤ 18 → tens k ≤ 1000000000000000000
+unfolding tens
+tens-fit k h = leb-true (tens k) 1000000000000000000 (at (λ n. leb (tens n) 1000000000000000000) 19 0 refl k (omega arith) (omega arith))
+
+pub tens-start : (i : ℕ) → 0 < tens (i - i)
+unfolding tens
+tens-start i = let e : i - i ≡ 0 = omega arith in rw e (omega arith)
+
+pub tens-on : (i j n x : ℕ) → i ≤ j → n < tens (j - i) → x ≤ 9 → n * 10 + x < tens (j + 1 - i)
+unfolding tens
+tens-on i j n x h l m = let e : j + 1 - i ≡ suc (j - i) = omega arith in omega (arith, ap tens e)

@@ -9,7 +9,7 @@ ghost use Prim.Native.Nat.{_≤_, _<_, _^_};
 ghost use lib.Dec.{leb, ltb};
 ghost use lib.IntN.{pos, negℤ};
 ghost use Rattle.written.specs.Bytes.{same};
-ghost use Rattle.base_values.specs.Answers.{unsignedAt, signedOf, signedAt, patternOf, patternAt};
+ghost use Rattle.base_values.specs.Answers.{unsignedFrom, unsignedAt, signedOf, signedAt, patternOf, patternAt};
 
 // What decimal digits say.
 pub enum Unsigned {
@@ -36,17 +36,11 @@ pub enum Pattern {
     NoPattern,
 }
 
-// Decimal digits, as far as they go; leading zeros without limit.
-pub fn parse_unsigned(s: &[u8], at: usize) -> Unsigned
-    ensures { λ r. ⌜ r ≡ unsignedAt (now (s .entry)) at ⌝ }
+// The number that the digits from `at` on say behind those that said `said`, however many they are.
+fn parse_rest(s: &[u8], at: usize, said: u64) -> Unsigned
+    ensures { λ r. ⌜ r ≡ unsignedFrom said (now (s .entry)) at ⌝ }
 {
-    if s.len() <= at {
-        return Unsigned::NoDigit;
-    }
-    if !is_digit(s[at]) {
-        return Unsigned::NoDigit;
-    }
-    let mut value: u64 = 0;
+    let mut value = said;
     let mut i = at;
     while i < s.len() {
         let b = s[i];
@@ -65,6 +59,30 @@ pub fn parse_unsigned(s: &[u8], at: usize) -> Unsigned
         i = i + 1;
     }
     Unsigned::Number { value, next: i }
+}
+
+// Decimal digits, as far as they go; leading zeros without limit. Nineteen digits always fit, and nearly every number has fewer.
+pub fn parse_unsigned(s: &[u8], at: usize) -> Unsigned
+    ensures { λ r. ⌜ r ≡ unsignedAt (now (s .entry)) at ⌝ }
+{
+    if s.len() <= at {
+        return Unsigned::NoDigit;
+    }
+    if !is_digit(s[at]) {
+        return Unsigned::NoDigit;
+    }
+    let most = if s.len() - at <= 19 { s.len() } else { at + 19 };
+    let mut value: u64 = 0;
+    let mut i = at;
+    while i < most {
+        let b = s[i];
+        if !is_digit(b) {
+            return Unsigned::Number { value, next: i };
+        }
+        value = value * 10 + (b - 48) as u64;
+        i = i + 1;
+    }
+    parse_rest(s, i, value)
 }
 
 fn plus(m: u64) -> i64
@@ -128,11 +146,10 @@ fn negative(u: Unsigned) -> Signed
 pub fn parse_signed(s: &[u8], at: usize) -> Signed
     ensures { λ r. ⌜ r ≡ signedAt (now (s .entry)) at ⌝ }
 {
-    if byte_at(s, at) == 45 {
-        negative(parse_unsigned(s, at + 1))
-    } else {
-        positive(parse_unsigned(s, at))
-    }
+    let minus = byte_at(s, at) == 45;
+    let digits = if minus { at + 1 } else { at };
+    let u = parse_unsigned(s, digits);
+    if minus { negative(u) } else { positive(u) }
 }
 
 fn some_pattern(start: usize, end: usize, next: usize) -> Pattern
