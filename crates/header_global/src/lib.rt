@@ -20,7 +20,8 @@ pub struct GlobalRead {
     pub global: Global,
 }
 
-// The struct with the value of a field; an unknown key's value is dropped.
+// The struct with the value of a field; an unknown key's value is dropped. It is handed out in one place: copied out of each arm, it took 1.2 KB more, and
+// `memmove`, which the library wants for nothing else.
 pub fn store(global: Global, field: usize, v: Value) -> Global
     ensures { λ r. ⌜ r ≡ stored global field v ⌝ }
 {
@@ -29,56 +30,47 @@ pub fn store(global: Global, field: usize, v: Value) -> Global
         0 => {
             let x = v.span;
             g.hts_voice_version = x;
-            g
         }
         1 => {
             g.sampling_frequency = v.number;
-            g
         }
         2 => {
             g.frame_period = v.number;
-            g
         }
         3 => {
             g.num_states = v.number;
-            g
         }
         4 => {
             g.num_streams = v.number;
-            g
         }
         5 => {
             let l = v.spans;
             let x = l.first8();
             g.stream_type = x;
             g.stream_type_count = l.count;
-            g
         }
         6 => {
             let x = v.span;
             g.fullcontext_format = x;
-            g
         }
         7 => {
             let x = v.span;
             g.fullcontext_version = x;
-            g
         }
         8 => {
             let l = v.spans;
             let x = l.items;
             g.gv_off_context = x;
             g.gv_off_context_count = l.count;
-            g
         }
         9 => {
             let x = v.span;
             g.comment = x;
             g.has_comment = true;
-            g
         }
-        _ => g,
+        _ => {}
     }
+    g
 }
 
 fn refused(refusal: Refusal) -> GlobalRead
