@@ -12,7 +12,8 @@ fn joined(s: u32, x: u32, t: u32) -> u64
     ((s as u64) * 0x800 + x as u64) * 0x10_0000_0000_0000 + (t as u64) * 0x2000_0000
 }
 
-pub fn widen(bits: u32) -> u64
+// Any pattern, by its fields.
+fn widen_any(bits: u32) -> u64
     ensures { λ r. ⌜ r ≡ widenOf 8 23 11 52 bits ⌝ }
 {
     let h = bits >> 23;
@@ -33,4 +34,20 @@ pub fn widen(bits: u32) -> u64
         return joined(s, 897 - z, (t << z) - 0x80_0000);
     }
     joined(s, x + 896, t)
+}
+
+// A number that is neither zero nor subnormal, infinite or NaN, as nearly all of a block are, keeps its digits: exponent and fraction move up together, and the bias grows by 896.
+pub fn widen(bits: u32) -> u64
+    ensures { λ r. ⌜ r ≡ widenOf 8 23 11 52 bits ⌝ }
+{
+    let size = bits % 0x8000_0000;
+    if 0x80_0000 <= size {
+        if size < 0x7F80_0000 {
+            let sign = (bits >> 31) as u64;
+            return sign * 0x8000_0000_0000_0000
+                + (size as u64) * 0x2000_0000
+                + 0x3800_0000_0000_0000;
+        }
+    }
+    widen_any(bits)
 }
