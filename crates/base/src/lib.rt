@@ -261,7 +261,7 @@ pub fn space_or_tab_end(s: &[u8], at: usize) -> usize
     i
 }
 
-fn newline_end(s: &[u8], at: usize) -> usize
+pub fn newline_end(s: &[u8], at: usize) -> usize
     ensures { λ r. ⌜ r ≡ stop isNewline (now (s .entry)) at ⌝ }
 {
     let mut i = at;

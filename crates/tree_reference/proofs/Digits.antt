@@ -1,13 +1,14 @@
 -- The laws of `digitsFrom`: a digit more, and where the digits begin. Assumes nothing.
 use mathlib.Core.Path.{_≡_, refl, sym, ap, _∙_}
-use mathlib.Core.Bool.{true, false}
+use mathlib.Core.Bool.{Bool, true, false, _||_}
 use mathlib.Core.List.{List}
-use Prim.Native.Nat.{ℕ, zero, suc, _-_, _≤_, _<_}
+use Prim.Native.Nat.{ℕ, zero, suc, _+_, _≤_, _<_}
 use native.Mathlib.Omega.{arith}
 use borrow.Author.Tests.{le-leb, lt-leb}
+use lib.Dec.{eqb}
 use lib.ListN.{length, getD}
-use Rattle.written.specs.Bytes.{digit, byteAt}
-use Rattle.laws.proofs.Runs.{byte-is, byte-out}
+use Rattle.written.specs.Bytes.{letter, digit, inWord, byteAt}
+use Rattle.laws.proofs.Runs.{byte-is}
 use Rattle.tree_reference.specs.References.{digitsFrom}
 
 -- a step down, over the byte before e
@@ -20,24 +21,23 @@ unfolding digitsFrom
 from-other s i e l n = rw (le-leb i e l, n)
 
 -- the same as the loop has it
-pub from-on : (s : List ℕ) (i e : ℕ) → i < e → e ≤ length s → digit (getD s (e - 1) 0) ≡ true → digitsFrom s i e ≡ digitsFrom s i (e - 1)
-from-on s i zero l h y = absurd (omega arith)
-from-on s i (suc e) l h y =
-    let p : suc e - 1 ≡ e = omega arith in
-    from-digit s i e (omega arith) (ap digit (byte-is s e (omega arith)) ∙ ap (λ (k : ℕ). digit (getD s k 0)) (sym p) ∙ y) ∙ ap (digitsFrom s i) (sym p)
+module _ (s : List ℕ) (i e : ℕ) (l : i ≤ e) (h : e < length s) where
+  pub past-digit : digit (getD s e 0) ≡ true → digitsFrom s i e ≡ digitsFrom s i (e + 1)
+  past-digit y = let p : e + 1 ≡ suc e = omega arith in sym (ap (digitsFrom s i) p ∙ from-digit s i e l (ap digit (byte-is s e h) ∙ y))
 
-pub from-here : (s : List ℕ) (i e : ℕ) → i < e → e ≤ length s → digit (getD s (e - 1) 0) ≡ false → digitsFrom s i e ≡ e
-from-here s i zero l h y = absurd (omega arith)
-from-here s i (suc e) l h y =
-    let p : suc e - 1 ≡ e = omega arith in
-    from-other s i e (omega arith) (ap digit (byte-is s e (omega arith)) ∙ ap (λ (k : ℕ). digit (getD s k 0)) (sym p) ∙ y)
-
-pub from-out : (s : List ℕ) (i e : ℕ) → i < e → length s < e → digitsFrom s i e ≡ e
-unfolding digit
-from-out s i zero l h = absurd (omega arith)
-from-out s i (suc e) l h = from-other s i e (omega arith) (ap digit (byte-out s e (omega arith)))
+  pub past-other : digit (getD s e 0) ≡ false → e + 1 ≡ digitsFrom s i (e + 1)
+  past-other n = let p : e + 1 ≡ suc e = omega arith in p ∙ sym (ap (digitsFrom s i) p ∙ from-other s i e l (ap digit (byte-is s e h) ∙ n))
 
 pub from-end : (s : List ℕ) (i e : ℕ) → e ≤ i → digitsFrom s i e ≡ e
 unfolding digitsFrom
 from-end s i zero l = refl
 from-end s i (suc e) l = rw (lt-leb i e (omega arith))
+
+-- a digit is in a word
+pub in-word : (b : ℕ) → digit b ≡ true → inWord b ≡ true
+unfolding inWord
+in-word b e = rw e (go (letter b))
+  where
+    go : (x : Bool) → ((x || true) || eqb b 95) ≡ true
+    go true = refl
+    go false = refl

@@ -2,13 +2,13 @@
 // A reference is bare or in `"`: a number that fits signed 64 bits is a node; failing that, letters, digits and `_` are a PDF, by the digits at their end.
 // Every function takes any bytes and any place, also one past the end. A place is an index into the slice. Assumes nothing.
 use base::is_digit;
-use base::word_end;
+use base::is_word;
 use base_spaces::Place;
 use base_spaces::past_byte;
 use base_values::Signed;
 use base_values::parse_signed;
 ghost use mathlib.Core.Path.{_≡_};
-ghost use Rattle.tree_reference.specs.References.{digitsFrom, pdfAt, bareAt, quotedAt, referenceAt, sameIndex, pdfCount};
+ghost use Rattle.tree_reference.specs.References.{pdfOf, pdfAt, bareAt, quotedAt, referenceAt, sameIndex, pdfCount};
 
 // Where a line leads: to the line that bears an id, or to the PDF of a number.
 pub enum TreeIndex {
@@ -21,29 +21,10 @@ pub enum Reference {
     NoReference,
 }
 
-// Where the digits begin that stand at the end of the bytes from `at` up to `end`.
-fn digits_start(s: &[u8], at: usize, end: usize) -> usize
-    ensures { λ r. ⌜ r ≡ digitsFrom (now (s .entry)) at end ⌝ }
+// The PDF whose number the bytes from `start` up to `end` say, digits at the end of a word.
+fn some_pdf(s: &[u8], start: usize, end: usize) -> Reference
+    ensures { λ r. ⌜ r ≡ pdfOf (now (s .entry)) end start ⌝ }
 {
-    let mut i = end;
-    while at < i {
-        if s.len() < i {
-            return i;
-        }
-        if !is_digit(s[i - 1]) {
-            return i;
-        }
-        i = i - 1;
-    }
-    i
-}
-
-// Letters, digits and `_`, as far as they go; the digits at their end say the number.
-fn parse_pdf(s: &[u8], at: usize) -> Reference
-    ensures { λ r. ⌜ r ≡ pdfAt (now (s .entry)) at ⌝ }
-{
-    let end = word_end(s, at);
-    let start = digits_start(s, at, end);
     if end <= start {
         return Reference::NoReference;
     }
@@ -54,6 +35,25 @@ fn parse_pdf(s: &[u8], at: usize) -> Reference
         },
         Signed::NoNumber => Reference::NoReference,
     }
+}
+
+// Letters, digits and `_`, as far as they go; the digits at their end say the number, and begin at `start`.
+fn parse_pdf(s: &[u8], at: usize) -> Reference
+    ensures { λ r. ⌜ r ≡ pdfAt (now (s .entry)) at ⌝ }
+{
+    let mut start = at;
+    let mut i = at;
+    while i < s.len() {
+        let b = s[i];
+        if !is_digit(b) {
+            if !is_word(b) {
+                break;
+            }
+            start = i + 1;
+        }
+        i = i + 1;
+    }
+    some_pdf(s, start, i)
 }
 
 // A reference without quotes.

@@ -1,70 +1,103 @@
--- `tree_reference::parse_pdf`: each way out is an arm of `pdfOf`. Assumes nothing.
+-- `tree_reference::parse_pdf`. The invariant: the word ends where it did, and `start` is where the digits at the end of what was passed begin. Assumes nothing.
 use mathlib.Core.Path.{_≡_, refl, sym, ap, ap₂, _∙_}
+use mathlib.Core.Logic.{⊎-elim}
 use mathlib.Core.List.{List}
-use Prim.Native.Nat.{ℕ, _≤_, _<_}
-use borrow.Author.Tests.{lt-ltb, le-ltb}
+use Prim.Native.Nat.{ℕ, _-_, _≤_, _<_}
+use native.Mathlib.Omega.{arith}
+use borrow.Author.Needs.{needs}
+use borrow.Author.Tests.{not-true, not-false}
+use lib.ListN.{length}
 use Rattle.written.specs.Bytes.{inWord}
 use Rattle.laws.specs.Runs.{stop}
-use Rattle.laws.proofs.Signed.{back}
-use Rattle.base_values.specs.Answers.{signedAt}
-use Rattle.tree_reference.specs.References.{digitsFrom, pdfRead, pdfOf, pdfAt}
-use Rattle.tree_reference.specs.declared.TreeIndex.the-variants.{Pdf}
-use Rattle.tree_reference.specs.declared.Reference.the-variants.{Found, NoReference}
-use borrow.Author.Needs.{needs}
+use Rattle.laws.proofs.Runs.{stop-on, stop-here, stop-end}
+use Rattle.tree_reference.specs.References.{digitsFrom, pdfOf, pdfAt}
+use Rattle.tree_reference.proofs.Digits.{past-digit, past-other, from-end, in-word}
 use Rattle.tree_reference.proofs.parse_pdf.Statement.{statement}
 use Rattle.tree_reference.proofs.parse_pdf.Tie as tie
 
-module _ (s : List ℕ) (i : ℕ) {e d : ℕ} (end : e ≡ stop inWord s i) (start : d ≡ digitsFrom s i e) where
-  is : pdfOf s e d ≡ pdfAt s i
-  unfolding pdfAt
-  is = rw (start, end)
+record Passed (s : List ℕ) (at start i : ℕ) : Type 0 where
+  from : at ≤ i
+  same : stop inWord s i ≡ stop inWord s at
+  digits : start ≡ digitsFrom s at i
 
-  none : e ≤ d → NoReference ≡ pdfAt s i
-  unfolding pdfOf
-  none h = rw (le-ltb d e h) at is
+abbrev Inv-loop : tie.InvT-loop
+Inv-loop s at start₀ i₀ start i = Passed s at start i
 
-  one : d < e → pdfRead (signedAt s d) ≡ pdfAt s i
-  unfolding pdfOf
-  one h = rw (lt-ltb d e h) at is
+abbrev μ-loop : tie.MeasureT-loop
+μ-loop s at start₀ i₀ start i = length s - i
 
-word-end-requires : tie.Need-word-end-requires
-word-end-requires c κs = search needs
+loop-holds : tie.Need-loop-holds Inv-loop μ-loop
+loop-holds c = record { from = omega arith; same = refl; digits = sym (from-end _ _ _ (omega arith)) }
 
-digits-start-requires : tie.Need-digits-start-requires
-digits-start-requires c κs = search needs
+shared-slice-read-b : tie.Need-shared-slice-read-b Inv-loop μ-loop
+shared-slice-read-b c = search needs
 
-returns : tie.Need-returns
-returns c = none _ _ (c .before .before .word-end .ensures) (c .before .digits-start .ensures) (c .if1 .taken)
+is-digit-requires : tie.Need-is-digit-requires Inv-loop μ-loop
+is-digit-requires c κs = search needs
 
-parse-signed-requires : tie.Need-parse-signed-requires
-parse-signed-requires c κs = search needs
+is-word-requires : tie.Need-is-word-requires Inv-loop μ-loop
+is-word-requires c κs = search needs
 
-enum-known-value : tie.Need-enum-known-value
-enum-known-value c = search needs
+add-start : tie.Need-add-start Inv-loop μ-loop
+add-start c = search needs
 
-enum-told : tie.Need-enum-told
-enum-told c = search needs
+add-i : tie.Need-add-i Inv-loop μ-loop
+add-i c = search needs
 
-returns-2 : tie.Need-returns-2
-returns-2 c =
-    ap₂ Found (ap Pdf (back _ (c .known-told .given .0 .1))) refl
-    ∙ ap pdfRead (sym (c .before .value .given .1) ∙ c .before .before .before .parse-signed .ensures)
-    ∙ one _ _ (c .before .before .before .before .before .before .word-end .ensures) (c .before .before .before .before .before .digits-start .ensures) (c .before .before .before .before .if1 .left)
+loop-less : tie.Need-loop-less Inv-loop μ-loop
+loop-less c = search needs
 
-returns-3 : tie.Need-returns-3
-returns-3 c =
-    ap pdfRead (sym (c .enum-told .given .1) ∙ c .before .before .parse-signed .ensures)
-    ∙ one _ _ (c .before .before .before .before .before .word-end .ensures) (c .before .before .before .before .digits-start .ensures) (c .before .before .before .if1 .left)
+loop-again : tie.Need-loop-again Inv-loop μ-loop
+loop-again c =
+    let inv = c .before .before .before .before .loop .inv in
+    let l = c .before .before .before .loop-test .taken in
+    ⊎-elim
+    (λ w. record {
+      from = omega (arith, inv .from);
+      same = sym (stop-on _ _ _ l (sym (w .1 .ensures) ∙ not-false _ (w .2 .left))) ∙ inv .same;
+      digits = w .3 ∙ past-other _ _ _ (inv .from) l (sym (c .before .is-digit .ensures) ∙ not-true _ (w .0 .taken));
+    })
+    (λ w.
+    let y = sym (c .before .is-digit .ensures) ∙ not-false _ (w .0 .left) in
+    record {
+      from = omega (arith, inv .from);
+      same = sym (stop-on _ _ _ l (in-word _ y)) ∙ inv .same;
+      digits = w .1 ∙ inv .digits ∙ past-digit _ _ _ (inv .from) l y;
+    })
+    (c .if1 .came)
+
+some-pdf-requires : tie.Need-some-pdf-requires Inv-loop μ-loop
+some-pdf-requires c κs = search needs
+
+-- the word ends where the loop is left
+pdf : (s : List ℕ) (at start i : ℕ) → Passed s at start i → stop inWord s i ≡ i → pdfOf s i start ≡ pdfAt s at
+unfolding pdfAt
+pdf s at start i p e =
+    let q : i ≡ stop inWord s at = sym e ∙ p .same in
+    ap₂ (pdfOf s) q (p .digits ∙ ap (digitsFrom s at) q)
+
+returns : tie.Need-returns Inv-loop μ-loop
+returns c =
+    c .some-pdf .ensures
+    ∙ pdf _ _ _ _ (c .before .before .loop .inv)
+    (⊎-elim
+    (λ w. stop-end _ _ _ (w .left))
+    (λ w. stop-here _ _ _ (w .0 .taken) (sym (w .4 .ensures) ∙ not-true _ (w .5 .taken)))
+    (c .before .loop-test .came))
 
 pub parse-pdf-spec : {M : Type 1} → statement M
 parse-pdf-spec =
     tie.close
     (tie.spec
-    word-end-requires
-    digits-start-requires
-    returns
-    parse-signed-requires
-    enum-known-value
-    enum-told
-    returns-2
-    returns-3)
+    Inv-loop
+    μ-loop
+    loop-holds
+    shared-slice-read-b
+    is-digit-requires
+    is-word-requires
+    add-start
+    add-i
+    loop-less
+    loop-again
+    some-pdf-requires
+    returns)
