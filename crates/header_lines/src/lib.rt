@@ -1,7 +1,6 @@
 // After header/de.rs, `NewlineSeparated`: the lines of a section, key, `:`, value (01, 'Header text'). Assumes nothing.
-use base::Test;
 use base::byte_at;
-use base::run_end;
+use base::newline_end;
 use de::Cursor;
 use de::Delimiters;
 use de::Text;
@@ -72,7 +71,7 @@ pub fn part_of(s: &[u8], start: usize, len: usize) -> &[u8]
 pub fn next_key(c: Cursor, s: &[u8]) -> Key
     ensures { λ r. ⌜ r ≡ keyAt (now (s .entry)) (c .at) ⌝ }
 {
-    let at = run_end(Test::Newline, s, c.at);
+    let at = newline_end(s, c.at);
     if byte_at(s, at) == 256 {
         return Key::End;
     }

@@ -47,32 +47,28 @@ pub fn store(item: PositionData, field: usize, v: Value) -> PositionData
             let x = l.items;
             d.stream_win = x;
             d.stream_win_count = l.count;
-            d
         }
         1 => {
             let x = v.range;
             d.stream_pdf = x;
-            d
         }
         2 => {
             let x = v.range;
             d.stream_tree = x;
-            d
         }
         3 => {
             let x = v.range;
             d.gv_pdf = x;
             d.has_gv_pdf = v.flag;
-            d
         }
         4 => {
             let x = v.range;
             d.gv_tree = x;
             d.has_gv_tree = v.flag;
-            d
         }
-        _ => d,
+        _ => {}
     }
+    d
 }
 
 // A group with no row yet.

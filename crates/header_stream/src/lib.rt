@@ -44,29 +44,25 @@ pub fn store(item: StreamData, field: usize, v: Value) -> StreamData
     match field {
         0 => {
             d.vector_length = v.number;
-            d
         }
         1 => {
             d.num_windows = v.number;
-            d
         }
         2 => {
             d.is_msd = v.flag;
-            d
         }
         3 => {
             d.use_gv = v.flag;
-            d
         }
         4 => {
             let l = v.spans;
             let x = l.first16();
             d.option = x;
             d.option_count = l.count;
-            d
         }
-        _ => d,
+        _ => {}
     }
+    d
 }
 
 // A group with no row yet.

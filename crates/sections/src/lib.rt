@@ -1,7 +1,6 @@
 // After parser/mod.rs, `split_sections`: where the four sections of a file stand (01, 'Sections'). Assumes nothing.
-use base::Test;
 use base::byte_at;
-use base::run_end;
+use base::newline_end;
 use base_values::same_bytes;
 use header::Span;
 use header_lines::part_of;
@@ -81,7 +80,7 @@ fn section_at(s: &[u8], at: usize, heading: &[u8]) -> Section
 pub fn split_sections(file: &[u8]) -> Sections
     ensures { λ r. ⌜ r ≡ splitOf (now (file .entry)) ⌝ }
 {
-    let first = run_end(Test::Newline, file, 0);
+    let first = newline_end(file, 0);
     match section_at(file, first, b"[GLOBAL]\n") {
         Section::NoSection => Sections::Unsplit,
         Section::Text {

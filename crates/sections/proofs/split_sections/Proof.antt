@@ -9,8 +9,8 @@ use borrow.Author.Needs.{needs}
 use Rattle.sections.proofs.split_sections.Statement.{statement}
 use Rattle.sections.proofs.split_sections.Tie as tie
 
-run-end-requires : tie.Need-run-end-requires
-run-end-requires c κs = search needs
+newline-end-requires : tie.Need-newline-end-requires
+newline-end-requires c κs = search needs
 
 slice-aggregate-section-at : tie.Need-slice-aggregate-section-at
 slice-aggregate-section-at c = search needs
@@ -65,7 +65,7 @@ starts-with-requires c κs = search needs
 
 returns : tie.Need-returns
 unfolding splitOf bytes
-returns c = rw (sym (c .before .before .before .before .before .before .before .before .before .before .before .before .before .before .before .before .before .before .run-end .ensures), sym (c .before .before .before .before .before .before .before .before .before .before .before .before .before .before .before .before .section-at .ensures) ∙ c .before .before .before .before .before .before .before .before .before .before .before .before .before .before .global .given .1, sym (c .before .before .before .before .before .before .before .before .before .before .before .section-at2 .ensures) ∙ c .before .before .before .before .before .before .before .before .before .stream .given .1, sym (c .before .before .before .before .before .before .section-at3 .ensures) ∙ c .before .before .before .before .position .given .1, sym (c .before .starts-with .ensures) ∙ not-true _ (c .if1 .taken))
+returns c = rw (sym (c .before .before .before .before .before .before .before .before .before .before .before .before .before .before .before .before .before .before .newline-end .ensures), sym (c .before .before .before .before .before .before .before .before .before .before .before .before .before .before .before .before .section-at .ensures) ∙ c .before .before .before .before .before .before .before .before .before .before .before .before .before .before .global .given .1, sym (c .before .before .before .before .before .before .before .before .before .before .before .section-at2 .ensures) ∙ c .before .before .before .before .before .before .before .before .before .stream .given .1, sym (c .before .before .before .before .before .before .section-at3 .ensures) ∙ c .before .before .before .before .position .given .1, sym (c .before .starts-with .ensures) ∙ not-true _ (c .if1 .taken))
 
 add-rest : tie.Need-add-rest
 add-rest c = omega (arith, starts-in _ _ _ (omega arith) (sym (c .before .starts-with .ensures) ∙ not-false _ (c .if1 .left)), c .before .before .before .before .before .before .before .before .before .before .before .before .before .before .before .before .before .before .before .before .good)
@@ -84,25 +84,25 @@ sub-t41 c = omega (arith, starts-in _ _ _ (omega arith) (sym (c .before .starts-
 
 returns-2 : tie.Need-returns-2
 unfolding splitOf bytes
-returns-2 c = rw (sym (c .before .before .before .before .run-end .ensures), sym (c .before .before .section-at .ensures) ∙ c .enum-told .given .1)
+returns-2 c = rw (sym (c .before .before .before .before .newline-end .ensures), sym (c .before .before .section-at .ensures) ∙ c .enum-told .given .1)
 
 returns-3 : tie.Need-returns-3
 unfolding splitOf bytes
-returns-3 c = rw (sym (c .before .before .before .before .before .before .before .before .before .run-end .ensures), sym (c .before .before .before .before .before .before .before .section-at .ensures) ∙ c .before .before .before .before .before .global .given .1, sym (c .before .before .section-at2 .ensures) ∙ c .enum-told2 .given .1)
+returns-3 c = rw (sym (c .before .before .before .before .before .before .before .before .before .newline-end .ensures), sym (c .before .before .before .before .before .before .before .section-at .ensures) ∙ c .before .before .before .before .before .global .given .1, sym (c .before .before .section-at2 .ensures) ∙ c .enum-told2 .given .1)
 
 returns-4 : tie.Need-returns-4
 unfolding splitOf bytes
-returns-4 c = rw (sym (c .before .before .before .before .before .before .before .before .before .before .before .before .before .before .run-end .ensures), sym (c .before .before .before .before .before .before .before .before .before .before .before .before .section-at .ensures) ∙ c .before .before .before .before .before .before .before .before .before .before .global .given .1, sym (c .before .before .before .before .before .before .before .section-at2 .ensures) ∙ c .before .before .before .before .before .stream .given .1, sym (c .before .before .section-at3 .ensures) ∙ c .enum-told3 .given .1)
+returns-4 c = rw (sym (c .before .before .before .before .before .before .before .before .before .before .before .before .before .before .newline-end .ensures), sym (c .before .before .before .before .before .before .before .before .before .before .before .before .section-at .ensures) ∙ c .before .before .before .before .before .before .before .before .before .before .global .given .1, sym (c .before .before .before .before .before .before .before .section-at2 .ensures) ∙ c .before .before .before .before .before .stream .given .1, sym (c .before .before .section-at3 .ensures) ∙ c .enum-told3 .given .1)
 
 returns-5 : tie.Need-returns-5
 unfolding splitOf bytes
-returns-5 c = rw (sym (c .before .before .before .before .before .before .before .before .before .before .before .before .before .before .before .before .before .before .run-end .ensures), sym (c .before .before .before .before .before .before .before .before .before .before .before .before .before .before .before .before .section-at .ensures) ∙ c .before .before .before .before .before .before .before .before .before .before .before .before .before .before .global .given .1, sym (c .before .before .before .before .before .before .before .before .before .before .before .section-at2 .ensures) ∙ c .before .before .before .before .before .before .before .before .before .stream .given .1, sym (c .before .before .before .before .before .before .section-at3 .ensures) ∙ c .before .before .before .before .position .given .1, sym (c .before .starts-with .ensures) ∙ not-false _ (c .if1 .left))
+returns-5 c = rw (sym (c .before .before .before .before .before .before .before .before .before .before .before .before .before .before .before .before .before .before .newline-end .ensures), sym (c .before .before .before .before .before .before .before .before .before .before .before .before .before .before .before .before .section-at .ensures) ∙ c .before .before .before .before .before .before .before .before .before .before .before .before .before .before .global .given .1, sym (c .before .before .before .before .before .before .before .before .before .before .before .section-at2 .ensures) ∙ c .before .before .before .before .before .before .before .before .before .stream .given .1, sym (c .before .before .before .before .before .before .section-at3 .ensures) ∙ c .before .before .before .before .position .given .1, sym (c .before .starts-with .ensures) ∙ not-false _ (c .if1 .left))
 
 pub split-sections-spec : {M : Type 1} → statement M
 split-sections-spec =
     tie.close
     (tie.spec
-    run-end-requires
+    newline-end-requires
     slice-aggregate-section-at
     section-at-requires
     enum-told
