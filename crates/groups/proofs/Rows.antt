@@ -142,9 +142,14 @@ module _ (s : List ℕ) (t : List Span) (n k : ℕ) (w : List ℕ) where
   unfolding knownFrom
   known-here h l e = let f : n - k ≡ suc (n - (k + 1)) = omega arith in rw (f, lt-leb 8 k l, e)
 
-  pub known-past : k < n → 8 ≤ k → knownFrom (n - k) s t k w ≡ false
+  -- none past the first 8
+  pub known-past : 8 ≤ k → knownFrom (n - k) s t k w ≡ knownFrom (n - (k + 1)) s t (k + 1) w
   unfolding knownFrom
-  known-past h l = let f : n - k ≡ suc (n - (k + 1)) = omega arith in rw (f, le-leb 8 k l)
+  known-past l = none (n - k) k l ∙ sym (none (n - (k + 1)) (k + 1) (omega arith))
+    where
+      none : (m i : ℕ) → 8 ≤ i → knownFrom m s t i w ≡ false
+      none zero i h = refl
+      none (suc m) i h = rw (le-leb 8 i h)
 
   pub known-end : n ≤ k → knownFrom (n - k) s t k w ≡ false
   unfolding knownFrom

@@ -193,12 +193,11 @@ impl Names {
         let n = self.count;
         let mut k = 0;
         while k < n {
-            if 8 <= k {
-                return false;
-            }
-            let name = self.items[k];
-            if same_part(s, name, x) {
-                return true;
+            if k < 8 {
+                let name = self.items[k];
+                if same_part(s, name, x) {
+                    return true;
+                }
             }
             k = k + 1;
         }
