@@ -70,17 +70,17 @@ returns c = rw (sym (c .before .before .before .before .before .before .before .
 add-rest : tie.Need-add-rest
 add-rest c = omega (arith, starts-in _ _ _ (omega arith) (sym (c .before .starts-with .ensures) ∙ not-false _ (c .if1 .left)), c .before .before .before .before .before .before .before .before .before .before .before .before .before .before .before .before .before .before .before .before .good)
 
-sub-t31 : tie.Need-sub-t31
-sub-t31 c = omega (arith, section-in _ _ _ (sym (c .before .before .before .before .before .before .before .before .before .before .before .before .before .before .before .before .section-at .ensures) ∙ c .before .before .before .before .before .before .before .before .before .before .before .before .before .before .global .given .1))
+sub-t30 : tie.Need-sub-t30
+sub-t30 c = omega (arith, section-in _ _ _ (sym (c .before .before .before .before .before .before .before .before .before .before .before .before .before .before .before .before .section-at .ensures) ∙ c .before .before .before .before .before .before .before .before .before .before .before .before .before .before .global .given .1))
 
-sub-t36 : tie.Need-sub-t36
-sub-t36 c = omega (arith, section-in _ _ _ (sym (c .before .before .before .before .before .before .before .before .before .before .before .section-at2 .ensures) ∙ c .before .before .before .before .before .before .before .before .before .stream .given .1))
+sub-t35 : tie.Need-sub-t35
+sub-t35 c = omega (arith, section-in _ _ _ (sym (c .before .before .before .before .before .before .before .before .before .before .before .section-at2 .ensures) ∙ c .before .before .before .before .before .before .before .before .before .stream .given .1))
 
-sub-t38 : tie.Need-sub-t38
-sub-t38 c = omega (arith, section-in _ _ _ (sym (c .before .before .before .before .before .before .section-at3 .ensures) ∙ c .before .before .before .before .position .given .1))
+sub-t37 : tie.Need-sub-t37
+sub-t37 c = omega (arith, section-in _ _ _ (sym (c .before .before .before .before .before .before .section-at3 .ensures) ∙ c .before .before .before .before .position .given .1))
 
-sub-t41 : tie.Need-sub-t41
-sub-t41 c = omega (arith, starts-in _ _ _ (omega arith) (sym (c .before .starts-with .ensures) ∙ not-false _ (c .if1 .left)))
+sub-t40 : tie.Need-sub-t40
+sub-t40 c = omega (arith, starts-in _ _ _ (omega arith) (sym (c .before .starts-with .ensures) ∙ not-false _ (c .if1 .left)))
 
 returns-2 : tie.Need-returns-2
 unfolding splitOf bytes
@@ -122,10 +122,10 @@ split-sections-spec =
     starts-with-requires
     returns
     add-rest
-    sub-t31
-    sub-t36
-    sub-t38
-    sub-t41
+    sub-t30
+    sub-t35
+    sub-t37
+    sub-t40
     returns-2
     returns-3
     returns-4
