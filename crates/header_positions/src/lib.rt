@@ -69,25 +69,27 @@ impl Positions {
     }
 }
 
-fn refused(refusal: Refusal) -> GroupsRead
+fn refused(refusal: Refusal, none: Positions) -> GroupsRead
+    requires { ⌜ none ≡ noPositions ⌝ }
     ensures { λ r. ⌜ r ≡ groupsIn (stop-with refusal) ⌝ }
 {
     GroupsRead {
         verdict: Verdict::Refused(refusal),
-        positions: Positions::none(),
+        positions: none,
     }
 }
 
 // The limits on counts.
-fn judge(positions: Positions) -> GroupsRead
+fn judge(positions: Positions, none: Positions) -> GroupsRead
+    requires { ⌜ none ≡ noPositions ⌝ }
     ensures { λ r. ⌜ r ≡ judged positions ⌝ }
 {
     let names = positions.names;
     if 8 < names.count {
-        return refused(Refusal::Limit);
+        return refused(Refusal::Limit, none);
     }
     if positions.too_many(8) {
-        return refused(Refusal::Limit);
+        return refused(Refusal::Limit, none);
     }
     GroupsRead {
         verdict: Verdict::Accepted,
@@ -125,11 +127,13 @@ fn take_group(positions: Positions, s: &[u8], start: usize, row: Row) -> GroupsR
 }
 
 // The groups of the section whose text runs from `start` to the end of s, and whose lines are whole.
-pub fn read_groups(s: &[u8], start: usize) -> GroupsRead
+// `none` is Positions::none(): the caller makes it once and hands it on, since the compiler builds it anew wherever it is written.
+pub fn read_groups(s: &[u8], start: usize, none: Positions) -> GroupsRead
+    requires { ⌜ none ≡ noPositions ⌝ }
     ensures { λ r. ⌜ r ≡ groupsIn (over (withGroup (now (s .entry)) start) noPositions (rowsAt (now (s .entry)) start)) ⌝ }
 {
     let mut at = Cursor { at: start };
-    let mut positions = Positions::none();
+    let mut positions = none;
     loop {
         match row_at(at, s) {
             RowAt::Found(row) => {
@@ -141,7 +145,7 @@ pub fn read_groups(s: &[u8], start: usize) -> GroupsRead
                         at = Cursor { at: row.end };
                     }
                     Verdict::Refused(refusal) => {
-                        return refused(refusal);
+                        return refused(refusal, none);
                     }
                 }
             }
@@ -149,7 +153,7 @@ pub fn read_groups(s: &[u8], start: usize) -> GroupsRead
                 at = next;
             }
             RowAt::End => {
-                return judge(positions);
+                return judge(positions, none);
             }
         }
     }

@@ -69,25 +69,27 @@ impl Streams {
     }
 }
 
-fn refused(refusal: Refusal) -> GroupsRead
+fn refused(refusal: Refusal, none: Streams) -> GroupsRead
+    requires { ⌜ none ≡ noStreams ⌝ }
     ensures { λ r. ⌜ r ≡ groupsIn (stop-with refusal) ⌝ }
 {
     GroupsRead {
         verdict: Verdict::Refused(refusal),
-        streams: Streams::none(),
+        streams: none,
     }
 }
 
 // The limits on counts.
-fn judge(streams: Streams) -> GroupsRead
+fn judge(streams: Streams, none: Streams) -> GroupsRead
+    requires { ⌜ none ≡ noStreams ⌝ }
     ensures { λ r. ⌜ r ≡ judged streams ⌝ }
 {
     let names = streams.names;
     if 8 < names.count {
-        return refused(Refusal::Limit);
+        return refused(Refusal::Limit, none);
     }
     if streams.too_many(8) {
-        return refused(Refusal::Limit);
+        return refused(Refusal::Limit, none);
     }
     GroupsRead {
         verdict: Verdict::Accepted,
@@ -125,11 +127,13 @@ fn take_group(streams: Streams, s: &[u8], start: usize, row: Row) -> GroupsRead
 }
 
 // The groups of the section whose text runs from `start` to the end of s, and whose lines are whole.
-pub fn read_groups(s: &[u8], start: usize) -> GroupsRead
+// `none` is Streams::none(): the caller makes it once and hands it on, since the compiler builds it anew wherever it is written.
+pub fn read_groups(s: &[u8], start: usize, none: Streams) -> GroupsRead
+    requires { ⌜ none ≡ noStreams ⌝ }
     ensures { λ r. ⌜ r ≡ groupsIn (over (withGroup (now (s .entry)) start) noStreams (rowsAt (now (s .entry)) start)) ⌝ }
 {
     let mut at = Cursor { at: start };
-    let mut streams = Streams::none();
+    let mut streams = none;
     loop {
         match row_at(at, s) {
             RowAt::Found(row) => {
@@ -141,7 +145,7 @@ pub fn read_groups(s: &[u8], start: usize) -> GroupsRead
                         at = Cursor { at: row.end };
                     }
                     Verdict::Refused(refusal) => {
-                        return refused(refusal);
+                        return refused(refusal, none);
                     }
                 }
             }
@@ -149,7 +153,7 @@ pub fn read_groups(s: &[u8], start: usize) -> GroupsRead
                 at = next;
             }
             RowAt::End => {
-                return judge(streams);
+                return judge(streams, none);
             }
         }
     }

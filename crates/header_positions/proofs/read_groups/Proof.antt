@@ -14,24 +14,21 @@ use Rattle.header_positions.proofs.read_groups.Statement.{statement}
 use Rattle.header_positions.proofs.read_groups.Tie as tie
 
 abbrev Inv-loop : tie.InvT-loop
-Inv-loop s start at₀ positions₀ at positions = (rows : List Row) × (over (withGroup s start) (noPositions) (rowsAt s start) ≡ over (withGroup s start) positions rows) × Left s (at .at) rows
+Inv-loop s start none at₀ positions₀ at positions = (rows : List Row) × (over (withGroup s start) (noPositions) (rowsAt s start) ≡ over (withGroup s start) positions rows) × Left s (at .at) rows
 
 abbrev μ-loop : tie.MeasureT-loop
-μ-loop s start at₀ positions₀ at positions = length s - at .at
+μ-loop s start none at₀ positions₀ at positions = length s - at .at
 
 -- the row that was found, and what is left
-found : (c : tie.After-known-told Inv-loop μ-loop) → Next (c .before .before .before .before .before .before .before .args .s .now) (c .before .before .before .before .loop .inv .2) (c .before .row .given .0 .0)
+found : (c : tie.After-known-told Inv-loop μ-loop) → Next (c .before .before .before .before .before .before .args .s .now) (c .before .before .before .before .loop .inv .2) (c .before .row .given .0 .0)
 found c = left-row _ (c .before .before .before .before .loop .inv .2) (sym (c .before .before .before .row-at .ensures) ∙ c .before .row .given .1)
 
 -- the answer, with the row split off
-split : (c : tie.After-known-told Inv-loop μ-loop) → over (withGroup (c .before .before .before .before .before .before .before .args .s .now) (c .before .before .before .before .before .before .before .args .start)) noPositions (rowsAt (c .before .before .before .before .before .before .before .args .s .now) (c .before .before .before .before .before .before .before .args .start)) ≡ over (withGroup (c .before .before .before .before .before .before .before .args .s .now) (c .before .before .before .before .before .before .before .args .start)) (c .before .before .before .before .loop .positions) (c .before .row .given .0 .0 ∷ found c .rest)
+split : (c : tie.After-known-told Inv-loop μ-loop) → over (withGroup (c .before .before .before .before .before .before .args .s .now) (c .before .before .before .before .before .before .args .start)) noPositions (rowsAt (c .before .before .before .before .before .before .args .s .now) (c .before .before .before .before .before .before .args .start)) ≡ over (withGroup (c .before .before .before .before .before .before .args .s .now) (c .before .before .before .before .before .before .args .start)) (c .before .before .before .before .loop .positions) (c .before .row .given .0 .0 ∷ found c .rest)
 split c = c .before .before .before .before .loop .inv .1 ∙ ap (over _ _) (found c .split-off)
 
-none-requires : tie.Need-none-requires Inv-loop μ-loop
-none-requires c κs = search needs
-
 loop-holds : tie.Need-loop-holds Inv-loop μ-loop
-loop-holds c = (_, ap (λ (g : Positions). over (withGroup (c .before .before .args .s .now) (c .before .before .args .start)) g (rowsAt (c .before .before .args .s .now) (c .before .before .args .start))) (sym (c .none .ensures)), left-all _ _)
+loop-holds c = (_, ap (λ (g : Positions). over (withGroup (c .before .args .s .now) (c .before .args .start)) g (rowsAt (c .before .args .s .now) (c .before .args .start))) (sym (c .before .pre)), left-all _ _)
 
 row-at-requires : tie.Need-row-at-requires Inv-loop μ-loop
 row-at-requires c κs = search needs
@@ -76,7 +73,7 @@ judge-requires : tie.Need-judge-requires Inv-loop μ-loop
 judge-requires c κs = search needs
 
 returns-2 : tie.Need-returns-2 Inv-loop μ-loop
-returns-2 c = c .judge .ensures ∙ ap groupsIn (sym (c .before .before .before .before .loop .inv .1 ∙ ap (over (withGroup (c .before .before .before .before .before .before .before .args .s .now) (c .before .before .before .before .before .before .before .args .start)) (c .before .before .before .before .loop .positions)) (left-none _ (c .before .before .before .before .loop .inv .2) (sym (c .before .before .before .row-at .ensures) ∙ c .before .enum-told2 .given .1)) ∙ over-none (withGroup (c .before .before .before .before .before .before .before .args .s .now) (c .before .before .before .before .before .before .before .args .start)) (c .before .before .before .before .loop .positions)))
+returns-2 c = c .judge .ensures ∙ ap groupsIn (sym (c .before .before .before .before .loop .inv .1 ∙ ap (over (withGroup (c .before .before .before .before .before .before .args .s .now) (c .before .before .before .before .before .before .args .start)) (c .before .before .before .before .loop .positions)) (left-none _ (c .before .before .before .before .loop .inv .2) (sym (c .before .before .before .row-at .ensures) ∙ c .before .enum-told2 .given .1)) ∙ over-none (withGroup (c .before .before .before .before .before .before .args .s .now) (c .before .before .before .before .before .before .args .start)) (c .before .before .before .before .loop .positions)))
 
 pub read-groups-spec : {M : Type 1} → statement M
 read-groups-spec =
@@ -84,7 +81,6 @@ read-groups-spec =
     (tie.spec
     Inv-loop
     μ-loop
-    none-requires
     loop-holds
     row-at-requires
     enum-known-row
