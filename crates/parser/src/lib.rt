@@ -22,6 +22,7 @@ use utf8::check;
 ghost use mathlib.Core.Path.{_≡_};
 ghost use Prim.Native.Nat.{_+_, _≤_};
 ghost use lib.ListN.{length};
+ghost use Rattle.header_positions.specs.Groups.{noPositions};
 ghost use Rattle.parser.specs.Open.{Inside, utf8Of, globalOf, streamsOf, positionsOf, noPositionsFor, partsOf, refusedWith, openOf, commentOf};
 
 // The record, or the refusal and beside it the empty record.
@@ -70,10 +71,12 @@ pub fn open_streams(file: &[u8], x: Span) -> header_streams::GroupsRead
     requires { ⌜ x .start + x .len ≤ length (now file) ⌝ }
     ensures { λ r. ⌜ r ≡ streamsOf (now (file .entry)) x ⌝ }
 {
+    // Made once and handed on: the compiler builds it anew wherever it is written.
+    let none = Streams::none();
     match check_utf8(file, x) {
         Verdict::Refused(refusal) => header_streams::GroupsRead {
             verdict: Verdict::Refused(refusal),
-            streams: Streams::none(),
+            streams: none,
         },
         Verdict::Accepted => {
             let end = x.start + x.len;
@@ -81,21 +84,22 @@ pub fn open_streams(file: &[u8], x: Span) -> header_streams::GroupsRead
             match check_lines(s, x.start) {
                 Verdict::Refused(refusal) => header_streams::GroupsRead {
                     verdict: Verdict::Refused(refusal),
-                    streams: Streams::none(),
+                    streams: none,
                 },
-                Verdict::Accepted => header_streams::read_groups(s, x.start),
+                Verdict::Accepted => header_streams::read_groups(s, x.start, none),
             }
         }
     }
 }
 
-fn no_position(refusal: Refusal) -> PositionRead
+fn no_position(refusal: Refusal, none: Positions) -> PositionRead
+    requires { ⌜ none ≡ noPositions ⌝ }
     ensures { λ r. ⌜ r ≡ noPositionsFor refusal ⌝ }
 {
     PositionRead {
         verdict: Verdict::Refused(refusal),
         durations: Durations::none(),
-        positions: Positions::none(),
+        positions: none,
     }
 }
 
@@ -103,21 +107,23 @@ pub fn open_positions(file: &[u8], x: Span) -> PositionRead
     requires { ⌜ x .start + x .len ≤ length (now file) ⌝ }
     ensures { λ r. ⌜ r ≡ positionsOf (now (file .entry)) x ⌝ }
 {
+    // Made once and handed on, as in open_streams.
+    let none = Positions::none();
     match check_utf8(file, x) {
-        Verdict::Refused(refusal) => no_position(refusal),
+        Verdict::Refused(refusal) => no_position(refusal, none),
         Verdict::Accepted => {
             let end = x.start + x.len;
             let s = up_to(file, end);
             let d = read_durations(s, x.start);
             let lines = d.verdict;
             match lines {
-                Verdict::Refused(refusal) => no_position(refusal),
+                Verdict::Refused(refusal) => no_position(refusal, none),
                 Verdict::Accepted => {
-                    let g = header_positions::read_groups(s, x.start);
+                    let g = header_positions::read_groups(s, x.start, none);
                     let durations = d.durations;
                     let groups = g.verdict;
                     match groups {
-                        Verdict::Refused(refusal) => no_position(refusal),
+                        Verdict::Refused(refusal) => no_position(refusal, none),
                         Verdict::Accepted => {
                             let positions = g.positions;
                             PositionRead {

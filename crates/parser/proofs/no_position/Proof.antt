@@ -8,12 +8,9 @@ use Rattle.parser.proofs.no_position.Tie as tie
 none-requires : tie.Need-none-requires
 none-requires c κs = search needs
 
-none-requires-2 : tie.Need-none-requires-2
-none-requires-2 c κs = search needs
-
 returns : tie.Need-returns
 unfolding noPositionsFor
-returns c = ap₂ (madePosition _) (c .before .none .ensures) (c .none2 .ensures)
+returns c = ap₂ (madePosition _) (c .none .ensures) (c .before .pre)
 
 pub no-position-spec : {M : Type 1} → statement M
-no-position-spec = tie.close (tie.spec none-requires none-requires-2 returns)
+no-position-spec = tie.close (tie.spec none-requires returns)

@@ -6,6 +6,9 @@ use borrow.Author.Needs.{needs}
 use Rattle.parser.proofs.open_positions.Statement.{statement}
 use Rattle.parser.proofs.open_positions.Tie as tie
 
+none-requires : tie.Need-none-requires
+none-requires c κs = search needs
+
 check-utf8-requires : tie.Need-check-utf8-requires
 check-utf8-requires c κs = search needs
 
@@ -68,6 +71,7 @@ pub open-positions-spec : {M : Type 1} → statement M
 open-positions-spec =
     tie.close
     (tie.spec
+    none-requires
     check-utf8-requires
     enum-known-refusal
     no-position-requires

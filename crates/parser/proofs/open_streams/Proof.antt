@@ -7,14 +7,14 @@ use borrow.Author.Needs.{needs}
 use Rattle.parser.proofs.open_streams.Statement.{statement}
 use Rattle.parser.proofs.open_streams.Tie as tie
 
+none-requires : tie.Need-none-requires
+none-requires c κs = search needs
+
 check-utf8-requires : tie.Need-check-utf8-requires
 check-utf8-requires c κs = search needs
 
 enum-known-refusal : tie.Need-enum-known-refusal
 enum-known-refusal c = search needs
-
-none-requires : tie.Need-none-requires
-none-requires c κs = search needs
 
 enum-told : tie.Need-enum-told
 enum-told c = search needs
@@ -31,9 +31,6 @@ check-lines-requires c κs = search needs
 enum-known-refusal-2 : tie.Need-enum-known-refusal-2
 enum-known-refusal-2 c = search needs
 
-none-requires-2 : tie.Need-none-requires-2
-none-requires-2 c κs = search needs
-
 enum-told-2 : tie.Need-enum-told-2
 enum-told-2 c = search needs
 
@@ -42,11 +39,11 @@ read-groups-requires c κs = search needs
 
 returns : tie.Need-returns
 unfolding streamsOf
-returns c = rw (sym (c .before .before .before .before .check-utf8 .ensures) ∙ c .before .before .refusal .given .1) (ap (made _) (c .none .ensures))
+returns c = rw (sym (c .before .before .before .check-utf8 .ensures) ∙ c .before .refusal .given .1) (ap (made _) (c .before .before .before .before .none .ensures))
 
 returns-2 : tie.Need-returns-2
 unfolding streamsOf
-returns-2 c = rw (sym (c .before .before .before .before .before .before .before .before .before .check-utf8 .ensures) ∙ c .before .before .before .before .before .before .before .enum-told .given .1, sym (c .before .before .before .before .before .up-to .ensures), sym (c .before .before .before .before .check-lines .ensures) ∙ c .before .before .refusal2 .given .1) (ap (made _) (c .none2 .ensures))
+returns-2 c = rw (sym (c .before .before .before .before .before .before .before .before .check-utf8 .ensures) ∙ c .before .before .before .before .before .before .enum-told .given .1, sym (c .before .before .before .before .up-to .ensures), sym (c .before .before .before .check-lines .ensures) ∙ c .before .refusal2 .given .1) (ap (made _) (c .before .before .before .before .before .before .before .before .before .none .ensures))
 
 returns-3 : tie.Need-returns-3
 unfolding streamsOf
@@ -56,15 +53,14 @@ pub open-streams-spec : {M : Type 1} → statement M
 open-streams-spec =
     tie.close
     (tie.spec
+    none-requires
     check-utf8-requires
     enum-known-refusal
-    none-requires
     enum-told
     add-end
     up-to-requires
     check-lines-requires
     enum-known-refusal-2
-    none-requires-2
     enum-told-2
     read-groups-requires
     returns
