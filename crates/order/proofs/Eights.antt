@@ -1,12 +1,13 @@
 -- Names that are the same in the next eight bytes, which a comparison of two numbers says. Assumes nothing.
-use mathlib.Core.Path.{_≡_, refl, sym, ap, ap₂, _∙_}
-use mathlib.Core.Bool.{Bool, true, false, _&&_}
+use mathlib.Core.Path.{_≡_, sym, ap, _∙_}
+use mathlib.Core.Bool.{true, _&&_}
 use mathlib.Core.List.{List, [], _∷_}
 use Prim.Native.Nat.{ℕ, zero, suc, _+_, _*_, _≤_, _<_}
 use native.Mathlib.Omega.{arith}
 use borrow.Author.Tests.{leb-true, eqb-true}
 use lib.Dec.{leb, eqb}
 use lib.ListN.{length, getD, take}
+use Rattle.written.proofs.Tests.{both}
 use Rattle.base.specs.Ahead.{bytesAt, little}
 use Rattle.order.specs.Keys.{sameEight}
 use Rattle.order.proofs.Names.{take-on}
@@ -24,14 +25,9 @@ module _ (s t : List ℕ) (small : (i : ℕ) → getD s i 0 < 256) (small′ : (
       let q : take (suc i) s ≡ take (suc i) t = sym (ap (λ k. take k s) up) ∙ take-on s t i (omega arith) long p (omega arith) (omega arith) ∙ ap (λ k. take k t) up in
       ap (λ k. take k s) z ∙ on n (suc i) y (omega arith) q ∙ sym (ap (λ k. take k t) z)
 
-  and-both : (a b : Bool) → (a && b) ≡ true → (a ≡ true) × (b ≡ true)
-  and-both true true e = (refl, refl)
-  and-both true false e = let u : _≡_ {A = ℕ} 0 1 = cc in absurd (omega arith)
-  and-both false b e = let u : _≡_ {A = ℕ} 0 1 = cc in absurd (omega arith)
-
   pub eight-inside : (i : ℕ) → sameEight s t i ≡ true → i + 8 ≤ length s
-  eight-inside i e = leb-true (i + 8) (length s) (and-both (leb (i + 8) (length s)) (eqb (little (bytesAt 8 s i)) (little (bytesAt 8 t i))) e .0)
+  eight-inside i e = leb-true (i + 8) (length s) (both (leb (i + 8) (length s)) (eqb (little (bytesAt 8 s i)) (little (bytesAt 8 t i))) e .0)
 
   pub eight-on : (i : ℕ) → sameEight s t i ≡ true → take i s ≡ take i t → take (i + 8) s ≡ take (i + 8) t
   eight-on i e p =
-      on 8 i (eqb-true (little (bytesAt 8 s i)) (little (bytesAt 8 t i)) (and-both (leb (i + 8) (length s)) (eqb (little (bytesAt 8 s i)) (little (bytesAt 8 t i))) e .1)) (eight-inside i e) p
+      on 8 i (eqb-true (little (bytesAt 8 s i)) (little (bytesAt 8 t i)) (both (leb (i + 8) (length s)) (eqb (little (bytesAt 8 s i)) (little (bytesAt 8 t i))) e .1)) (eight-inside i e) p
