@@ -2,21 +2,21 @@
 -- and a run goes on over these. Assumes nothing.
 use mathlib.Core.Path.{_≡_, refl, sym, ap, ap₂, _∙_}
 use mathlib.Core.Logic.{_⊎_, ⊎-elim, inl, inr}
-use mathlib.Core.Bool.{Bool, true, false, cond, _&&_}
+use mathlib.Core.Bool.{Bool, true, false, cond, not, _&&_}
 use mathlib.Core.List.{List, [], _∷_}
-use Prim.Native.Nat.{ℕ, zero, suc, _+_, _*_, _≤_, _<_, _/_, _%_}
+use Prim.Native.Nat.{ℕ, zero, suc, _+_, _-_, _*_, _≤_, _<_, _/_, _%_}
 use native.Mathlib.Decide.{decLt, ℕ-discrete}
 use native.Mathlib.Numerals.{add-one}
 use native.Mathlib.Omega.{arith}
-use borrow.Author.Tests.{lt-ltb, le-ltb, le-leb, lt-leb, leb-true, leb-false, eq-eqb, ne-eqb, eqb-true}
+use borrow.Author.Tests.{lt-ltb, le-ltb, le-leb, lt-leb, leb-true, leb-false, eq-eqb, ne-eqb, eqb-true, ltb-true, not-false}
 use lib.Bits.{bitAnd, bitOr, and-le-l, and-le-r, or-lt, or-add-and, and-block, or-block}
-use lib.Count.{trailingZeros}
+use lib.Count.{trailingZeros, trailing-of-zero, trailing-le}
 use lib.Dec.{eqb, leb, ltb}
 use lib.ListN.{length, getD}
 use Rattle.laws.specs.Runs.{run, stop}
 use Rattle.laws.proofs.Ranges.{is}
 use Rattle.laws.proofs.Runs.{stop-on}
-use Rattle.base.specs.Ahead.{bytesAt, little, isSpace, isPrinted, ahead}
+use Rattle.base.specs.Ahead.{bytesAt, little, isSpace, isPrinted, unprinted, ahead}
 
 -- ---- zeros at the low end
 
@@ -56,6 +56,31 @@ zeros-within (suc j) k c m p l = elim (ℕ-discrete (c % 2) 0) [
   | no n ↦
       let h : c + 2 * low j m ≡ 2 * (c / 2 + low j m) + 1 = omega arith in
       omega (arith, ap (trailingZeros (suc (up j k))) h ∙ odd (up j k) (c / 2 + low j m))
+]
+
+-- all are zeros of the number zero alone
+zeros-all : (k n : ℕ) → n < low k 1 → trailingZeros k n ≡ k → n ≡ 0
+unfolding trailingZeros
+zeros-all zero n l e = omega arith
+zeros-all (suc k) n l e = elim (ℕ-discrete (n % 2) 0) [
+  | yes z ↦
+      let h : n ≡ 2 * (n / 2) = omega arith in
+      let t : trailingZeros k (n / 2) ≡ k = omega (arith, ap (trailingZeros (suc k)) h ∙ even k (n / 2)) in
+      omega (arith, zeros-all k (n / 2) (omega arith) t)
+  | no o ↦
+      let h : n ≡ 2 * (n / 2) + 1 = omega arith in
+      absurd (omega (arith, ap (trailingZeros (suc k)) h ∙ odd k (n / 2)))
+]
+
+-- so the number is zero where they make up all eight bytes
+pub eight-zeros : (n m : ℕ) → n < 18446744073709551616 → trailingZeros 64 n / 8 ≡ m → eqb n 0 ≡ eqb m 8
+eight-zeros n m l e = elim (ℕ-discrete n 0) [
+  | yes z ↦
+      let t : m ≡ 8 = omega (arith, ap (trailingZeros 64) z ∙ trailing-of-zero 64) in
+      eq-eqb n 0 z ∙ sym (eq-eqb m 8 t)
+  | no d ↦
+      let t : m ≡ 8 → ⊥ = λ f. d (zeros-all 64 n l (omega (arith, trailing-le 64 n))) in
+      ne-eqb n 0 d ∙ sym (ne-eqb m 8 t)
 ]
 
 -- ---- the difference from spaces
@@ -212,9 +237,18 @@ eight-bytes s i =
 
 -- ---- how many come first
 
-pub ahead-none : (p : ℕ → Bool) (s : List ℕ) (i : ℕ) → length s ≤ i + 8 → 0 ≡ ahead p s i
+pub nine-of : (s : List ℕ) (i : ℕ) → ltb 8 (length s - i) ≡ ltb (i + 8) (length s)
+nine-of s i = elim (decLt (i + 8) (length s)) [
+  | yes h ↦ lt-ltb 8 (length s - i) (omega arith) ∙ sym (lt-ltb (i + 8) (length s) h)
+  | no n ↦ le-ltb 8 (length s - i) (omega arith) ∙ sym (le-ltb (i + 8) (length s) (omega arith))
+]
+
+pub nine-in : (r : Bool) (s : List ℕ) (i : ℕ) → r ≡ ltb (i + 8) (length s) → not r ≡ false → i + 8 < length s
+nine-in r s i e h = ltb-true (i + 8) (length s) (sym e ∙ not-false r h)
+
+pub ahead-none : (p : ℕ → Bool) (s : List ℕ) (i : ℕ) → ltb (i + 8) (length s) ≡ false → 0 ≡ ahead p s i
 unfolding ahead
-ahead-none p s i h = rw (le-ltb (i + 8) (length s) h)
+ahead-none p s i h = rw h
 
 module _ (s : List ℕ) (i : ℕ) (h : i + 8 < length s) (b : (j : ℕ) → getD s j 0 < 256) where
   pub ahead-spaces : (n : ℕ) → (n + 2314885530818453536) % 18446744073709551616 ≡ little (bytesAt 8 s i) → trailingZeros 64 n / 8 ≡ ahead isSpace s i
@@ -223,12 +257,44 @@ module _ (s : List ℕ) (i : ℕ) (h : i + 8 < length s) (b : (j : ℕ) → getD
       rw (lt-ltb (i + 8) (length s) h)
       (spaces-first 8 (bytesAt 8 s i) n ((n + 2314885530818453536) / 18446744073709551616) (length-bytes 8 s i) (bytes-small 8 s i b) (omega arith))
 
-  pub ahead-printed : (u w : ℕ) → (u + w) % 18446744073709551616 ≡ 11574427654092267680 → w ≡ little (bytesAt 8 s i)
+  -- the number of the eight bytes says whether all are spaces
+  pub all-spaces : (w : ℕ) → w ≡ little (bytesAt 8 s i) → w < 18446744073709551616 → eqb w 2314885530818453536 ≡ eqb (ahead isSpace s i) 8
+  all-spaces w q l = same (ℕ-discrete w 2314885530818453536) ∙ eight-zeros n (ahead isSpace s i) (omega arith) (ahead-spaces n (e ∙ q))
+    where
+      n : ℕ
+      n = (w + 16131858542891098080) % 18446744073709551616
+
+      e : (n + 2314885530818453536) % 18446744073709551616 ≡ w
+      e = omega arith
+
+      same : Dec (w ≡ 2314885530818453536) → eqb w 2314885530818453536 ≡ eqb n 0
+      same (yes z) = eq-eqb w 2314885530818453536 z ∙ sym (eq-eqb n 0 (omega arith))
+      same (no d) = ne-eqb w 2314885530818453536 d ∙ sym (ne-eqb n 0 (λ z. d (omega arith)))
+
+  ahead-printed : (u w : ℕ) → (u + w) % 18446744073709551616 ≡ 11574427654092267680 → w ≡ little (bytesAt 8 s i)
       → trailingZeros 64 (bitAnd (bitOr u w) 9259542123273814144) / 8 ≡ ahead isPrinted s i
   unfolding ahead
   ahead-printed u w e q =
       rw (lt-ltb (i + 8) (length s) h, q)
       (printed-first 8 (bytesAt 8 s i) u ((u + w) / 18446744073709551616) (length-bytes 8 s i) (bytes-small 8 s i b) (omega arith))
+
+  little-small : little (bytesAt 8 s i) < 18446744073709551616
+  little-small = omega (arith, eight-bytes s i, b i, b (i + 1), b (i + 2), b (i + 3), b (i + 4), b (i + 5), b (i + 6), b (i + 7))
+
+  pub ahead-unprinted : (r : ℕ) → r ≡ unprinted (little (bytesAt 8 s i)) → trailingZeros 64 r / 8 ≡ ahead isPrinted s i
+  ahead-unprinted r q =
+      ap (λ n. trailingZeros 64 n / 8) q
+      ∙ ahead-printed ((11574427654092267680 + (18446744073709551616 - little (bytesAt 8 s i))) % 18446744073709551616) (little (bytesAt 8 s i)) (omega (arith, little-small)) refl
+
+  pub all-printed : (r : ℕ) → r ≡ unprinted (little (bytesAt 8 s i)) → r < 18446744073709551616 → eqb r 0 ≡ eqb (ahead isPrinted s i) 8
+  all-printed r q l = eight-zeros r (ahead isPrinted s i) l (ahead-unprinted r q)
+
+-- the code's difference is that of the definition
+pub is-unprinted : (u w v : ℕ) → (u + w) % 18446744073709551616 ≡ 11574427654092267680 → u < 18446744073709551616 → w < 18446744073709551616 → w ≡ v
+    → bitAnd (bitOr u w) 9259542123273814144 ≡ unprinted v
+is-unprinted u w v e l k q =
+    let d : u ≡ (11574427654092267680 + (18446744073709551616 - v)) % 18446744073709551616 = omega arith in
+    ap₂ (λ m n. bitAnd (bitOr m n) 9259542123273814144) d q
 
 -- ---- a run over them
 
@@ -282,3 +348,16 @@ module _ (p q : ℕ → Bool) (takes : (b : ℕ) → q b ≡ true → p b ≡ tr
 
   pub stop-past : (i r : ℕ) → r ≡ ahead q s i → stop p s (i + r) ≡ stop p s i
   stop-past i r e = ap (λ k. stop p s (i + k)) e ∙ sym (stop-ahead i)
+
+  -- eight that all pass leave a byte behind them, and the run stops where it did
+  pub eight-in : (i : ℕ) → eqb (ahead q s i) 8 ≡ true → i + 8 < length s
+  unfolding ahead
+  eight-in i e = elim (decLt (i + 8) (length s)) [
+    | yes h ↦ h
+    | no n ↦
+        let z : ahead q s i ≡ 0 = rw (le-ltb (i + 8) (length s) (omega arith)) in
+        absurd (omega (arith, eqb-true (ahead q s i) 8 e))
+  ]
+
+  pub stop-eight : (i : ℕ) → eqb (ahead q s i) 8 ≡ true → stop p s (i + 8) ≡ stop p s i
+  stop-eight i e = stop-past i 8 (sym (eqb-true (ahead q s i) 8 e))

@@ -77,9 +77,9 @@ but ks ls k b = oneOf ks b || (oneOf ls b || is k b)
 pub ranged : (ks ls : List ℕ) (k : Class) (n lo x : ℕ) → all (but ks ls k) n lo ≡ true → lo ≤ x → x < lo + n → (OneOf ks x → ⊥) → (OneOf ls x → ⊥) → classOf x ≡ k
 ranged ks ls k n lo x e h l p q = alike (classOf x) k (rw (none-of ks x p, none-of ls x q) at (at (but ks ls k) n lo e x h l))
 
--- ---- a test that goes by the class
+-- ---- two tests, computed over a range
 
-abbrev agree : Bool → Bool → Bool
+abbrev pub agree : Bool → Bool → Bool
 agree true b = b
 agree false true = false
 agree false false = true
@@ -89,9 +89,15 @@ agreed true b e = sym e
 agreed false true e = e
 agreed false false e = refl
 
+-- f and g are the same at lo and the n - 1 numbers after it
+pub same-at : (f g : ℕ → Bool) (n lo : ℕ) → all (λ b. agree (f b) (g b)) n lo ≡ true → (b : ℕ) → lo ≤ b → b < lo + n → f b ≡ g b
+same-at f g n lo h b l u = agreed (f b) (g b) (at (λ b. agree (f b) (g b)) n lo h b l u)
+
+-- ---- a test that goes by the class
+
 -- f is g of the class, at each byte
 abbrev pub byClass : (ℕ → Bool) → (ℕ → Class → Bool) → ℕ → Bool
 byClass f g b = agree (f b) (g b (classOf b))
 
 pub told : (f : ℕ → Bool) (g : ℕ → Class → Bool) (b : ℕ) → all (byClass f g) 256 0 ≡ true → b < 256 → {x k : Class} → x ≡ k → x ≡ classOf b → g b k ≡ f b
-told f g b e h p q = ap (g b) (sym p ∙ q) ∙ sym (agreed (f b) (g b (classOf b)) (at (byClass f g) 256 0 e b (omega arith) (omega arith)))
+told f g b e h p q = ap (g b) (sym p ∙ q) ∙ sym (same-at f (λ b. g b (classOf b)) 256 0 e b (omega arith) (omega arith))

@@ -3,11 +3,12 @@
 use std::num::wrapping_sub_u64;
 ghost use mathlib.Core.Path.{_≡_};
 ghost use Prim.Native.Nat.{_+_, _≤_, _<_};
+ghost use lib.Dec.{eqb, ltb};
 ghost use lib.ListN.{length};
 ghost use Rattle.written.specs.Bytes.{letter, digit, inPattern, inWord, blank, spaceOrTab, inName, isNewline, byteAt};
 ghost use Rattle.laws.specs.Runs.{stop};
-ghost use Rattle.base.specs.Ahead.{bytesAt, little, isSpace, isPrinted, ahead};
-ghost use Rattle.base.specs.Classes.{classOf, testOf};
+ghost use Rattle.base.specs.Ahead.{bytesAt, little, isSpace, isPrinted, unprinted, ahead};
+ghost use Rattle.base.specs.Classes.{classOf, usual, testOf};
 
 // 01's classes.
 pub enum Class {
@@ -72,10 +73,32 @@ fn is_letter(b: u8) -> bool
     b'A' <= b && b <= b'Z'
 }
 
-// A byte that patterns are made of.
+// A letter, a digit or one of `*+-/:=@^_|`: what nearly all bytes of patterns are. They come in no order that a branch could foresee, so there is
+// a bit for each byte below 64 and one for each from 64 on.
+fn is_usual(b: u8) -> bool
+    ensures { λ r. ⌜ r ≡ usual b ⌝ }
+{
+    if 127 < b {
+        return false;
+    }
+    let bits: u64 = if b < 64 {
+        0x27FF_AC00_0000_0000
+    } else {
+        0x17FF_FFFE_C7FF_FFFF
+    };
+    (bits >> (b & 63)) & 1 == 1
+}
+
+// A byte that patterns are made of. Most end at a quote; the class is asked for what is neither usual nor one.
 pub fn is_pattern(b: u8) -> bool
     ensures { λ r. ⌜ r ≡ inPattern b ⌝ }
 {
+    if is_usual(b) {
+        return true;
+    }
+    if b == b'"' {
+        return false;
+    }
     match class_of(b) {
         Class::Digit => true,
         Class::Letter => true,
@@ -162,14 +185,21 @@ pub fn eight(s: &[u8], at: usize) -> u64
         + broad(s[at + 7]) * 0x100_0000_0000_0000
 }
 
+// Whether a ninth byte stands behind the eight at `at`: a run that goes on over the eight then has a byte to end at.
+fn has_nine(s: &[u8], at: usize) -> bool
+    ensures { λ r. ⌜ r ≡ ltb (at + 8) (length (now (s .entry))) ⌝ }
+{
+    if s.len() <= at {
+        return false;
+    }
+    8 < s.len() - at
+}
+
 // How many spaces come first in the eight bytes at `at`; none where no ninth byte stands behind them. Half of a tree text are spaces, most of them in long runs.
 fn spaces_ahead(s: &[u8], at: usize) -> usize
     ensures { λ r. ⌜ r ≡ ahead isSpace (now (s .entry)) at ⌝ }
 {
-    if s.len() <= at {
-        return 0;
-    }
-    if s.len() - at <= 8 {
+    if !has_nine(s, at) {
         return 0;
     }
     // zero in each byte that is a space, up to the first that isn't
@@ -177,20 +207,43 @@ fn spaces_ahead(s: &[u8], at: usize) -> usize
     (u64::trailing_zeros(apart) / 8) as usize
 }
 
-// The same of printed bytes, `!` to 127, which names are made of.
+// Whether all eight are: what comes next then doesn't wait for a count.
+fn eight_spaces(s: &[u8], at: usize) -> bool
+    ensures { λ r. ⌜ r ≡ eqb (ahead isSpace (now (s .entry)) at) 8 ⌝ }
+{
+    if !has_nine(s, at) {
+        return false;
+    }
+    eight(s, at) == 0x2020_2020_2020_2020
+}
+
+// The top bit of each of the eight bytes at `at` that isn't a printed one, `!` to 127, which names are made of.
+fn not_printed(s: &[u8], at: usize) -> u64
+    requires { ⌜ at + 8 < length (now s) ⌝ }
+    ensures { λ r. ⌜ r ≡ unprinted (little (bytesAt 8 (now (s .entry)) at)) ⌝ }
+{
+    let bytes = eight(s, at);
+    // set in those above 127, and in the difference from 160 of those up to the space
+    (wrapping_sub_u64(0xA0A0_A0A0_A0A0_A0A0, bytes) | bytes) & 0x8080_8080_8080_8080
+}
+
+// How many printed bytes come first in the eight at `at`, as of spaces.
 fn printed_ahead(s: &[u8], at: usize) -> usize
     ensures { λ r. ⌜ r ≡ ahead isPrinted (now (s .entry)) at ⌝ }
 {
-    if s.len() <= at {
+    if !has_nine(s, at) {
         return 0;
     }
-    if s.len() - at <= 8 {
-        return 0;
+    (u64::trailing_zeros(not_printed(s, at)) / 8) as usize
+}
+
+fn eight_printed(s: &[u8], at: usize) -> bool
+    ensures { λ r. ⌜ r ≡ eqb (ahead isPrinted (now (s .entry)) at) 8 ⌝ }
+{
+    if !has_nine(s, at) {
+        return false;
     }
-    let bytes = eight(s, at);
-    // the top bit of each byte: set in those above 127, and in the difference from 160 of those up to the space
-    let others = (wrapping_sub_u64(0xA0A0_A0A0_A0A0_A0A0, bytes) | bytes) & 0x8080_8080_8080_8080;
-    (u64::trailing_zeros(others) / 8) as usize
+    not_printed(s, at) == 0
 }
 
 // The ends of the runs that most of a tree text is read by: a loop each, so that the test is not chosen anew at every byte.
@@ -199,11 +252,15 @@ pub fn blank_end(s: &[u8], at: usize) -> usize
 {
     let mut i = at;
     while i < s.len() {
-        i = i + spaces_ahead(s, i);
-        if !is_blank(s[i]) {
-            return i;
+        if eight_spaces(s, i) {
+            i = i + 8;
+        } else {
+            i = i + spaces_ahead(s, i);
+            if !is_blank(s[i]) {
+                return i;
+            }
+            i = i + 1;
         }
-        i = i + 1;
     }
     i
 }
@@ -213,11 +270,15 @@ pub fn name_end(s: &[u8], at: usize) -> usize
 {
     let mut i = at;
     while i < s.len() {
-        i = i + printed_ahead(s, i);
-        if !is_name(s[i]) {
-            return i;
+        if eight_printed(s, i) {
+            i = i + 8;
+        } else {
+            i = i + printed_ahead(s, i);
+            if !is_name(s[i]) {
+                return i;
+            }
+            i = i + 1;
         }
-        i = i + 1;
     }
     i
 }

@@ -1,23 +1,21 @@
 -- `base::spaces_ahead`: the zeros at the low end of the difference count the spaces, by eight for each. Assumes nothing.
-use mathlib.Core.Path.{_∙_}
+use mathlib.Core.Path.{sym, _∙_}
 use native.Mathlib.Omega.{arith}
 use lib.Count.{trailing-le}
 use borrow.Author.Needs.{needs}
-use Rattle.base.proofs.Ahead.{ahead-none, ahead-spaces}
+use borrow.Author.Tests.{not-true}
+use Rattle.base.proofs.Ahead.{ahead-none, nine-in, ahead-spaces}
 use Rattle.base.proofs.spaces_ahead.Statement.{statement}
 use Rattle.base.proofs.spaces_ahead.Tie as tie
 
+has-nine-requires : tie.Need-has-nine-requires
+has-nine-requires c κs = search needs
+
 returns : tie.Need-returns
-returns c = ahead-none _ _ _ (omega arith)
-
-sub-if2 : tie.Need-sub-if2
-sub-if2 c = search needs
-
-returns-2 : tie.Need-returns-2
-returns-2 c = ahead-none _ _ _ (omega arith)
+returns c = ahead-none _ _ _ (sym (c .before .has-nine .ensures) ∙ not-true _ (c .if1 .taken))
 
 eight-requires : tie.Need-eight-requires
-eight-requires c κs = search needs
+eight-requires c κs = omega (arith, nine-in _ (c .before .before .before .args .s .now) (c .before .before .before .args .at) (c .before .has-nine .ensures) (c .if1 .left))
 
 wrapping-sub-u64-requires : tie.Need-wrapping-sub-u64-requires
 wrapping-sub-u64-requires c κs = search needs
@@ -25,18 +23,16 @@ wrapping-sub-u64-requires c κs = search needs
 cast-result : tie.Need-cast-result
 cast-result c = omega (arith, trailing-le 64 (c .wrapping-sub-u64 .result))
 
-returns-3 : tie.Need-returns-3
-returns-3 c =
-    ahead-spaces _ _ (omega arith) (λ j. omega (arith, c .before .before .before .before .shared-slice-known .given j)) _ (c .wrapping-sub-u64 .ensures ∙ c .before .eight .ensures)
+returns-2 : tie.Need-returns-2
+returns-2 c = ahead-spaces _ _ (nine-in _ (c .before .before .before .before .before .args .s .now) (c .before .before .before .before .before .args .at) (c .before .before .before .has-nine .ensures) (c .before .before .if1 .left)) (λ j. omega (arith, c .before .before .before .before .shared-slice-known .given j)) _ (c .wrapping-sub-u64 .ensures ∙ c .before .eight .ensures)
 
 pub spaces-ahead-spec : {M : Type 1} → statement M
 spaces-ahead-spec =
     tie.close
     (tie.spec
+    has-nine-requires
     returns
-    sub-if2
-    returns-2
     eight-requires
     wrapping-sub-u64-requires
     cast-result
-    returns-3)
+    returns-2)
