@@ -8,7 +8,7 @@ ghost use lib.ListN.{length};
 ghost use Rattle.written.specs.Bytes.{letter, digit, inPattern, inWord, blank, spaceOrTab, inName, isNewline, byteAt};
 ghost use Rattle.laws.specs.Runs.{stop};
 ghost use Rattle.base.specs.Ahead.{bytesAt, little, isSpace, isPrinted, unprinted, ahead};
-ghost use Rattle.base.specs.Classes.{classOf, usual, testOf};
+ghost use Rattle.base.specs.Classes.{classOf, usual};
 
 // 01's classes.
 pub enum Class {
@@ -19,22 +19,6 @@ pub enum Class {
     // ! # % & + - / : = @ ^ _ |
     Mark,
     Rest,
-}
-
-// What a run goes by.
-pub enum Test {
-    // space or newline
-    Blank,
-    // space or tab, in what parts two items
-    SpaceOrTab,
-    Newline,
-    // ASCII without blanks
-    Name,
-    Digits,
-    // letters, digits, wildcards and marks
-    Pattern,
-    // letters, digits and _
-    Word,
 }
 
 // The class of a byte, which patterns and references go by. A match up to `@` and one behind it: the bytes of the first fit the bits of a word, so each is few steps.
@@ -296,19 +280,6 @@ pub fn pattern_end(s: &[u8], at: usize) -> usize
     i
 }
 
-pub fn word_end(s: &[u8], at: usize) -> usize
-    ensures { λ r. ⌜ r ≡ stop inWord (now (s .entry)) at ⌝ }
-{
-    let mut i = at;
-    while i < s.len() {
-        if !is_word(s[i]) {
-            return i;
-        }
-        i = i + 1;
-    }
-    i
-}
-
 pub fn space_or_tab_end(s: &[u8], at: usize) -> usize
     ensures { λ r. ⌜ r ≡ stop spaceOrTab (now (s .entry)) at ⌝ }
 {
@@ -333,32 +304,4 @@ pub fn newline_end(s: &[u8], at: usize) -> usize
         i = i + 1;
     }
     i
-}
-
-fn digit_end(s: &[u8], at: usize) -> usize
-    ensures { λ r. ⌜ r ≡ stop digit (now (s .entry)) at ⌝ }
-{
-    let mut i = at;
-    while i < s.len() {
-        if !is_digit(s[i]) {
-            return i;
-        }
-        i = i + 1;
-    }
-    i
-}
-
-// The first place from `at` on whose byte doesn't pass the test, or the end.
-pub fn run_end(t: Test, s: &[u8], at: usize) -> usize
-    ensures { λ r. ⌜ r ≡ stop (testOf t) (now (s .entry)) at ⌝ }
-{
-    match t {
-        Test::Blank => blank_end(s, at),
-        Test::Name => name_end(s, at),
-        Test::Pattern => pattern_end(s, at),
-        Test::Word => word_end(s, at),
-        Test::SpaceOrTab => space_or_tab_end(s, at),
-        Test::Newline => newline_end(s, at),
-        Test::Digits => digit_end(s, at),
-    }
 }

@@ -2,8 +2,7 @@
 // records and walks, or 1, questions, trees, records, blocks, values, width and the answer, 1 for yes. A table is its length and its
 // numbers; a walk is tree, answer bytes and limit, and then number, PDF number and questions asked.
 // Assumes that the input fits 65,536 bytes, a table 256 numbers and the answer bytes 64; what doesn't fit differs.
-use base::Test;
-use base::run_end;
+use base::blank_end;
 use base_values::Unsigned;
 use base_values::parse_unsigned;
 use leaves::leaves_fit;
@@ -34,7 +33,7 @@ struct Tally {
 }
 
 fn word(s: &[u8], at: usize) -> Taken {
-    match parse_unsigned(s, run_end(Test::Blank, s, at)) {
+    match parse_unsigned(s, blank_end(s, at)) {
         Unsigned::Number { value, next } => Taken { value, next },
         Unsigned::TooLarge => Taken { value: 0, next: at },
         Unsigned::NoDigit => Taken { value: 0, next: at },
