@@ -1,11 +1,10 @@
 -- Each way through a load by words. Assumes nothing.
-use mathlib.Core.Path.{_≡_, refl, sym, ap, ap₂, _∙_}
+use mathlib.Core.Path.{_≡_, refl, sym, ap, _∙_}
 use mathlib.Core.Bool.{Bool, cond}
 use mathlib.Core.List.{List}
 use Prim.Native.Nat.{ℕ}
 use lib.Dec.{eqb}
 use lib.IntN.{ℤ}
-use Rattle.header.specs.declared.Header.{Header}
 use Rattle.header_words.specs.Words.{headerAt}
 use Rattle.which.specs.declared.Which.{Which}
 use Rattle.face_open.specs.Answers.{judgedOf}
@@ -23,12 +22,12 @@ Are x l q a t r b v w =
     (l ≡ x .rows) × (q ≡ x .questions) × (a ≡ x .patterns) × (t ≡ x .trees) × (r ≡ x .records) × (b ≡ x .blocks) × (v ≡ x .values) × (w ≡ x .work)
 
 module _ (s u : List ℕ) (n : ℕ) (q a t r b v : List ℕ) (w : List ℤ) {j : ℕ} (e : j ≡ judgedOf u) where
-  pub load-fit : {h : Header} {k : Which} {l : Loaded} {x : Rows} {q₁ a₁ t₁ r₁ b₁ v₁ : List ℕ} {w₁ : List ℤ} → j ≡ 0 → h ≡ headerAt u → k ≡ whichOf n → Is (loadOf s h k q a t r b v w) l q₁ a₁ t₁ r₁ b₁ v₁ w₁
+  pub load-fit : {k : Which} {l : Loaded} {x : Rows} {q₁ a₁ t₁ r₁ b₁ v₁ : List ℕ} {w₁ : List ℤ} → j ≡ 0 → k ≡ whichOf n → Is (loadOf s (headerAt u) k q a t r b v w) l q₁ a₁ t₁ r₁ b₁ v₁ w₁
       → x ≡ rowsBy l → Are (filledOf s u n q a t r b v w) x q₁ a₁ t₁ r₁ b₁ v₁ w₁
   unfolding filledOf
-  load-fit {h} {k} z f g i y =
-      let E : filledBy (loadOf s h k q a t r b v w) ≡ filledOf s u n q a t r b v w =
-      ap₂ (λ (h : Header) (k : Which). filledBy (loadOf s h k q a t r b v w)) f g
+  load-fit {k} z g i y =
+      let E : filledBy (loadOf s (headerAt u) k q a t r b v w) ≡ filledOf s u n q a t r b v w =
+      ap (λ (k : Which). filledBy (loadOf s (headerAt u) k q a t r b v w)) g
       ∙ sym (ap (λ (c : Bool). cond c (filledBy (loadOf s (headerAt u) (whichOf n) q a t r b v w)) (untouched (judgedOf u) q a t r b v w)) (fit u e z)) in (
         y ∙ ap rowsBy (i .0) ∙ ap (λ (x : Filled). x .rows) E,
         i .1 ∙ ap (λ (x : Filled). x .questions) E,

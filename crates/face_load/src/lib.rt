@@ -2,7 +2,6 @@
 use face_model::Rows;
 use face_model::which_of;
 use face_open::judged;
-use header_take::read_header;
 use model::Loaded;
 use model::load;
 ghost use mathlib.Core.Path.{_≡_};
@@ -73,10 +72,9 @@ pub fn load_said(
 {
     let number = judged(words);
     if number == 0 {
-        let header = read_header(words);
         let loaded = load(
             file,
-            header,
+            words,
             which_of(which),
             questions,
             patterns,

@@ -1,5 +1,5 @@
 -- Each way through the calls on a model and on loaded tables. Assumes nothing.
-use mathlib.Core.Path.{_≡_, refl, sym, ap, ap₂, _∙_}
+use mathlib.Core.Path.{_≡_, refl, sym, ap, _∙_}
 use mathlib.Core.Bool.{Bool, true, false, cond}
 use mathlib.Core.List.{List}
 use Prim.Native.Nat.{ℕ, _-_, _*_, _/_, _%_, _^_, _≤_, _<_}
@@ -61,11 +61,11 @@ values-small s h k p e l =
     small-values (dataOf s h) p (needs-sound s h k p e) (omega (arith, part-short s (h .«data_start») (h .«data_len»), l))
 
 module _ (s w : List ℕ) (n : ℕ) {j : ℕ} (e : j ≡ judgedOf w) where
-  module _ (z : j ≡ 0) {h : Header} {k : Which} {q : Planned} (a : h ≡ headerAt w) (b : k ≡ whichOf n) (c : q ≡ planned s h k) where
+  module _ (z : j ≡ 0) {k : Which} {q : Planned} (b : k ≡ whichOf n) (c : q ≡ planned s (headerAt w) k) where
     by-plan : neededBy q ≡ neededOf s w n
     unfolding neededOf
     by-plan =
-        ap neededBy (c ∙ ap₂ (planned s) a b)
+        ap neededBy (c ∙ ap (planned s (headerAt w)) b)
         ∙ sym (ap (λ (t : Bool). cond t (neededBy (planned s (headerAt w) (whichOf n))) (notNeeded (judgedOf w) 0 0)) (fit w e z))
 
     pub needs-model : {p : Plan} {x : Needed} → q ≡ planned.Model p → x ≡ neededFor p → x ≡ neededOf s w n

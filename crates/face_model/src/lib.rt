@@ -1,7 +1,6 @@
 // The calls on a model and on loaded tables, their answers in numbers (host/larsavim.h): what a model needs, a load, a walk. The exports of `larsavim` write
 // these answers out. Any file, any words, any tables, any numbers. Assumes nothing.
 use face_open::judged;
-use header_take::read_header;
 use model_plan::Plan;
 use model_plan::Planned;
 use model_plan::needs;
@@ -116,8 +115,7 @@ pub fn needs_said(file: &[u8], words: &[u64], which: u64) -> Needed
 {
     let number = judged(words);
     if number == 0 {
-        let header = read_header(words);
-        return match needs(file, header, which_of(which)) {
+        return match needs(file, words, which_of(which)) {
             Planned::Model(plan) => needed_for(plan),
             Planned::Refused(refusal) => not_needed(
                 refusal.number(),

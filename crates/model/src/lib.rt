@@ -5,7 +5,6 @@ use block_values::fill_blocks;
 use block_values::fill_values;
 use error::Refusal;
 use groups::up_to;
-use header::Header;
 use model_plan::Plan;
 use model_plan::Planned;
 use model_plan::data_of;
@@ -20,6 +19,7 @@ ghost use Prim.Native.Nat.{_+_, _*_, _≤_, _<_, _^_};
 ghost use lib.ListN.{length, replicate};
 ghost use lib.Seq.{sets};
 ghost use Rattle.blocks.specs.Values.{wordsAt, blockRows, valuesAt};
+ghost use Rattle.header_words.specs.Words.{headerAt};
 ghost use Rattle.model_plan.specs.Plans.{Sound};
 ghost use Rattle.model.specs.Load.{roomFor, BlockRoom, answerFor, filled, loadOf};
 
@@ -148,10 +148,10 @@ fn fill(
     loaded
 }
 
-// Loads the model asked for.
+// Loads the model asked for, by the words of any record.
 pub fn load(
     file: &[u8],
-    header: Header,
+    words: &[u64],
     which: Which,
     questions: &mut [u64],
     patterns: &mut [u64],
@@ -161,9 +161,10 @@ pub fn load(
     values: &mut [u64],
     work: &mut [i64],
 ) -> Loaded
-    ensures { λ r. ⌜ (r ≡ loadOf (now (file .entry)) header which (now (questions .entry)) (now (patterns .entry)) (now (trees .entry)) (now (records .entry)) (now (blocks .entry)) (now (values .entry)) (now (work .entry)) .answer) × (now (questions .exit) ≡ loadOf (now (file .entry)) header which (now (questions .entry)) (now (patterns .entry)) (now (trees .entry)) (now (records .entry)) (now (blocks .entry)) (now (values .entry)) (now (work .entry)) .questions) × (now (patterns .exit) ≡ loadOf (now (file .entry)) header which (now (questions .entry)) (now (patterns .entry)) (now (trees .entry)) (now (records .entry)) (now (blocks .entry)) (now (values .entry)) (now (work .entry)) .patterns) × (now (trees .exit) ≡ loadOf (now (file .entry)) header which (now (questions .entry)) (now (patterns .entry)) (now (trees .entry)) (now (records .entry)) (now (blocks .entry)) (now (values .entry)) (now (work .entry)) .trees) × (now (records .exit) ≡ loadOf (now (file .entry)) header which (now (questions .entry)) (now (patterns .entry)) (now (trees .entry)) (now (records .entry)) (now (blocks .entry)) (now (values .entry)) (now (work .entry)) .records) × (now (blocks .exit) ≡ loadOf (now (file .entry)) header which (now (questions .entry)) (now (patterns .entry)) (now (trees .entry)) (now (records .entry)) (now (blocks .entry)) (now (values .entry)) (now (work .entry)) .blocks) × (now (values .exit) ≡ loadOf (now (file .entry)) header which (now (questions .entry)) (now (patterns .entry)) (now (trees .entry)) (now (records .entry)) (now (blocks .entry)) (now (values .entry)) (now (work .entry)) .values) × (now (work .exit) ≡ loadOf (now (file .entry)) header which (now (questions .entry)) (now (patterns .entry)) (now (trees .entry)) (now (records .entry)) (now (blocks .entry)) (now (values .entry)) (now (work .entry)) .work) ⌝ }
+    requires { ⌜ 647 ≤ length (now words) ⌝ }
+    ensures { λ r. ⌜ (r ≡ loadOf (now (file .entry)) (headerAt (now (words .entry))) which (now (questions .entry)) (now (patterns .entry)) (now (trees .entry)) (now (records .entry)) (now (blocks .entry)) (now (values .entry)) (now (work .entry)) .answer) × (now (questions .exit) ≡ loadOf (now (file .entry)) (headerAt (now (words .entry))) which (now (questions .entry)) (now (patterns .entry)) (now (trees .entry)) (now (records .entry)) (now (blocks .entry)) (now (values .entry)) (now (work .entry)) .questions) × (now (patterns .exit) ≡ loadOf (now (file .entry)) (headerAt (now (words .entry))) which (now (questions .entry)) (now (patterns .entry)) (now (trees .entry)) (now (records .entry)) (now (blocks .entry)) (now (values .entry)) (now (work .entry)) .patterns) × (now (trees .exit) ≡ loadOf (now (file .entry)) (headerAt (now (words .entry))) which (now (questions .entry)) (now (patterns .entry)) (now (trees .entry)) (now (records .entry)) (now (blocks .entry)) (now (values .entry)) (now (work .entry)) .trees) × (now (records .exit) ≡ loadOf (now (file .entry)) (headerAt (now (words .entry))) which (now (questions .entry)) (now (patterns .entry)) (now (trees .entry)) (now (records .entry)) (now (blocks .entry)) (now (values .entry)) (now (work .entry)) .records) × (now (blocks .exit) ≡ loadOf (now (file .entry)) (headerAt (now (words .entry))) which (now (questions .entry)) (now (patterns .entry)) (now (trees .entry)) (now (records .entry)) (now (blocks .entry)) (now (values .entry)) (now (work .entry)) .blocks) × (now (values .exit) ≡ loadOf (now (file .entry)) (headerAt (now (words .entry))) which (now (questions .entry)) (now (patterns .entry)) (now (trees .entry)) (now (records .entry)) (now (blocks .entry)) (now (values .entry)) (now (work .entry)) .values) × (now (work .exit) ≡ loadOf (now (file .entry)) (headerAt (now (words .entry))) which (now (questions .entry)) (now (patterns .entry)) (now (trees .entry)) (now (records .entry)) (now (blocks .entry)) (now (values .entry)) (now (work .entry)) .work) ⌝ }
 {
-    match needs(file, header, which) {
+    match needs(file, words, which) {
         Planned::Refused(refusal) => Loaded::Refused(refusal),
         Planned::Model(p) => {
             if !room(
@@ -179,7 +180,7 @@ pub fn load(
                 return Loaded::Refused(Refusal::Room);
             }
             fill(
-                data_of(file, header),
+                data_of(file, words),
                 p,
                 questions,
                 patterns,

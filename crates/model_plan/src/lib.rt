@@ -4,8 +4,9 @@ use blocks::Block;
 use blocks::check_block;
 use error::Refusal;
 use groups::up_to;
-use header::Header;
 use header_lines::part_of;
+use header_words::DATA_LEN;
+use header_words::DATA_START;
 use question_survey::Questions;
 use question_survey::survey_questions;
 use tree_survey::Trees;
@@ -16,6 +17,9 @@ use which::Which;
 use which::choose;
 use which::within;
 ghost use mathlib.Core.Path.{_≡_};
+ghost use Prim.Native.Nat.{_≤_};
+ghost use lib.ListN.{length};
+ghost use Rattle.header_words.specs.Words.{headerAt};
 ghost use Rattle.model_plan.specs.Plans.{textOf, entriesOf, blockOf, planOf, dataOf, planned};
 
 // What a tree text needs; `first` is where its first tree stands.
@@ -186,18 +190,20 @@ fn plan_model(
     }
 }
 
-// The data of a record.
-pub fn data_of(file: &[u8], header: Header) -> &[u8]
-    ensures { λ r. ⌜ now r ≡ dataOf (now (file .entry)) header ⌝ }
+// The data of the record in the words.
+pub fn data_of<'a, 'b>(file: &'a [u8], words: &'b [u64]) -> &'a [u8]
+    requires { ⌜ 647 ≤ length (now words) ⌝ }
+    ensures { λ r. ⌜ now r ≡ dataOf (now (file .entry)) (headerAt (now (words .entry))) ⌝ }
 {
-    part_of(file, header.data_start, header.data_len)
+    part_of(file, words[DATA_START] as usize, words[DATA_LEN] as usize)
 }
 
-// What a model needs, of a file and any record.
-pub fn needs(file: &[u8], header: Header, which: Which) -> Planned
-    ensures { λ r. ⌜ r ≡ planned (now (file .entry)) header which ⌝ }
+// What a model needs, of a file and the words of any record.
+pub fn needs(file: &[u8], words: &[u64], which: Which) -> Planned
+    requires { ⌜ 647 ≤ length (now words) ⌝ }
+    ensures { λ r. ⌜ r ≡ planned (now (file .entry)) (headerAt (now (words .entry))) which ⌝ }
 {
-    match choose(file, header, which) {
+    match choose(file, words, which) {
         Chosen::Refused(refusal) => Planned::Refused(refusal),
         Chosen::Model {
             tree_from,
@@ -206,7 +212,7 @@ pub fn needs(file: &[u8], header: Header, which: Which) -> Planned
             pdf_to,
             width,
         } => plan_model(
-            data_of(file, header),
+            data_of(file, words),
             tree_from,
             tree_to,
             pdf_from,

@@ -5,15 +5,14 @@
 // other: all of them don't fit its room. Assumes that the lines fit its room, a file 4,096 bytes,
 // and its models the tables of `long`; a line that doesn't differs.
 use error::Refusal;
-use header::Header;
-use header_lines::Verdict;
+use face_open::open_words;
+use header_words::STREAM_TYPE_COUNT;
 use leaves::leaves_fit;
 use libc::STDIN_FILENO;
 use model::Loaded;
 use model::load;
 use model_plan::Planned;
 use model_plan::needs;
-use parser::open;
 use stored::Stored;
 use stored::decode;
 use stored::ended;
@@ -250,7 +249,7 @@ fn run(
     c: Stored,
     s: &[u8],
     text: &[u8],
-    header: Header,
+    words: &[u64; 647],
     which: Which,
     against: Against,
     lent: Lent,
@@ -271,7 +270,7 @@ fn run(
     let w = least(lent.work, work.len());
     let loaded = load(
         text,
-        header,
+        words,
         which,
         &mut questions[0..q],
         &mut patterns[0..p],
@@ -301,7 +300,7 @@ fn attempt(
     c: Stored,
     s: &[u8],
     text: &[u8],
-    header: Header,
+    words: &[u64; 647],
     which: Which,
     against: Against,
     lent: Lent,
@@ -317,7 +316,7 @@ fn attempt(
         c,
         s,
         text,
-        header,
+        words,
         which,
         against,
         lent,
@@ -375,7 +374,14 @@ fn has(lent: Lent, j: usize) -> bool {
 }
 
 // Each table in turn a row short: 20, and nothing written.
-fn shorter(c: Stored, s: &[u8], text: &[u8], header: Header, which: Which, lent: Lent) -> Stored {
+fn shorter(
+    c: Stored,
+    s: &[u8],
+    text: &[u8],
+    words: &[u64; 647],
+    which: Which,
+    lent: Lent,
+) -> Stored {
     let mut cursor = c;
     for j in 0..7 {
         if has(lent, j) {
@@ -384,22 +390,22 @@ fn shorter(c: Stored, s: &[u8], text: &[u8], header: Header, which: Which, lent:
                 work: 0,
                 width: 0,
             };
-            cursor = attempt(cursor, s, text, header, which, against, without(lent, j));
+            cursor = attempt(cursor, s, text, words, which, against, without(lent, j));
         }
     }
     cursor
 }
 
 // One model, each way.
-fn model(c: Stored, s: &[u8], text: &[u8], header: Header, which: Which) -> Stored {
-    match needs(text, header, which) {
+fn model(c: Stored, s: &[u8], text: &[u8], words: &[u64; 647], which: Which) -> Stored {
+    match needs(text, words, which) {
         Planned::Refused(_) => {
             let against = Against {
                 short: false,
                 work: 0,
                 width: 0,
             };
-            attempt(c, s, text, header, which, against, long())
+            attempt(c, s, text, words, which, against, long())
         }
         Planned::Model(p) => {
             let exact = Lent {
@@ -416,33 +422,32 @@ fn model(c: Stored, s: &[u8], text: &[u8], header: Header, which: Which) -> Stor
                 work: exact.work,
                 width: p.width,
             };
-            let wide = attempt(c, s, text, header, which, against, long());
-            let full = attempt(c, s, text, header, which, against, exact);
-            let short = shorter(wide, s, text, header, which, exact);
+            let wide = attempt(c, s, text, words, which, against, long());
+            let full = attempt(c, s, text, words, which, against, exact);
+            let short = shorter(wide, s, text, words, which, exact);
             holds(short, full.same && full.at == wide.at)
         }
     }
 }
 
 // The stream of a number, and its GV.
-fn stream(c: Stored, s: &[u8], text: &[u8], header: Header, i: usize) -> Stored {
-    let first = model(c, s, text, header, Which::Stream(i));
-    model(first, s, text, header, Which::Gv(i))
+fn stream(c: Stored, s: &[u8], text: &[u8], words: &[u64; 647], i: usize) -> Stored {
+    let first = model(c, s, text, words, Which::Stream(i));
+    model(first, s, text, words, Which::Gv(i))
 }
 
 // All models of an opened file.
-fn models(c: Stored, s: &[u8], text: &[u8], header: Header) -> Stored {
-    let global = header.global;
-    let n = least(global.stream_type_count, 8);
+fn models(c: Stored, s: &[u8], text: &[u8], words: &[u64; 647]) -> Stored {
+    let n = least(words[STREAM_TYPE_COUNT] as usize, 8);
     let mut cursor = model(
         number(c, s, 2 * n as u64 + 1),
         s,
         text,
-        header,
+        words,
         Which::Duration,
     );
     for i in 0..n {
-        cursor = stream(cursor, s, text, header, i);
+        cursor = stream(cursor, s, text, words, i);
     }
     cursor
 }
@@ -450,16 +455,12 @@ fn models(c: Stored, s: &[u8], text: &[u8], header: Header) -> Stored {
 // Whether all that is stored from `at` on is said of the file.
 fn replay_text(s: &[u8], at: usize, text: &[u8]) -> bool {
     let c = Stored { at, same: true };
-    let opened = open(text);
-    let verdict = opened.verdict;
-    let header = opened.header;
-    match verdict {
-        Verdict::Accepted => ended(models(pair(c, s, 0, 0), s, text, header), s),
-        Verdict::Refused(why) => ended(
-            number(number(c, s, why.number()), s, why.place() as u64),
-            s,
-        ),
+    let mut words = [0u64; 647];
+    let said = open_words(text, &mut words);
+    if said.number == 0 {
+        return ended(models(pair(c, s, 0, 0), s, text, &words), s);
     }
+    ended(number(number(c, s, said.number), s, said.place), s)
 }
 
 fn replay_line(s: &[u8], from: usize) -> bool

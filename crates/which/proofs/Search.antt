@@ -6,9 +6,9 @@ use native.Mathlib.Omega.{arith}
 use Rattle.search.specs.Found.{lastBelow}
 use Rattle.search.specs.declared.Found.the-variants.{At, Nothing}
 
--- those from k on are passed over; k is within the array
+-- those from k on are passed over
 pub record Down (p : ℕ → Bool) (n k : ℕ) : Type 0 where
-  pub within : k ≤ 8
+  pub within : k ≤ n
   pub same : lastBelow p n ≡ lastBelow p k
 
 module _ {p : ℕ → Bool} {n : ℕ} where

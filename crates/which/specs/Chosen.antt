@@ -2,7 +2,7 @@
 -- are exact. Assumes nothing.
 use mathlib.Core.Bool.{Bool, true, false, cond, _&&_}
 use mathlib.Core.List.{List}
-use Prim.Native.Nat.{ℕ, _+_, _*_}
+use Prim.Native.Nat.{ℕ, _+_, _*_, _≤_, _<_}
 use lib.Dec.{ltb, leb}
 use lib.ListN.{length, getD}
 use Rattle.written.specs.Bytes.{same}
@@ -91,3 +91,9 @@ asked s h (Gv i) = numbered gvModel s h i
 -- 16: the record does not fit the file
 unfoldable pub chosenOf : List ℕ → Header → Which → Chosen
 chosenOf s h w = cond (recordFits (length s) h) (asked s h w) (Refused refusal.Range)
+
+-- ---- groups in words
+
+-- the words have the names of n groups, the first at `at`, each of the others `step` words behind the one before
+abbrev pub NamesIn : ℕ → ℕ → ℕ → List ℕ → Type 0
+NamesIn at step n w = (k : ℕ) → k < n → at + step * k + 2 ≤ length w

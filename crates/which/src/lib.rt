@@ -3,20 +3,40 @@
 // Assumes nothing.
 use error::Refusal;
 use groups::same_part;
-use header::Header;
-use header::PositionData;
-use header::Range;
 use header::Span;
-use header::StreamData;
-use header_fits::record_fits;
+use header_words::DURATION_PDF;
+use header_words::DURATION_TREE;
+use header_words::GV_PDF;
+use header_words::GV_TREE;
+use header_words::HAS_GV_PDF;
+use header_words::HAS_GV_TREE;
+use header_words::IS_MSD;
+use header_words::NUM_STATES;
+use header_words::NUM_WINDOWS;
+use header_words::POSITION_COUNT;
+use header_words::POSITION_WORDS;
+use header_words::POSITIONS;
+use header_words::STREAM_COUNT;
+use header_words::STREAM_PDF;
+use header_words::STREAM_TREE;
+use header_words::STREAM_TYPE;
+use header_words::STREAM_TYPE_COUNT;
+use header_words::STREAM_WORDS;
+use header_words::STREAMS;
+use header_words::USE_GV;
+use header_words::VECTOR_LENGTH;
 use search::Found;
+use words_fit::record_fits;
 ghost use mathlib.Core.Path.{_≡_};
 ghost use mathlib.Core.Bool.{true};
 ghost use Prim.Native.Nat.{_+_, _*_, _≤_, min};
 ghost use lib.ListN.{length};
+ghost use Rattle.written.specs.Bytes.{same};
 ghost use Rattle.groups.specs.Rows.{bytesOf};
 ghost use Rattle.header_fits.specs.Fits.{recordFits};
-ghost use Rattle.which.specs.Chosen.{withinOf, bit, modelOf, streamModel, gvModel, positionNamed, streamNamed, made, numbered, chosenOf};
+ghost use Rattle.header_words.specs.Words.{spanAt, rangeAt, streamAt, positionAt, headerAt};
+ghost use Rattle.search.specs.Found.{lastBelow};
+ghost use Rattle.which.specs.Chosen.{withinOf, bit, modelOf, streamModel, gvModel, made, numbered, chosenOf, NamesIn};
 
 // The model asked for; a stream by its number in STREAM_TYPE.
 pub enum Which {
@@ -83,81 +103,80 @@ fn product(a: u64, b: u64) -> u64
     p
 }
 
-// The model of width 2 × a × b, and one more for MSD.
-fn model(tree: Range, pdf: Range, a: u64, b: u64, msd: bool) -> Chosen
-    ensures { λ r. ⌜ r ≡ modelOf tree pdf (2 * (a * b) + bit msd) ⌝ }
+// The model of width 2 × a × b, and one more for MSD, whose ranges stand at two places of the words.
+fn model(words: &[u64], tree: usize, pdf: usize, a: u64, b: u64, msd: bool) -> Chosen
+    requires { ⌜ (tree + 2 ≤ length (now words)) × (pdf + 2 ≤ length (now words)) ⌝ }
+    ensures { λ r. ⌜ r ≡ modelOf (rangeAt (now (words .entry)) tree) (rangeAt (now (words .entry)) pdf) (2 * (a * b) + bit msd) ⌝ }
 {
     let width = 2 * product(a, b) + msd as u64;
     if 4096 < width {
         return Chosen::Refused(Refusal::Limit);
     }
     Chosen::Model {
-        tree_from: tree.from,
-        tree_to: tree.to,
-        pdf_from: pdf.from,
-        pdf_to: pdf.to,
+        tree_from: words[tree],
+        tree_to: words[tree + 1],
+        pdf_from: words[pdf],
+        pdf_to: words[pdf + 1],
         width,
     }
 }
 
-fn stream_model(stream: StreamData, position: PositionData) -> Chosen
-    ensures { λ r. ⌜ r ≡ streamModel stream position ⌝ }
+fn stream_model(words: &[u64], stream: usize, position: usize) -> Chosen
+    requires { ⌜ (stream + 39 ≤ length (now words)) × (position + 29 ≤ length (now words)) ⌝ }
+    ensures { λ r. ⌜ r ≡ streamModel (streamAt (now (words .entry)) stream) (positionAt (now (words .entry)) position) ⌝ }
 {
-    let tree = position.stream_tree;
-    let pdf = position.stream_pdf;
     model(
-        tree,
-        pdf,
-        stream.vector_length,
-        stream.num_windows,
-        stream.is_msd,
+        words,
+        position + STREAM_TREE,
+        position + STREAM_PDF,
+        words[stream + VECTOR_LENGTH],
+        words[stream + NUM_WINDOWS],
+        words[stream + IS_MSD] != 0,
     )
 }
 
-fn gv_model(stream: StreamData, position: PositionData) -> Chosen
-    ensures { λ r. ⌜ r ≡ gvModel stream position ⌝ }
+fn gv_model(words: &[u64], stream: usize, position: usize) -> Chosen
+    requires { ⌜ (stream + 39 ≤ length (now words)) × (position + 29 ≤ length (now words)) ⌝ }
+    ensures { λ r. ⌜ r ≡ gvModel (streamAt (now (words .entry)) stream) (positionAt (now (words .entry)) position) ⌝ }
 {
-    if !stream.use_gv {
+    if words[stream + USE_GV] == 0 {
         return Chosen::Refused(Refusal::UseGv);
     }
-    if !position.has_gv_tree {
+    if words[position + HAS_GV_TREE] == 0 {
         return Chosen::Refused(Refusal::UseGv);
     }
-    if !position.has_gv_pdf {
+    if words[position + HAS_GV_PDF] == 0 {
         return Chosen::Refused(Refusal::UseGv);
     }
-    let tree = position.gv_tree;
-    let pdf = position.gv_pdf;
-    model(tree, pdf, stream.vector_length, 1, false)
+    model(
+        words,
+        position + GV_TREE,
+        position + GV_PDF,
+        words[stream + VECTOR_LENGTH],
+        1,
+        false,
+    )
 }
 
-// The last of the first n positions whose name has the bytes of x.
-fn find_position(file: &[u8], x: Span, n: usize, positions: [PositionData; 8]) -> Found
-    requires { ⌜ n ≤ 8 ⌝ }
-    ensures { λ r. ⌜ r ≡ positionNamed (now (file .entry)) positions n (bytesOf (now (file .entry)) x) ⌝ }
+fn span_at(words: &[u64], at: usize) -> Span
+    requires { ⌜ at + 2 ≤ length (now words) ⌝ }
+    ensures { λ r. ⌜ r ≡ spanAt (now (words .entry)) at ⌝ }
 {
-    let mut p = n;
-    while 0 < p {
-        p = p - 1;
-        let position = positions[p];
-        let name = position.name;
-        if same_part(file, name, x) {
-            return Found::At(p as u64);
-        }
+    Span {
+        start: words[at] as usize,
+        len: words[at + 1] as usize,
     }
-    Found::Nothing
 }
 
-// The last of the first n streams whose name has the bytes of x.
-fn find_stream(file: &[u8], x: Span, n: usize, streams: [StreamData; 8]) -> Found
-    requires { ⌜ n ≤ 8 ⌝ }
-    ensures { λ r. ⌜ r ≡ streamNamed (now (file .entry)) streams n (bytesOf (now (file .entry)) x) ⌝ }
+// The last of n groups whose name has the bytes of x. The first group begins at `at` in the words, each of the others `step` words behind the one before.
+fn find_group(file: &[u8], x: Span, words: &[u64], at: usize, step: usize, n: usize) -> Found
+    requires { ⌜ NamesIn at step n (now words) ⌝ }
+    ensures { λ r. ⌜ r ≡ lastBelow (λ k. same (bytesOf (now (file .entry)) (spanAt (now (words .entry)) (at + step * k))) (bytesOf (now (file .entry)) x)) n ⌝ }
 {
     let mut k = n;
     while 0 < k {
         k = k - 1;
-        let stream = streams[k];
-        let name = stream.name;
+        let name = span_at(words, at + step * k);
         if same_part(file, name, x) {
             return Found::At(k as u64);
         }
@@ -166,51 +185,65 @@ fn find_stream(file: &[u8], x: Span, n: usize, streams: [StreamData; 8]) -> Foun
 }
 
 // The model, or the GV model, of the i-th name in STREAM_TYPE.
-fn choose_stream(file: &[u8], header: Header, i: usize, gv: bool) -> Chosen
-    requires { ⌜ recordFits (length (now file)) header ≡ true ⌝ }
-    ensures { λ r. ⌜ r ≡ numbered (made gv) (now (file .entry)) header i ⌝ }
+fn choose_stream(file: &[u8], words: &[u64], i: usize, gv: bool) -> Chosen
+    requires { ⌜ 647 ≤ length (now words) ⌝ }
+    requires { ⌜ recordFits (length (now file)) (headerAt (now words)) ≡ true ⌝ }
+    ensures { λ r. ⌜ r ≡ numbered (made gv) (now (file .entry)) (headerAt (now (words .entry))) i ⌝ }
 {
-    let global = header.global;
-    if global.stream_type_count <= i {
+    if words[STREAM_TYPE_COUNT] <= i as u64 {
         return Chosen::Refused(Refusal::NoPosition);
     }
-    let types = global.stream_type;
-    let x = types[i];
-    let positions = header.positions;
-    match find_position(file, x, header.position_count, positions) {
+    let x = span_at(words, STREAM_TYPE + 2 * i);
+    match find_group(
+        file,
+        x,
+        words,
+        POSITIONS,
+        POSITION_WORDS,
+        words[POSITION_COUNT] as usize,
+    ) {
         Found::Nothing => Chosen::Refused(Refusal::NoPosition),
         Found::At(p) => {
-            let streams = header.streams;
-            match find_stream(file, x, header.stream_count, streams) {
+            match find_group(
+                file,
+                x,
+                words,
+                STREAMS,
+                STREAM_WORDS,
+                words[STREAM_COUNT] as usize,
+            ) {
                 Found::Nothing => Chosen::Refused(Refusal::NoStream),
                 Found::At(k) => {
-                    let position = positions[p as usize];
-                    let stream = streams[k as usize];
+                    let position = POSITIONS + POSITION_WORDS * p as usize;
+                    let stream = STREAMS + STREAM_WORDS * k as usize;
                     if gv {
-                        return gv_model(stream, position);
+                        return gv_model(words, stream, position);
                     }
-                    stream_model(stream, position)
+                    stream_model(words, stream, position)
                 }
             }
         }
     }
 }
 
-// The model asked for, of a file and any record.
-pub fn choose(file: &[u8], header: Header, which: Which) -> Chosen
-    ensures { λ r. ⌜ r ≡ chosenOf (now (file .entry)) header which ⌝ }
+// The model asked for, of a file and the words of any record.
+pub fn choose(file: &[u8], words: &[u64], which: Which) -> Chosen
+    requires { ⌜ 647 ≤ length (now words) ⌝ }
+    ensures { λ r. ⌜ r ≡ chosenOf (now (file .entry)) (headerAt (now (words .entry))) which ⌝ }
 {
-    if !record_fits(file.len(), header) {
+    if !record_fits(file.len(), words) {
         return Chosen::Refused(Refusal::Range);
     }
     match which {
-        Which::Duration => {
-            let global = header.global;
-            let tree = header.duration_tree;
-            let pdf = header.duration_pdf;
-            model(tree, pdf, global.num_states, 1, false)
-        }
-        Which::Stream(i) => choose_stream(file, header, i, false),
-        Which::Gv(i) => choose_stream(file, header, i, true),
+        Which::Duration => model(
+            words,
+            DURATION_TREE,
+            DURATION_PDF,
+            words[NUM_STATES],
+            1,
+            false,
+        ),
+        Which::Stream(i) => choose_stream(file, words, i, false),
+        Which::Gv(i) => choose_stream(file, words, i, true),
     }
 }

@@ -12,20 +12,17 @@ use Rattle.face_model.proofs.needs_said.Tie as tie
 judged-requires : tie.Need-judged-requires
 judged-requires c κs = search needs
 
-read-header-requires : tie.Need-read-header-requires
-read-header-requires c κs = judged-room _ (sym (c .if1 .taken) ∙ c .before .judged .ensures)
-
 which-of-requires : tie.Need-which-of-requires
 which-of-requires c κs = search needs
 
 needs-requires : tie.Need-needs-requires
-needs-requires c κs = search needs
+needs-requires c κs = judged-room _ (sym (c .before .if1 .taken) ∙ c .before .before .judged .ensures)
 
 enum-known-plan : tie.Need-enum-known-plan
 enum-known-plan c = search needs
 
 needed-for-requires : tie.Need-needed-for-requires
-needed-for-requires c κs = values-small (c .before .before .before .before .before .before .before .before .before .before .args .file .now) _ _ _ (sym (c .before .plan .given .1) ∙ c .before .before .before .needs .ensures) (omega (arith, c .before .before .before .before .before .before .before .before .before .before .good))
+needed-for-requires c κs = values-small (c .before .before .before .before .before .before .before .before .before .args .file .now) _ _ _ (sym (c .before .plan .given .1) ∙ c .before .before .before .needs .ensures) (omega (arith, c .before .before .before .before .before .before .before .before .before .good))
 
 enum-known-refusal : tie.Need-enum-known-refusal
 enum-known-refusal c = search needs
@@ -43,10 +40,10 @@ not-needed-requires : tie.Need-not-needed-requires
 not-needed-requires c κs = search needs
 
 returns : tie.Need-returns
-returns c = needs-model _ _ _ (c .before .before .before .before .before .before .before .before .judged .ensures) (c .before .before .before .before .before .before .before .if1 .taken) (c .before .before .before .before .before .before .read-header .ensures) (c .before .before .before .before .before .which-of .ensures) (c .before .before .before .before .needs .ensures) (c .before .before .plan .given .1) (c .needed-for .ensures)
+returns c = needs-model _ _ _ (c .before .before .before .before .before .before .before .judged .ensures) (c .before .before .before .before .before .before .if1 .taken) (c .before .before .before .before .before .which-of .ensures) (c .before .before .before .before .needs .ensures) (c .before .before .plan .given .1) (c .needed-for .ensures)
 
 returns-2 : tie.Need-returns-2
-returns-2 c = needs-refused _ _ _ (c .before .before .before .before .before .before .before .before .before .before .before .judged .ensures) (c .before .before .before .before .before .before .before .before .before .before .if1 .taken) (c .before .before .before .before .before .before .before .before .before .read-header .ensures) (c .before .before .before .before .before .before .before .before .which-of .ensures) (c .before .before .before .before .before .before .before .needs .ensures) (c .before .before .before .before .before .refusal .given .1) (c .not-needed .ensures ∙ (λ z. notNeeded (c .before .before .before .number .ensures z) (c .before .before .place .ensures z) (c .before .line .ensures z)))
+returns-2 c = needs-refused _ _ _ (c .before .before .before .before .before .before .before .before .before .before .judged .ensures) (c .before .before .before .before .before .before .before .before .before .if1 .taken) (c .before .before .before .before .before .before .before .before .which-of .ensures) (c .before .before .before .before .before .before .before .needs .ensures) (c .before .before .before .before .before .refusal .given .1) (c .not-needed .ensures ∙ (λ z. notNeeded (c .before .before .before .number .ensures z) (c .before .before .place .ensures z) (c .before .line .ensures z)))
 
 not-needed-requires-2 : tie.Need-not-needed-requires-2
 not-needed-requires-2 c κs = search needs
@@ -59,7 +56,6 @@ needs-said-spec =
     tie.close
     (tie.spec
     judged-requires
-    read-header-requires
     which-of-requires
     needs-requires
     enum-known-plan

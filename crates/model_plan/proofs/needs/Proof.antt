@@ -1,14 +1,10 @@
 -- `model_plan::needs`: the model that is chosen, in the record's data. Assumes nothing.
 use mathlib.Core.Path.{sym, _∙_}
+use Rattle.header_words.specs.Words.{headerAt}
 use Rattle.model_plan.proofs.Laws.{needs-refused, needs-model}
 use borrow.Author.Needs.{needs}
 use Rattle.model_plan.proofs.needs.Statement.{statement}
 use Rattle.model_plan.proofs.needs.Tie as tie
-use Rattle.model_plan.proofs.needs.Reads as reads
-use Rattle.model_plan.proofs.needs.Lts as lts
-use Rattle.model_plan.proofs.data_of.Reads as data-of-reads
-use Rattle.model_plan.proofs.plan_model.Reads as plan-model-reads
-use Rattle.which.proofs.choose.Reads as choose-reads
 
 choose-requires : tie.Need-choose-requires
 choose-requires c κs = search needs
@@ -26,10 +22,10 @@ plan-model-requires : tie.Need-plan-model-requires
 plan-model-requires c κs = search needs
 
 returns : tie.Need-returns
-returns c = let a = c .before .before .before .before .before .args in needs-refused (a .file .now) (a .header) (a .which) (sym (c .before .refusal .given .1) ∙ c .before .before .before .choose .ensures)
+returns c = let a = c .before .before .before .before .before .before .args in needs-refused (a .file .now) (headerAt (a .words .now)) (a .which) (sym (c .before .refusal .given .1) ∙ c .before .before .before .choose .ensures)
 
 returns-2 : tie.Need-returns-2
-returns-2 c = let a = c .before .before .before .before .before .before .before .args in needs-model (a .file .now) (a .header) (a .which) (sym (c .before .before .before .tree-from .given .1) ∙ c .before .before .before .before .before .choose .ensures) (c .before .data-of .ensures) (c .plan-model .ensures)
+returns-2 c = let a = c .before .before .before .before .before .before .before .before .args in needs-model (a .file .now) (headerAt (a .words .now)) (a .which) (sym (c .before .before .before .tree-from .given .1) ∙ c .before .before .before .before .before .choose .ensures) (c .before .data-of .ensures) (c .plan-model .ensures)
 
 pub needs-spec : {M : Type 1} → statement M
 needs-spec =

@@ -1,31 +1,39 @@
 -- `which::choose_stream` meets its contract. Assumes nothing.
+use Prim.Native.Nat.{_<_}
 use borrow.Author.Needs.{needs}
 use mathlib.Core.Bool.{Bool}
-use lib.ListN.{length}
-use Rattle.header_fits.proofs.Fits.{Fits, fits}
-use Rattle.search.proofs.Last.{last-inside}
+use Rattle.header_words.specs.Words.{headerAt}
 use Rattle.which.specs.Chosen.{streamModel, gvModel, numbered, made}
-use Rattle.which.proofs.Named.{no-number, no-position, no-stream, both}
+use Rattle.which.proofs.Words.{Counts, counts, not-numbered, without-position, without-stream, p-inside, k-inside, with-both}
 use native.Mathlib.Omega.{arith}
 use mathlib.Core.Path.{sym, ap, _∙_}
 use Rattle.which.proofs.choose_stream.Statement.{statement}
 use Rattle.which.proofs.choose_stream.Tie as tie
 
 -- the counts of the record are within their limits
-fitting : (c : tie.Start) → Fits (length (c .args .file .now)) (c .args .header)
-fitting c = fits _ _ (c .pre)
+limits : (c : tie.Start) → Counts (c .args .words .now)
+limits c = counts _ _ (c .pre .1)
+
+shared-slice-read-if1 : tie.Need-shared-slice-read-if1
+shared-slice-read-if1 c = search needs
 
 returns : tie.Need-returns
-returns c = no-number (made (c .before .before .before .before .args .gv)) (c .before .before .before .before .args .file .now) (c .before .before .before .before .args .header) (c .before .before .before .before .args .i) (c .if1 .taken)
+returns c = not-numbered (made (c .before .before .before .before .args .gv)) (c .before .before .before .before .args .file .now) (c .before .before .before .before .args .words .now) (c .before .before .before .before .args .i) (c .if1 .taken)
 
-mul-x : tie.Need-mul-x
-mul-x c = omega (arith, fitting (c .before .before .before .before .before) .types)
+mul-span-at : tie.Need-mul-span-at
+mul-span-at c = omega (arith, c .if1 .left, limits (c .before .before .before .before) .types)
 
-array-copy-out-x : tie.Need-array-copy-out-x
-array-copy-out-x c = omega (arith, fitting (c .before .before .before .before .before) .types)
+add-span-at : tie.Need-add-span-at
+add-span-at c = omega (arith, c .if1 .left, limits (c .before .before .before .before) .types)
 
-find-position-requires : tie.Need-find-position-requires
-find-position-requires c κs = fitting (c .before .before .before .before .before .before .before) .positions
+span-at-requires : tie.Need-span-at-requires
+span-at-requires c κs = omega (arith, c .if1 .left, limits (c .before .before .before .before) .types, c .before .before .before .before .pre .0)
+
+shared-slice-read-find-group : tie.Need-shared-slice-read-find-group
+shared-slice-read-find-group c = search needs
+
+find-group-requires : tie.Need-find-group-requires
+find-group-requires c κs = λ k h. omega (arith, limits (c .before .before .before .before .before .before) .positions, c .before .before .before .before .before .before .pre .0)
 
 enum-told : tie.Need-enum-told
 enum-told c = search needs
@@ -33,8 +41,11 @@ enum-told c = search needs
 enum-known-p : tie.Need-enum-known-p
 enum-known-p c = search needs
 
-find-stream-requires : tie.Need-find-stream-requires
-find-stream-requires c κs = fitting (c .before .before .before .before .before .before .before .before .before .before .before .before) .streams
+shared-slice-read-find-group-2 : tie.Need-shared-slice-read-find-group-2
+shared-slice-read-find-group-2 c = search needs
+
+find-group-requires-2 : tie.Need-find-group-requires-2
+find-group-requires-2 c κs = λ k h. omega (arith, limits (c .before .before .before .before .before .before .before .before .before .before .before) .streams, c .before .before .before .before .before .before .before .before .before .before .before .pre .0)
 
 enum-told-2 : tie.Need-enum-told-2
 enum-told-2 c = search needs
@@ -42,59 +53,72 @@ enum-told-2 c = search needs
 enum-known-k : tie.Need-enum-known-k
 enum-known-k c = search needs
 
-mul-position : tie.Need-mul-position
-mul-position c = omega (arith, last-inside _ _ _ (sym (c .before .before .before .before .before .before .before .before .find-position .ensures) ∙ c .before .before .before .before .before .before .p .given .1), fitting (c .before .before .before .before .before .before .before .before .before .before .before .before .before .before .before .before) .positions)
+-- the groups found are among the eight
+found-p : (c : tie.After-p) → c .p .given .0 .0 < 8
+found-p c = p-inside gvModel (c .before .before .before .before .before .before .before .before .before .args .file .now) (c .before .before .before .before .before .before .before .before .before .args .words .now) (c .before .before .before .before .before .before .before .before .before .args .i) (limits (c .before .before .before .before .before .before .before .before .before)) (c .before .before .before .before .before .if1 .left) _ (c .before .before .before .before .span-at .ensures) _ (sym (c .before .before .find-group .ensures) ∙ c .p .given .1)
 
-array-copy-out-position : tie.Need-array-copy-out-position
-array-copy-out-position c = omega (arith, last-inside _ _ _ (sym (c .before .before .before .before .before .before .before .before .find-position .ensures) ∙ c .before .before .before .before .before .before .p .given .1), fitting (c .before .before .before .before .before .before .before .before .before .before .before .before .before .before .before .before) .positions)
+found-k : (c : tie.After-k) → c .k .given .0 .0 < 8
+found-k c = k-inside gvModel (c .before .before .before .before .before .before .before .before .before .before .before .before .before .before .args .file .now) (c .before .before .before .before .before .before .before .before .before .before .before .before .before .before .args .words .now) (c .before .before .before .before .before .before .before .before .before .before .before .before .before .before .args .i) (limits (c .before .before .before .before .before .before .before .before .before .before .before .before .before .before)) (c .before .before .before .before .before .before .before .before .before .before .if1 .left) _ (c .before .before .before .before .before .before .before .before .before .span-at .ensures) _ (sym (c .before .before .before .before .before .before .before .find-group .ensures) ∙ c .before .before .before .before .before .p .given .1) _ (sym (c .before .before .find-group2 .ensures) ∙ c .k .given .1)
+
+mul-position : tie.Need-mul-position
+mul-position c = omega (arith, found-p (c .before .before .before .before .before .before))
+
+add-position : tie.Need-add-position
+add-position c = omega (arith, found-p (c .before .before .before .before .before .before))
 
 mul-stream : tie.Need-mul-stream
-mul-stream c = omega (arith, last-inside _ _ _ (sym (c .before .before .before .before .find-stream .ensures) ∙ c .before .before .k .given .1), fitting (c .before .before .before .before .before .before .before .before .before .before .before .before .before .before .before .before .before) .streams)
+mul-stream c = omega (arith, found-k (c .before))
 
-array-copy-out-stream : tie.Need-array-copy-out-stream
-array-copy-out-stream c = omega (arith, last-inside _ _ _ (sym (c .before .before .before .before .find-stream .ensures) ∙ c .before .before .k .given .1), fitting (c .before .before .before .before .before .before .before .before .before .before .before .before .before .before .before .before .before) .streams)
+add-stream : tie.Need-add-stream
+add-stream c = omega (arith, found-k (c .before))
 
 gv-model-requires : tie.Need-gv-model-requires
-gv-model-requires c κs = search needs
+gv-model-requires c κs = (omega (arith, found-k (c .before .before), c .before .before .before .before .before .before .before .before .before .before .before .before .before .before .before .before .pre .0), omega (arith, found-p (c .before .before .before .before .before .before .before), c .before .before .before .before .before .before .before .before .before .before .before .before .before .before .before .before .pre .0))
 
 returns-2 : tie.Need-returns-2
 returns-2 c =
+    let x = c .before .before .before .before .before .before .before .before .before .before .before .before .before .before .before .before .before .args in
     c .gv-model .ensures
-    ∙ both gvModel (c .before .before .before .before .before .before .before .before .before .before .before .before .before .before .before .before .before .before .before .before .args .file .now) (c .before .before .before .before .before .before .before .before .before .before .before .before .before .before .before .before .before .before .before .before .args .header) (c .before .before .before .before .before .before .before .before .before .before .before .before .before .before .before .before .before .before .before .before .args .i) (c .before .before .before .before .before .before .before .before .before .before .before .before .before .before .before .before .if1 .left) (sym (c .before .before .before .before .before .before .before .before .before .before .before .before .find-position .ensures) ∙ c .before .before .before .before .before .before .before .before .before .before .p .given .1) (sym (c .before .before .before .before .before .before .before .find-stream .ensures) ∙ c .before .before .before .before .before .k .given .1)
-    ∙ ap (λ (b : Bool). numbered (made b) (c .before .before .before .before .before .before .before .before .before .before .before .before .before .before .before .before .before .before .before .before .args .file .now) (c .before .before .before .before .before .before .before .before .before .before .before .before .before .before .before .before .before .before .before .before .args .header) (c .before .before .before .before .before .before .before .before .before .before .before .before .before .before .before .before .before .before .before .before .args .i)) (sym (c .before .if2 .taken))
+    ∙ with-both gvModel (x .file .now) (x .words .now) (x .i) (limits (c .before .before .before .before .before .before .before .before .before .before .before .before .before .before .before .before .before)) (c .before .before .before .before .before .before .before .before .before .before .before .before .before .if1 .left) _ (c .before .before .before .before .before .before .before .before .before .before .before .before .span-at .ensures) _ (sym (c .before .before .before .before .before .before .before .before .before .before .find-group .ensures) ∙ c .before .before .before .before .before .before .before .before .p .given .1) _ (sym (c .before .before .before .before .before .find-group2 .ensures) ∙ c .before .before .before .k .given .1)
+    ∙ ap (λ (b : Bool). numbered (made b) (x .file .now) (headerAt (x .words .now)) (x .i)) (sym (c .before .if2 .taken))
 
 stream-model-requires : tie.Need-stream-model-requires
-stream-model-requires c κs = search needs
+stream-model-requires c κs = (omega (arith, found-k (c .before .before), c .before .before .before .before .before .before .before .before .before .before .before .before .before .before .before .before .pre .0), omega (arith, found-p (c .before .before .before .before .before .before .before), c .before .before .before .before .before .before .before .before .before .before .before .before .before .before .before .before .pre .0))
 
 returns-3 : tie.Need-returns-3
-returns-3 c = no-position (made (c .before .before .before .before .before .before .before .before .before .before .args .gv)) (c .before .before .before .before .before .before .before .before .before .before .args .file .now) (c .before .before .before .before .before .before .before .before .before .before .args .header) (c .before .before .before .before .before .before .before .before .before .before .args .i) (c .before .before .before .before .before .before .if1 .left) (sym (c .before .before .find-position .ensures) ∙ c .enum-told .given .1)
+returns-3 c = without-position (made (c .before .before .before .before .before .before .before .before .before .args .gv)) (c .before .before .before .before .before .before .before .before .before .args .file .now) (c .before .before .before .before .before .before .before .before .before .args .words .now) (c .before .before .before .before .before .before .before .before .before .args .i) (limits (c .before .before .before .before .before .before .before .before .before)) (c .before .before .before .before .before .if1 .left) _ (c .before .before .before .before .span-at .ensures) (sym (c .before .before .find-group .ensures) ∙ c .enum-told .given .1)
 
 returns-4 : tie.Need-returns-4
-returns-4 c = no-stream (made (c .before .before .before .before .before .before .before .before .before .before .before .before .before .before .before .args .gv)) (c .before .before .before .before .before .before .before .before .before .before .before .before .before .before .before .args .file .now) (c .before .before .before .before .before .before .before .before .before .before .before .before .before .before .before .args .header) (c .before .before .before .before .before .before .before .before .before .before .before .before .before .before .before .args .i) (c .before .before .before .before .before .before .before .before .before .before .before .if1 .left) (sym (c .before .before .before .before .before .before .before .find-position .ensures) ∙ c .before .before .before .before .before .p .given .1) (sym (c .before .before .find-stream .ensures) ∙ c .enum-told2 .given .1)
+returns-4 c = without-stream (made (c .before .before .before .before .before .before .before .before .before .before .before .before .before .before .args .gv)) (c .before .before .before .before .before .before .before .before .before .before .before .before .before .before .args .file .now) (c .before .before .before .before .before .before .before .before .before .before .before .before .before .before .args .words .now) (c .before .before .before .before .before .before .before .before .before .before .before .before .before .before .args .i) (limits (c .before .before .before .before .before .before .before .before .before .before .before .before .before .before)) (c .before .before .before .before .before .before .before .before .before .before .if1 .left) _ (c .before .before .before .before .before .before .before .before .before .span-at .ensures) _ (sym (c .before .before .before .before .before .before .before .find-group .ensures) ∙ c .before .before .before .before .before .p .given .1) (sym (c .before .before .find-group2 .ensures) ∙ c .enum-told2 .given .1)
 
 returns-5 : tie.Need-returns-5
 returns-5 c =
+    let x = c .before .before .before .before .before .before .before .before .before .before .before .before .before .before .before .before .before .args in
     c .stream-model .ensures
-    ∙ both streamModel (c .before .before .before .before .before .before .before .before .before .before .before .before .before .before .before .before .before .before .before .before .args .file .now) (c .before .before .before .before .before .before .before .before .before .before .before .before .before .before .before .before .before .before .before .before .args .header) (c .before .before .before .before .before .before .before .before .before .before .before .before .before .before .before .before .before .before .before .before .args .i) (c .before .before .before .before .before .before .before .before .before .before .before .before .before .before .before .before .if1 .left) (sym (c .before .before .before .before .before .before .before .before .before .before .before .before .find-position .ensures) ∙ c .before .before .before .before .before .before .before .before .before .before .p .given .1) (sym (c .before .before .before .before .before .before .before .find-stream .ensures) ∙ c .before .before .before .before .before .k .given .1)
-    ∙ ap (λ (b : Bool). numbered (made b) (c .before .before .before .before .before .before .before .before .before .before .before .before .before .before .before .before .before .before .before .before .args .file .now) (c .before .before .before .before .before .before .before .before .before .before .before .before .before .before .before .before .before .before .before .before .args .header) (c .before .before .before .before .before .before .before .before .before .before .before .before .before .before .before .before .before .before .before .before .args .i)) (sym (c .before .if2 .left))
+    ∙ with-both streamModel (x .file .now) (x .words .now) (x .i) (limits (c .before .before .before .before .before .before .before .before .before .before .before .before .before .before .before .before .before)) (c .before .before .before .before .before .before .before .before .before .before .before .before .before .if1 .left) _ (c .before .before .before .before .before .before .before .before .before .before .before .before .span-at .ensures) _ (sym (c .before .before .before .before .before .before .before .before .before .before .find-group .ensures) ∙ c .before .before .before .before .before .before .before .before .p .given .1) _ (sym (c .before .before .before .before .before .find-group2 .ensures) ∙ c .before .before .before .k .given .1)
+    ∙ ap (λ (b : Bool). numbered (made b) (x .file .now) (headerAt (x .words .now)) (x .i)) (sym (c .before .if2 .left))
 
 pub choose-stream-spec : {M : Type 1} → statement M
 choose-stream-spec =
     tie.close
     (tie.spec
+    shared-slice-read-if1
     returns
-    mul-x
-    array-copy-out-x
-    find-position-requires
+    mul-span-at
+    add-span-at
+    span-at-requires
+    shared-slice-read-find-group
+    find-group-requires
     enum-told
     enum-known-p
-    find-stream-requires
+    shared-slice-read-find-group-2
+    find-group-requires-2
     enum-told-2
     enum-known-k
     mul-position
-    array-copy-out-position
+    add-position
     mul-stream
-    array-copy-out-stream
+    add-stream
     gv-model-requires
     returns-2
     stream-model-requires
