@@ -23,7 +23,6 @@ use Rattle.header_lines.specs.declared.Verdict.the-variants as verdict
 use Rattle.groups.specs.Rows.{bytesOf, rowLineAt, Going, on, stop-with}
 use Rattle.groups.specs.declared.Row.{Row}
 use Rattle.header_position.specs.declared.Group.{Group}
-use Rattle.header_position.specs.declared.Taken.{Taken}
 use Rattle.header_position.specs.declared.GroupRead.{GroupRead}
 
 -- the value v in the field of the number k
@@ -72,11 +71,6 @@ afterLine g (wrong r) = stop-with r
 -- the group, whose name is w, with a row of the section
 unfoldable pub withRow : List ℕ → List ℕ → Group → Row → Going Group
 withRow s w g r = cond (same (bytesOf s (r .name)) w) (afterLine g (rowLineAt position-group (g .seen) s r)) (on g)
-
--- how it stands in `Taken`; g is the group before
-abbrev pub takenIn : Group → Going Group → Taken
-takenIn g (on h) = record { verdict = verdict.Accepted; group = h }
-takenIn g (stop-with r) = record { verdict = verdict.Refused r; group = g }
 
 abbrev pub made : Verdict → PositionData → GroupRead
 made v d = record { verdict = v; item = d }

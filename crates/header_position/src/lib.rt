@@ -3,7 +3,6 @@
 use de::Cursor;
 use de_values::Value;
 use error::Refusal;
-use groups::Row;
 use groups::RowAt;
 use groups::row_at;
 use groups::row_line;
@@ -17,17 +16,12 @@ use header_lines::Verdict;
 use header_lines::mark;
 ghost use mathlib.Core.Path.{_≡_};
 ghost use Rattle.groups.specs.Rows.{bytesOf, rowsAt, stop-with, over};
-ghost use Rattle.header_position.specs.Group.{named, stored, withRow, takenIn, judged, groupIn};
+ghost use Rattle.header_position.specs.Group.{named, stored, withRow, groupIn};
 
-// A group while it is read: which fields stood, and their values.
+// A group while it is read, as the contract speaks of it: which fields stood, and their values.
 pub struct Group {
     pub seen: [bool; 10],
     pub item: PositionData,
-}
-
-pub struct Taken {
-    pub verdict: Verdict,
-    pub group: Group,
 }
 
 // What a group says; where it is refused, the empty struct.
@@ -71,18 +65,6 @@ pub fn store(item: PositionData, field: usize, v: Value) -> PositionData
     d
 }
 
-// A group with no row yet.
-fn first(name: Span) -> Group
-    ensures { λ r. ⌜ r ≡ named name ⌝ }
-{
-    let mut item = PositionData::none();
-    item.name = name;
-    Group {
-        seen: [false; 10],
-        item,
-    }
-}
-
 fn refused(refusal: Refusal) -> GroupRead
     ensures { λ r. ⌜ r ≡ groupIn (stop-with refusal) ⌝ }
 {
@@ -92,79 +74,35 @@ fn refused(refusal: Refusal) -> GroupRead
     }
 }
 
-fn judge(group: Group) -> GroupRead
-    ensures { λ r. ⌜ r ≡ judged group ⌝ }
-{
-    let seen = group.seen;
-    let item = group.item;
-    if missing(seen, 3) {
-        return refused(Refusal::Field);
-    }
-    GroupRead {
-        verdict: Verdict::Accepted,
-        item,
-    }
-}
-
-// The group with a row, if the row is one of the group with that name.
-fn take_row(group: Group, s: &[u8], row: Row, name: Span) -> Taken
-    ensures { λ r. ⌜ r ≡ takenIn group (withRow (now (s .entry)) (bytesOf (now (s .entry)) name) group row) ⌝ }
-{
-    let of = row.name;
-    if !same_part(s, of, name) {
-        return Taken {
-            verdict: Verdict::Accepted,
-            group,
-        };
-    }
-    let seen = group.seen;
-    let item = group.item;
-    let l = row_line(s, row, Table::PositionGroup, seen);
-    let step = l.step;
-    match step {
-        Step::Read(_) => {
-            let field = l.field;
-            let value = l.value;
-            let with_value = store(item, field, value);
-            let with_field = mark(seen, field, 5);
-            let next = Group {
-                seen: with_field,
-                item: with_value,
-            };
-            Taken {
-                verdict: Verdict::Accepted,
-                group: next,
-            }
-        }
-        Step::End => Taken {
-            verdict: Verdict::Accepted,
-            group,
-        },
-        Step::Refused(refusal) => Taken {
-            verdict: Verdict::Refused(refusal),
-            group,
-        },
-    }
-}
-
 // The group of that name, out of the rows of the section that starts at `start`.
 pub fn read_group(s: &[u8], start: usize, name: Span) -> GroupRead
     ensures { λ r. ⌜ r ≡ groupIn (over (withRow (now (s .entry)) (bytesOf (now (s .entry)) name)) (named name) (rowsAt (now (s .entry)) start)) ⌝ }
 {
     let mut at = Cursor { at: start };
-    let mut group = first(name);
+    let mut seen = [false; 10];
+    let mut item = PositionData::none();
+    item.name = name;
     loop {
         match row_at(at, s) {
             RowAt::Found(row) => {
-                let t = take_row(group, s, row, name);
-                let verdict = t.verdict;
-                match verdict {
-                    Verdict::Accepted => {
-                        group = t.group;
-                        at = Cursor { at: row.end };
-                    }
-                    Verdict::Refused(refusal) => {
-                        return refused(refusal);
+                at = Cursor { at: row.end };
+                let of = row.name;
+                if same_part(s, of, name) {
+                    let l = row_line(s, row, Table::PositionGroup, seen);
+                    let step = l.step;
+                    match step {
+                        Step::Read(_) => {
+                            let field = l.field;
+                            let value = l.value;
+                            let with_field = mark(seen, field, 5);
+                            seen = with_field;
+                            let with_value = store(item, field, value);
+                            item = with_value;
+                        }
+                        Step::End => {}
+                        Step::Refused(refusal) => {
+                            return refused(refusal);
+                        }
                     }
                 }
             }
@@ -172,7 +110,13 @@ pub fn read_group(s: &[u8], start: usize, name: Span) -> GroupRead
                 at = next;
             }
             RowAt::End => {
-                return judge(group);
+                if missing(seen, 3) {
+                    return refused(Refusal::Field);
+                }
+                return GroupRead {
+                    verdict: Verdict::Accepted,
+                    item,
+                };
             }
         }
     }
