@@ -1,63 +1,61 @@
 -- `replay_voices::models`: the place goes up. Assumes nothing.
-use Prim.Native.Nat.{_-_, _≤_, _<_}
-use lib.ListN.{length}
+use Prim.Native.Nat.{_-_, _≤_}
+use native.Mathlib.Omega.{arith}
 use borrow.Author.Needs.{needs}
 use Rattle.replay_voices.proofs.models.Statement.{statement}
 use Rattle.replay_voices.proofs.models.Tie as tie
-use Rattle.replay_voices.proofs.models.Reads as reads
-use Rattle.replay_voices.proofs.models.Lts as lts
-use Rattle.replay_voices.proofs.least.Reads as least-reads
-use Rattle.replay_voices.proofs.model.Reads as model-reads
-use Rattle.replay_voices.proofs.stream.Reads as stream-reads
-use Rattle.stored.proofs.number.Reads as number-reads
 
 abbrev Inv-loop : tie.InvT-loop
-Inv-loop s text header n cursor₀ i₀ cursor i = i ≤ n
+Inv-loop s text words n cursor₀ i₀ cursor i = i ≤ n
 
 abbrev μ-loop : tie.MeasureT-loop
-μ-loop s text header n cursor₀ i₀ cursor i = n - i
+μ-loop s text words n cursor₀ i₀ cursor i = n - i
 
--- src/main.rt:394:9
+-- src/main.rt:441:19
+element-copy-out-least : tie.Need-element-copy-out-least Inv-loop μ-loop
+element-copy-out-least c = search needs
+
+-- src/main.rt:441:9
 least-requires : tie.Need-least-requires Inv-loop μ-loop
 least-requires c κs = search needs
 
--- src/main.rt:396:22
+-- src/main.rt:443:22
 mul-number : tie.Need-mul-number Inv-loop μ-loop
 mul-number c = search needs
 
--- src/main.rt:396:22
+-- src/main.rt:443:22
 add-number : tie.Need-add-number Inv-loop μ-loop
 add-number c = search needs
 
--- src/main.rt:396:9
+-- src/main.rt:443:9
 number-requires : tie.Need-number-requires Inv-loop μ-loop
 number-requires c κs = search needs
 
--- src/main.rt:395:9
+-- src/main.rt:442:9
 model-requires : tie.Need-model-requires Inv-loop μ-loop
 model-requires c κs = search needs
 
--- src/main.rt:402:5
+-- src/main.rt:449:5
 loop-holds : tie.Need-loop-holds Inv-loop μ-loop
 loop-holds c = search needs
 
--- src/main.rt:403:9
+-- src/main.rt:450:9
 stream-requires : tie.Need-stream-requires Inv-loop μ-loop
 stream-requires c κs = search needs
 
--- src/main.rt:402:9
+-- src/main.rt:449:9
 add-i : tie.Need-add-i Inv-loop μ-loop
 add-i c = search needs
 
--- src/main.rt:402:5
+-- src/main.rt:449:5
 loop-less : tie.Need-loop-less Inv-loop μ-loop
 loop-less c = search needs
 
--- src/main.rt:402:5
+-- src/main.rt:449:5
 loop-again : tie.Need-loop-again Inv-loop μ-loop
 loop-again c = search needs
 
--- src/main.rt:392:1
+-- src/main.rt:440:1
 returns : tie.Need-returns Inv-loop μ-loop
 returns c = search needs
 
@@ -67,6 +65,7 @@ models-spec =
     (tie.spec
     Inv-loop
     μ-loop
+    element-copy-out-least
     least-requires
     mul-number
     add-number
