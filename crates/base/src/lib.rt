@@ -73,7 +73,7 @@ fn is_usual(b: u8) -> bool
     (bits >> (b & 63)) & 1 == 1
 }
 
-// A byte that patterns are made of. Most end at a quote; the class is asked for what is neither usual nor one.
+// A byte that patterns are made of. Most patterns end at a quote; the class is asked for what is neither usual nor one.
 pub fn is_pattern(b: u8) -> bool
     ensures { λ r. ⌜ r ≡ inPattern b ⌝ }
 {
@@ -201,7 +201,7 @@ fn eight_spaces(s: &[u8], at: usize) -> bool
     eight(s, at) == 0x2020_2020_2020_2020
 }
 
-// The top bit of each of the eight bytes at `at` that isn't a printed one, `!` to 127, which names are made of.
+// Of the eight bytes at `at`, the top bit of the first that isn't a printed one, `!` to 127, which names are made of; none below it, and above it some.
 fn not_printed(s: &[u8], at: usize) -> u64
     requires { ⌜ at + 8 < length (now s) ⌝ }
     ensures { λ r. ⌜ r ≡ unprinted (little (bytesAt 8 (now (s .entry)) at)) ⌝ }
