@@ -13,7 +13,7 @@ ghost use Prim.Native.Nat.{_+_, _<_, _^_};
 ghost use mathlib.Core.List.{[]};
 ghost use Rattle.de.specs.Values.{cursor, delimitersOf, textAt, pairAt};
 ghost use Rattle.de.specs.Readings.{ofText, ofPair};
-ghost use Rattle.de_lists.specs.Lists.{spansOf, rangesOf, spansWith, rangesWith, firsts, stringsIn, pairsIn, itemsAt, listAt};
+ghost use Rattle.de_lists.specs.Lists.{spansOf, rangesOf, spansWith, rangesWith, stringsIn, pairsIn, itemsAt, listAt};
 
 // The first 32 strings of a list, and how many it has.
 pub struct Spans {
@@ -66,61 +66,6 @@ impl Spans {
         }
         out.count = n + 1;
         out
-    }
-
-    // The first 8.
-    pub fn first8(self) -> [Span; 8]
-        ensures { λ r. ⌜ r ≡ firsts 8 (self .items) 0 ⌝ }
-    {
-        let x0 = self.items[0];
-        let x1 = self.items[1];
-        let x2 = self.items[2];
-        let x3 = self.items[3];
-        let x4 = self.items[4];
-        let x5 = self.items[5];
-        let x6 = self.items[6];
-        let x7 = self.items[7];
-        [x0, x1, x2, x3, x4, x5, x6, x7]
-    }
-
-    // The first 16.
-    pub fn first16(self) -> [Span; 16]
-        ensures { λ r. ⌜ r ≡ firsts 16 (self .items) 0 ⌝ }
-    {
-        let x0 = self.items[0];
-        let x1 = self.items[1];
-        let x2 = self.items[2];
-        let x3 = self.items[3];
-        let x4 = self.items[4];
-        let x5 = self.items[5];
-        let x6 = self.items[6];
-        let x7 = self.items[7];
-        let x8 = self.items[8];
-        let x9 = self.items[9];
-        let x10 = self.items[10];
-        let x11 = self.items[11];
-        let x12 = self.items[12];
-        let x13 = self.items[13];
-        let x14 = self.items[14];
-        let x15 = self.items[15];
-        [
-            x0,
-            x1,
-            x2,
-            x3,
-            x4,
-            x5,
-            x6,
-            x7,
-            x8,
-            x9,
-            x10,
-            x11,
-            x12,
-            x13,
-            x14,
-            x15,
-        ]
     }
 }
 

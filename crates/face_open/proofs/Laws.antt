@@ -6,23 +6,16 @@ use Prim.Native.Nat.{ℕ, _+_, _-_, _≤_, _<_}
 use native.Mathlib.Omega.{arith}
 use borrow.Author.Tests.{lt-ltb, le-ltb, eq-eqb, ne-eqb, ltb-false}
 use lib.Dec.{ltb, eqb}
-use lib.ListN.{length}
+use lib.ListN.{length, replicate}
 use lib.Seq.{sets}
 use Rattle.error.specs.Numbers.{numberOf, placeOf}
 use Rattle.error.specs.declared.Refusal.{Refusal}
-use Rattle.error.specs.declared.Refusal.the-variants as refusal
 use Rattle.header_lines.specs.declared.Verdict.{Verdict}
 use Rattle.header_lines.specs.declared.Verdict.the-variants.{Accepted, Refused}
 use Rattle.header_words.specs.Words.{wordAt, headerWords, flagsFit}
-use Rattle.header.specs.declared.Header.{Header}
-use Rattle.header_global.specs.declared.GlobalRead.{GlobalRead}
-use Rattle.header_streams.specs.declared.GroupsRead.{GroupsRead}
-use Rattle.sections.specs.Split.{splitOf}
-use Rattle.sections.specs.declared.Parts.{Parts}
-use Rattle.sections.specs.declared.Sections.the-variants as sections
-use Rattle.parser.specs.Open.{globalOf, streamsOf, positionsOf, made, refusedWith, headerOf, partsOf, openOf}
-use Rattle.parser.specs.declared.Opened.{Opened}
-use Rattle.parser.specs.declared.PositionRead.{PositionRead}
+use Rattle.parser.specs.Open.{openOf}
+use Rattle.parser.specs.Left.{openLeft}
+use Rattle.parser.proofs.Left.{open-words}
 use Rattle.face_open.specs.declared.Said.{Said}
 use Rattle.face_open.specs.declared.Part.{Part}
 use Rattle.face_open.specs.declared.Pair.{Pair}
@@ -30,68 +23,33 @@ use Rattle.face_open.specs.Answers.{said, saidIn, openSaidBy, openSaid, 
 
 -- ---- opening
 
-module _ (w : List ℕ) where
-  -- what is said, and the words after it, where opening gives o
-  abbrev pub Says : Opened → Said → List ℕ → Type 0
-  Says o x w′ = (x ≡ openSaidBy (length w) (o .verdict)) × (w′ ≡ openWordsBy w (o .header) (o .verdict))
+module _ (s w : List ℕ) where
+  -- what is said, and the words after it
+  abbrev pub Says : Said → List ℕ → Type 0
+  Says x w′ = (x ≡ openSaid s (length w)) × (w′ ≡ openWords s w)
 
-  pub says-refused : (r : Refusal) {o : Opened} {x : Said} → o ≡ refusedWith r → x ≡ said (numberOf r) (placeOf r) → Says o x w
-  unfolding refusedWith
-  says-refused r e q = (q ∙ sym (ap (λ (o : Opened). openSaidBy (length w) (o .verdict)) e), sym (ap (λ (o : Opened). openWordsBy w (o .header) (o .verdict)) e))
+  pub says-refused : (r : Refusal) {x : Said} → openOf s .verdict ≡ Refused r → x ≡ said (numberOf r) (placeOf r) → Says x w
+  unfolding openSaid openWords
+  says-refused r v q = (q ∙ sym (ap (openSaidBy (length w)) v), sym (ap (openWordsBy w (openOf s .header)) v))
 
-  module _ {o : Opened} {h : Header} (e : o ≡ made Accepted h) where
-    pub says-few : length w < 647 → Says o (said 20 0) w
+  module _ (v : openOf s .verdict ≡ Accepted) where
+    pub says-few : length w < 647 → Says (said 20 0) w
+    unfolding openSaid openWords
     says-few n =
         let t : ltb (length w) 647 ≡ true = lt-ltb (length w) 647 n in (
-          sym (ap (λ (o : Opened). openSaidBy (length w) (o .verdict)) e ∙ ap (λ (b : Bool). cond b (said 20 0) (said 0 0)) t),
-          sym (ap (λ (o : Opened). openWordsBy w (o .header) (o .verdict)) e ∙ ap (λ (b : Bool). cond b w (sets w 0 (headerWords h))) t),
+          sym (ap (openSaidBy (length w)) v ∙ ap (λ (b : Bool). cond b (said 20 0) (said 0 0)) t),
+          sym (ap (openWordsBy w (openOf s .header)) v ∙ ap (λ (b : Bool). cond b w (sets w 0 (headerWords (openOf s .header)))) t),
         )
 
-    pub says-done : {w′ : List ℕ} → 647 ≤ length w → w′ ≡ sets w 0 (headerWords h) → Says o (said 0 0) w′
-    says-done n q =
+    -- u is what opening left in words of its own
+    pub says-done : {u w′ : List ℕ} → 647 ≤ length w → u ≡ openLeft s (replicate 647 0) → w′ ≡ sets w 0 u → Says (said 0 0) w′
+    unfolding openSaid openWords
+    says-done n e q =
         let t : ltb (length w) 647 ≡ false = le-ltb (length w) 647 n in (
-          sym (ap (λ (o : Opened). openSaidBy (length w) (o .verdict)) e ∙ ap (λ (b : Bool). cond b (said 20 0) (said 0 0)) t),
-          q ∙ sym (ap (λ (o : Opened). openWordsBy w (o .header) (o .verdict)) e ∙ ap (λ (b : Bool). cond b w (sets w 0 (headerWords h))) t),
+          sym (ap (openSaidBy (length w)) v ∙ ap (λ (b : Bool). cond b (said 20 0) (said 0 0)) t),
+          q ∙ ap (sets w 0) (e ∙ open-words s v)
+              ∙ sym (ap (openWordsBy w (openOf s .header)) v ∙ ap (λ (b : Bool). cond b w (sets w 0 (headerWords (openOf s .header)))) t),
         )
-
-  -- a whole file
-  pub says-open : (s : List ℕ) {o : Opened} {x : Said} {w′ : List ℕ} → openOf s ≡ o → Says o x w′ → (x ≡ openSaid s (length w)) × (w′ ≡ openWords s w)
-  unfolding openSaid openWords
-  says-open s e q = (q .0 ∙ ap (λ (o : Opened). openSaidBy (length w) (o .verdict)) (sym e), q .1 ∙ ap (λ (o : Opened). openWordsBy w (o .header) (o .verdict)) (sym e))
-
--- a file that is too long, one that doesn't split, its parts
-module _ (s : List ℕ) where
-  pub open-long : 16777216 < length s → openOf s ≡ refusedWith refusal.Limit
-  unfolding openOf
-  open-long h = rw (lt-ltb _ _ h)
-
-  pub open-unsplit : length s ≤ 16777216 → splitOf s ≡ sections.Unsplit → openOf s ≡ refusedWith refusal.Split
-  unfolding openOf
-  open-unsplit h e = rw (le-ltb _ _ h, e)
-
-  pub open-split : length s ≤ 16777216 → (x : Parts) → splitOf s ≡ sections.Split x → openOf s ≡ partsOf s x
-  unfolding openOf
-  open-split h x e = rw (le-ltb _ _ h, e)
-
--- the sections in turn
-module _ (s : List ℕ) (x : Parts) {g : GlobalRead} (e₁ : g ≡ globalOf s (x .global)) where
-  pub no-global : {r : Refusal} → g .verdict ≡ Refused r → partsOf s x ≡ refusedWith r
-  unfolding partsOf
-  no-global v₁ = rw (sym e₁, v₁)
-
-  module _ (v₁ : g .verdict ≡ Accepted) {t : GroupsRead} (e₂ : t ≡ streamsOf s (x .stream)) where
-    pub no-streams : {r : Refusal} → t .verdict ≡ Refused r → partsOf s x ≡ refusedWith r
-    unfolding partsOf
-    no-streams v₂ = rw (sym e₁, v₁, sym e₂, v₂)
-
-    module _ (v₂ : t .verdict ≡ Accepted) {p : PositionRead} (e₃ : p ≡ positionsOf s (x .position)) where
-      pub no-positions : {r : Refusal} → p .verdict ≡ Refused r → partsOf s x ≡ refusedWith r
-      unfolding partsOf
-      no-positions v₃ = rw (sym e₁, v₁, sym e₂, v₂, sym e₃, v₃)
-
-      pub all-said : p .verdict ≡ Accepted → partsOf s x ≡ made Accepted (headerOf (g .global) (t .streams) (p .durations) (p .positions) (x .rest))
-      unfolding partsOf
-      all-said v₃ = rw (sym e₁, v₁, sym e₂, v₂, sym e₃, v₃)
 
 -- ---- words
 

@@ -2,22 +2,16 @@
 // these answers out. Any file, any words, any numbers. Assumes nothing.
 use error::Refusal;
 use header_lines::Verdict;
-use header_put::write_header;
+use header_put::put_all;
 use header_words::COMMENT;
 use header_words::HAS_COMMENT;
 use header_words::WORDS;
 use header_words::flags_fit;
-use parser::open_global;
-use parser::open_positions;
-use parser::open_streams;
-use sections::Parts;
-use sections::Sections;
-use sections::split_sections;
+use parser::open;
 ghost use mathlib.Core.Path.{_≡_};
 ghost use lib.ListN.{length};
 ghost use Rattle.error.specs.Numbers.{numberOf, placeOf};
-ghost use Rattle.parser.specs.Open.{Inside, partsOf};
-ghost use Rattle.face_open.specs.Answers.{said, partOf, openSaidBy, openWordsBy, openSaid, openWords, judgedOf, commentIn, commentSaid, getSaid, pairSaid};
+ghost use Rattle.face_open.specs.Answers.{said, partOf, openSaid, openWords, judgedOf, commentIn, commentSaid, getSaid, pairSaid};
 
 // 01's number, and its place; of a field, its value.
 #[repr(C)]
@@ -52,76 +46,27 @@ fn refused(refusal: Refusal) -> Said
     }
 }
 
-// The three sections in turn, as `parser::open` has them; each goes into the words by itself, so that the record, which is large, is never put together.
-fn open_parts(file: &[u8], parts: Parts, words: &mut [u64]) -> Said
-    requires { ⌜ Inside (now file) parts ⌝ }
-    ensures { λ r. ⌜ (r ≡ openSaidBy (length (now (words .entry))) (partsOf (now (file .entry)) parts .verdict)) × (now (words .exit) ≡ openWordsBy (now (words .entry)) (partsOf (now (file .entry)) parts .header) (partsOf (now (file .entry)) parts .verdict)) ⌝ }
-{
-    let g = open_global(file, parts.global);
-    let of_global = g.verdict;
-    match of_global {
-        Verdict::Refused(refusal) => refused(refusal),
-        Verdict::Accepted => {
-            let t = open_streams(file, parts.stream);
-            let of_stream = t.verdict;
-            match of_stream {
-                Verdict::Refused(refusal) => refused(refusal),
-                Verdict::Accepted => {
-                    let p = open_positions(file, parts.position);
-                    let of_position = p.verdict;
-                    match of_position {
-                        Verdict::Refused(refusal) => refused(refusal),
-                        Verdict::Accepted => {
-                            if words.len() < WORDS {
-                                return Said {
-                                    number: 20,
-                                    place: 0,
-                                };
-                            }
-                            let global = g.global;
-                            let streams = t.streams;
-                            let stream_names = streams.names;
-                            let stream_items = streams.items;
-                            let durations = p.durations;
-                            let pdf = durations.pdf;
-                            let tree = durations.tree;
-                            let positions = p.positions;
-                            let position_names = positions.names;
-                            let position_items = positions.items;
-                            let rest = parts.rest;
-                            write_header(
-                                words,
-                                global,
-                                stream_items,
-                                stream_names.count,
-                                pdf,
-                                tree,
-                                position_items,
-                                position_names.count,
-                                rest,
-                            );
-                            Said {
-                                number: 0,
-                                place: 0,
-                            }
-                        }
-                    }
-                }
-            }
-        }
-    }
-}
-
 // Opens a file, with the record into the words; too few words is 20, after every refusal of the file.
+// What the file says is kept apart until all of it is accepted: a refusal changes no word.
 pub fn open_words(file: &[u8], words: &mut [u64]) -> Said
     ensures { λ r. ⌜ (r ≡ openSaid (now (file .entry)) (length (now (words .entry)))) × (now (words .exit) ≡ openWords (now (file .entry)) (now (words .entry))) ⌝ }
 {
-    if 16777216 < file.len() {
-        return refused(Refusal::Limit);
-    }
-    match split_sections(file) {
-        Sections::Unsplit => refused(Refusal::Split),
-        Sections::Split(parts) => open_parts(file, parts, words),
+    let mut record: [u64; 647] = [0; 647];
+    match open(file, &mut record) {
+        Verdict::Refused(refusal) => refused(refusal),
+        Verdict::Accepted => {
+            if words.len() < WORDS {
+                return Said {
+                    number: 20,
+                    place: 0,
+                };
+            }
+            put_all(words, 0, &record);
+            Said {
+                number: 0,
+                place: 0,
+            }
+        }
     }
 }
 

@@ -13,13 +13,12 @@ use Rattle.laws.proofs.Runs.{stop-from, byte-in}
 use Rattle.error.specs.declared.Refusal.{Refusal}
 use Rattle.header.specs.Empty.{noSpan}
 use Rattle.header.specs.declared.Span.{Span}
-use Rattle.de.specs.Values.{cursor}
 use Rattle.de.specs.declared.Cursor.{Cursor}
 use Rattle.header_lines.specs.declared.Key.{Key}
 use Rattle.header_lines.specs.declared.Key.the-variants as key
 use Rattle.header_lines.specs.Lines.{keyAt}
 use Rattle.header_lines.proofs.Moves.{no, key-moves}
-use Rattle.groups.specs.Rows.{bytesOf, splitAt, splitOf, splitRow, keyRow, rowOf, rowAt, onwardRow, rowsFrom, rowsAt, Going, on, stop-with, over, knownFrom}
+use Rattle.groups.specs.Rows.{bytesOf, splitAt, splitOf, splitRow, keyRow, rowOf, rowAt, onwardRow, rowsFrom, rowsAt, Going, on, stop-with, overNext, over, lastNext, lastOf, knownFrom}
 use Rattle.groups.specs.declared.Split.{Split}
 use Rattle.groups.specs.declared.Split.the-variants as split
 use Rattle.groups.specs.declared.Row.{Row}
@@ -130,6 +129,29 @@ module _ {A : Type 0} (f : A → Row → Going A) where
   pub over-none : (a : A) → over f a [] ≡ on a
   unfolding over
   over-none a = refl
+
+  -- and what was made of them
+  pub last-on : (a : A) {b : A} (r : Row) (rs : List Row) → f a r ≡ on b → lastOf f a (r ∷ rs) ≡ lastOf f b rs
+  unfolding lastOf
+  last-on a r rs e = rw e
+
+  pub last-stop : (a : A) {q : Refusal} (r : Row) (rs : List Row) → f a r ≡ stop-with q → lastOf f a (r ∷ rs) ≡ a
+  unfolding lastOf
+  last-stop a r rs e = rw e
+
+  pub last-none : (a : A) → lastOf f a [] ≡ a
+  unfolding lastOf
+  last-none a = refl
+
+  -- where none is refused, the two are one
+  pub over-last : (a : A) (rs : List Row) {b : A} → over f a rs ≡ on b → lastOf f a rs ≡ b
+  unfolding over lastOf
+  over-last a [] {b} e = let q : a ≡ b = cc in q
+  over-last a (r ∷ rs) {b} e = go (λ c q. over-last c rs q) (f a r) e
+    where
+      go : ((c : A) → over f c rs ≡ on b → lastOf f c rs ≡ b) → (x : Going A) → overNext (λ c. over f c rs) x ≡ on b → lastNext (λ c. lastOf f c rs) a x ≡ b
+      go h (on c) q = h c q
+      go h (stop-with q) k = no cc
 
 -- ---- names
 

@@ -92,6 +92,15 @@ unfoldable pub over : {A : Type 0} → (A → Row → Going A) → A → List Ro
 over f a [] = on a
 over f a (r ∷ rs) = overNext (λ b. over f b rs) (f a r)
 
+-- what is made of them when they end, or when one is refused
+abbrev pub lastNext : {A : Type 0} → (A → A) → A → Going A → A
+lastNext more a (on b) = more b
+lastNext more a (stop-with r) = a
+
+unfoldable pub lastOf : {A : Type 0} → (A → Row → Going A) → A → List Row → A
+lastOf f a [] = a
+lastOf f a (r ∷ rs) = lastNext (λ b. lastOf f b rs) a (f a r)
+
 -- ---- names
 
 unfoldable pub noNames : Names

@@ -25,7 +25,7 @@ ghost use lib.ListN.{length, take};
 ghost use Rattle.written.specs.Bytes.{same};
 ghost use Rattle.header_fields.specs.Fields.{fieldsOf};
 ghost use Rattle.header_lines.specs.Lines.{lineIn};
-ghost use Rattle.groups.specs.Rows.{bytesOf, splitOf, rowAt, rowLineAt, noNames, namesWith, knownIn};
+ghost use Rattle.groups.specs.Rows.{bytesOf, splitOf, rowAt, rowLineAt};
 
 // A key that names a group: the lengths of the field's name before the bracket and of the group's name inside.
 pub enum Split {
@@ -48,7 +48,7 @@ pub enum RowAt {
     End,
 }
 
-// The names of the groups found, the first 8 of them; 9 counts for more.
+// The names of the groups found, as contracts speak of them: the first 8 of them; 9 counts for more.
 pub struct Names {
     pub items: [Span; 8],
     pub count: usize,
@@ -159,48 +159,5 @@ pub fn row_line(s: &[u8], row: Row, table: Table, seen: [bool; 10]) -> Line
             field: 0,
             value,
         },
-    }
-}
-
-impl Names {
-    pub fn none() -> Names
-        ensures { λ r. ⌜ r ≡ noNames ⌝ }
-    {
-        Names {
-            items: [Span { start: 0, len: 0 }; 8],
-            count: 0,
-        }
-    }
-
-    pub fn push(self, name: Span) -> Names
-        ensures { λ r. ⌜ r ≡ namesWith self name ⌝ }
-    {
-        let n = self.count;
-        let mut out = self;
-        if n < 8 {
-            out.items[n] = name;
-            out.count = n + 1;
-            return out;
-        }
-        out.count = 9;
-        out
-    }
-
-    // Whether one of them has the bytes of x.
-    pub fn known(self, s: &[u8], x: Span) -> bool
-        ensures { λ r. ⌜ r ≡ knownIn (now (s .entry)) (self .items) (self .count) (bytesOf (now (s .entry)) x) ⌝ }
-    {
-        let n = self.count;
-        let mut k = 0;
-        while k < n {
-            if k < 8 {
-                let name = self.items[k];
-                if same_part(s, name, x) {
-                    return true;
-                }
-            }
-            k = k + 1;
-        }
-        false
     }
 }

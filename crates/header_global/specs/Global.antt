@@ -1,14 +1,16 @@
 -- What the lines of [GLOBAL] make of `Global`. Assumes nothing.
 use mathlib.Core.Bool.{Bool, true, false, cond}
-use mathlib.Core.List.{List}
+use mathlib.Core.List.{List, [], _∷_, _++_}
 use Prim.Native.Nat.{ℕ}
 use lib.Dec.{eqb, ltb}
+use lib.Seq.{sets}
 use Rattle.written.specs.HeaderText.{Entry}
 use Rattle.written.specs.Record.{global-fields}
 use Rattle.error.specs.declared.Refusal.{Refusal}
 use Rattle.error.specs.declared.Refusal.the-variants as refusal
 use Rattle.header.specs.Empty.{emptyGlobal}
 use Rattle.header.specs.declared.Global.{Global}
+use Rattle.header_words.specs.Words.{spanWords, spansWords, wordAt}
 use Rattle.de.specs.Values.{cursor}
 use Rattle.de_lists.specs.Lists.{firsts}
 use Rattle.de_lists.specs.declared.Outcome.the-variants as outcome
@@ -39,6 +41,20 @@ stored g k v =
       «has_comment» = cond (eqb k 9) (true) (g .«has_comment»);
     }
 
+-- the same among the words of the record
+unfoldable pub storedIn : List ℕ → ℕ → Value → List ℕ
+storedIn w k v =
+    cond (eqb k 0) (sets w 0 (spanWords (v .span)))
+    (cond (eqb k 1) (sets w 2 (v .number ∷ []))
+    (cond (eqb k 2) (sets w 3 (v .number ∷ []))
+    (cond (eqb k 3) (sets w 4 (v .number ∷ []))
+    (cond (eqb k 4) (sets w 5 (v .number ∷ []))
+    (cond (eqb k 5) (sets w 6 (spansWords 8 (v .spans .items) ++ (v .spans .count ∷ [])))
+    (cond (eqb k 6) (sets w 23 (spanWords (v .span)))
+    (cond (eqb k 7) (sets w 25 (spanWords (v .span)))
+    (cond (eqb k 8) (sets w 27 (spansWords 32 (v .spans .items) ++ (v .spans .count ∷ [])))
+    (cond (eqb k 9) (sets w 92 (spanWords (v .span) ++ (1 ∷ []))) w)))))))))
+
 -- a line's value in its field
 unfoldable pub withLine : Global → Entry → Global
 withLine g x = stored g (fieldIndex global-fields (x .name)) (valueOf (outcome.Read (cursor 0)) (x .value))
@@ -55,6 +71,12 @@ judged m g =
     cond (anyMissing m 8) (refusedWith refusal.Field)
     (cond (ltb 8 (g .«stream_type_count»)) (refusedWith refusal.Limit)
     (cond (ltb 32 (g .«gv_off_context_count»)) (refusedWith refusal.Limit) (made verdict.Accepted g)))
+
+-- the same out of the words of the record
+unfoldable pub judgedIn : List Bool → List ℕ → Verdict
+judgedIn m w =
+    cond (anyMissing m 8) (verdict.Refused refusal.Field)
+    (cond (ltb 8 (wordAt w 22)) (verdict.Refused refusal.Limit) (cond (ltb 32 (wordAt w 91)) (verdict.Refused refusal.Limit) verdict.Accepted))
 
 abbrev pub globalIn : Lines → GlobalRead
 globalIn (whole m xs) = judged m (kept withLine emptyGlobal xs)

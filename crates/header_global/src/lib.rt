@@ -1,4 +1,4 @@
-// After header/mod.rs, `Global`: the fields of [GLOBAL], line by line into the struct (01, 'Header text'). Assumes nothing.
+// After header/mod.rs, `Global`: the fields of [GLOBAL], line by line into the words of the record (01, 'Header text'). Assumes nothing.
 use de::Cursor;
 use de_values::Value;
 use error::Refusal;
@@ -9,10 +9,31 @@ use header_lines::Step;
 use header_lines::Verdict;
 use header_lines::mark;
 use header_lines::next_line;
+use header_put::put_span;
+use header_put::put_spans;
+use header_put::put1;
+use header_words::COMMENT;
+use header_words::FRAME_PERIOD;
+use header_words::FULLCONTEXT_FORMAT;
+use header_words::FULLCONTEXT_VERSION;
+use header_words::GV_OFF_CONTEXT;
+use header_words::GV_OFF_CONTEXT_COUNT;
+use header_words::HAS_COMMENT;
+use header_words::HTS_VOICE_VERSION;
+use header_words::NUM_STATES;
+use header_words::NUM_STREAMS;
+use header_words::SAMPLING_FREQUENCY;
+use header_words::STREAM_TYPE;
+use header_words::STREAM_TYPE_COUNT;
 ghost use mathlib.Core.Path.{_≡_};
 ghost use Rattle.written.specs.Record.{global-fields};
-ghost use Rattle.header_lines.specs.Lines.{faulty, linesAt};
-ghost use Rattle.header_global.specs.Global.{stored, judged, globalIn};
+ghost use Prim.Native.Nat.{_≤_};
+ghost use lib.ListN.{length};
+ghost use lib.Seq.{sets};
+ghost use Rattle.header.specs.Empty.{emptyGlobal};
+ghost use Rattle.header_words.specs.Words.{Zeros, globalWords};
+ghost use Rattle.header_lines.specs.Lines.{linesAt, linesRead, kept};
+ghost use Rattle.header_global.specs.Global.{storedIn, judgedIn, withLine, globalIn};
 
 // What [GLOBAL] says; where it is refused, the empty struct.
 pub struct GlobalRead {
@@ -20,94 +41,81 @@ pub struct GlobalRead {
     pub global: Global,
 }
 
-// The struct with the value of a field; an unknown key's value is dropped. It is handed out in one place: copied out of each arm, it took 1.2 KB more, and
-// `memmove`, which the library wants for nothing else.
-pub fn store(global: Global, field: usize, v: Value) -> Global
-    ensures { λ r. ⌜ r ≡ stored global field v ⌝ }
+// A value where the record has its field; an unknown key's value is dropped.
+fn store(words: &mut [u64], field: usize, v: Value)
+    requires { ⌜ 95 ≤ length (now words) ⌝ }
+    ensures { λ r. ⌜ now (words .exit) ≡ storedIn (now (words .entry)) field v ⌝ }
 {
-    let mut g = global;
     match field {
         0 => {
             let x = v.span;
-            g.hts_voice_version = x;
+            put_span(words, HTS_VOICE_VERSION, x);
         }
         1 => {
-            g.sampling_frequency = v.number;
+            put1(words, SAMPLING_FREQUENCY, v.number);
         }
         2 => {
-            g.frame_period = v.number;
+            put1(words, FRAME_PERIOD, v.number);
         }
         3 => {
-            g.num_states = v.number;
+            put1(words, NUM_STATES, v.number);
         }
         4 => {
-            g.num_streams = v.number;
+            put1(words, NUM_STREAMS, v.number);
         }
         5 => {
             let l = v.spans;
-            let x = l.first8();
-            g.stream_type = x;
-            g.stream_type_count = l.count;
+            let x = l.items;
+            put_spans(words, STREAM_TYPE, x, 8);
+            put1(words, STREAM_TYPE_COUNT, l.count as u64);
         }
         6 => {
             let x = v.span;
-            g.fullcontext_format = x;
+            put_span(words, FULLCONTEXT_FORMAT, x);
         }
         7 => {
             let x = v.span;
-            g.fullcontext_version = x;
+            put_span(words, FULLCONTEXT_VERSION, x);
         }
         8 => {
             let l = v.spans;
             let x = l.items;
-            g.gv_off_context = x;
-            g.gv_off_context_count = l.count;
+            put_spans(words, GV_OFF_CONTEXT, x, 32);
+            put1(words, GV_OFF_CONTEXT_COUNT, l.count as u64);
         }
         9 => {
             let x = v.span;
-            g.comment = x;
-            g.has_comment = true;
+            put_span(words, COMMENT, x);
+            put1(words, HAS_COMMENT, 1);
         }
         _ => {}
-    }
-    g
-}
-
-fn refused(refusal: Refusal) -> GlobalRead
-    ensures { λ r. ⌜ r ≡ globalIn (faulty refusal) ⌝ }
-{
-    GlobalRead {
-        verdict: Verdict::Refused(refusal),
-        global: Global::none(),
     }
 }
 
 // Missing fields first, then the limits on counts.
-fn judge(seen: [bool; 10], global: Global) -> GlobalRead
-    ensures { λ r. ⌜ r ≡ judged seen global ⌝ }
+fn judge(seen: [bool; 10], words: &[u64]) -> Verdict
+    requires { ⌜ 95 ≤ length (now words) ⌝ }
+    ensures { λ r. ⌜ r ≡ judgedIn seen (now (words .entry)) ⌝ }
 {
     if missing(seen, 8) {
-        return refused(Refusal::Field);
+        return Verdict::Refused(Refusal::Field);
     }
-    if 8 < global.stream_type_count {
-        return refused(Refusal::Limit);
+    if 8 < words[STREAM_TYPE_COUNT] {
+        return Verdict::Refused(Refusal::Limit);
     }
-    if 32 < global.gv_off_context_count {
-        return refused(Refusal::Limit);
+    if 32 < words[GV_OFF_CONTEXT_COUNT] {
+        return Verdict::Refused(Refusal::Limit);
     }
-    GlobalRead {
-        verdict: Verdict::Accepted,
-        global,
-    }
+    Verdict::Accepted
 }
 
-// [GLOBAL]'s text, from its start to the end of s.
-pub fn read_global(s: &[u8], start: usize) -> GlobalRead
-    ensures { λ r. ⌜ r ≡ globalIn (linesAt global-fields (now (s .entry)) start) ⌝ }
+// [GLOBAL]'s text, from its start to the end of s, into the words of the record; where a line is refused, those before it.
+pub fn read_global(s: &[u8], start: usize, words: &mut [u64]) -> Verdict
+    requires { ⌜ (95 ≤ length (now words)) × Zeros (now words) 0 95 ⌝ }
+    ensures { λ r. ⌜ (r ≡ globalIn (linesAt global-fields (now (s .entry)) start) .verdict) × (now (words .exit) ≡ sets (now (words .entry)) 0 (globalWords (kept withLine emptyGlobal (linesRead global-fields (now (s .entry)) start)))) ⌝ }
 {
     let mut at = Cursor { at: start };
     let mut seen = [false; 10];
-    let mut global = Global::none();
     loop {
         let l = next_line(at, s, Table::Global, seen);
         let step = l.step;
@@ -115,16 +123,16 @@ pub fn read_global(s: &[u8], start: usize) -> GlobalRead
             Step::Read(next) => {
                 let field = l.field;
                 let value = l.value;
-                global = store(global, field, value);
+                store(words, field, value);
                 let with_field = mark(seen, field, 10);
                 seen = with_field;
                 at = next;
             }
             Step::End => {
-                return judge(seen, global);
+                return judge(seen, words);
             }
             Step::Refused(refusal) => {
-                return refused(refusal);
+                return Verdict::Refused(refusal);
             }
         }
     }

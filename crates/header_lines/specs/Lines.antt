@@ -112,6 +112,19 @@ unseen = false ∷ false ∷ false ∷ false ∷ false ∷ false ∷ false ∷ f
 unfoldable pub linesAt : List Field → List ℕ → ℕ → Lines
 linesAt T s i = linesFrom (suc (length s)) T s unseen [] i
 
+-- the lines before the end, or before one that is refused
+abbrev pub onwardRead : (List Bool → List Entry → ℕ → List Entry) → List Field → List Bool → List Entry → Next → List Entry
+onwardRead more T m xs (entry x j) = more (marked (length T) m (fieldIndex T (x .name))) (xs ++ (x ∷ [])) j
+onwardRead more T m xs end = xs
+onwardRead more T m xs (wrong r) = xs
+
+unfoldable pub readFrom : ℕ → List Field → List ℕ → List Bool → List Entry → ℕ → List Entry
+readFrom zero T s m xs i = xs
+readFrom (suc f) T s m xs i = onwardRead (readFrom f T s) T m xs (lineAt T m s i)
+
+unfoldable pub linesRead : List Field → List ℕ → ℕ → List Entry
+linesRead T s i = readFrom (suc (length s)) T s unseen [] i
+
 -- what is kept of lines, one after the other
 unfoldable pub kept : {A : Type 0} → (A → Entry → A) → A → List Entry → A
 kept f a [] = a

@@ -3,13 +3,16 @@ use mathlib.Core.Path.{_≡_, refl, sym, ap, ap₂, _∙_}
 use mathlib.Core.Bool.{Bool, true, false}
 use mathlib.Core.List.{List}
 use mathlib.Core.Option.{some, none}
-use Prim.Native.Nat.{ℕ}
+use Prim.Native.Nat.{ℕ, zero, suc}
+use native.Mathlib.Omega.{arith}
+use borrow.Author.Tests.{ne-eqb}
 use Rattle.written.specs.Bytes.{same}
 use Rattle.written.specs.HeaderText as says
 use Rattle.written.specs.HeaderText.{Entry, text, number, flag, texts, range, ranges, perhaps, unread}
 use Rattle.written.specs.Record.{position-group}
 use Rattle.error.specs.declared.Refusal.{Refusal}
 use Rattle.header.specs.declared.PositionData.{PositionData}
+use Rattle.header_words.specs.Words.{flat, positionWords}
 use Rattle.de.specs.declared.Cursor.{Cursor}
 use Rattle.de_lists.specs.declared.Outcome.{Outcome}
 use Rattle.de_lists.specs.declared.Outcome.the-variants as outcome
@@ -22,7 +25,7 @@ use Rattle.header_lines.specs.declared.Step.the-variants as step
 use Rattle.header_lines.proofs.Going.{entry-of, end-of, wrong-of}
 use Rattle.groups.specs.Rows.{bytesOf, rowLineAt, on, stop-with}
 use Rattle.groups.specs.declared.Row.{Row}
-use Rattle.header_position.specs.Group.{stored, withLine, afterLine, withRow}
+use Rattle.header_position.specs.Group.{stored, storedIn, withLine, afterLine, withRow}
 use Rattle.header_position.specs.declared.Group.{Group}
 
 any : (d : PositionData) (k : ℕ) (o p : Outcome) (v : says.Value) → stored d k (valueOf o v) ≡ stored d k (valueOf p v)
@@ -40,6 +43,19 @@ any d k o p (unread x) = refl
 pub stored-line : (d : PositionData) (x : Entry) (o : Outcome) {k : ℕ} {u : Value} → k ≡ fieldIndex position-group (x .name) → u ≡ valueOf o (x .value) → stored d k u ≡ withLine d x
 unfolding withLine
 stored-line d x o e f = rw (e, f) (any d _ _ _ (x .value))
+
+-- the words of a group with a value are the group's words with it
+pub stored-words : (d : PositionData) (k : ℕ) (v : Value) → storedIn (positionWords d) k v ≡ positionWords (stored d k v)
+unfolding stored storedIn positionWords flat
+stored-words d zero v = refl
+stored-words d (suc zero) v = refl
+stored-words d (suc (suc zero)) v = refl
+stored-words d (suc (suc (suc zero))) v = refl
+stored-words d (suc (suc (suc (suc zero)))) v = refl
+stored-words d (suc (suc (suc (suc (suc k))))) v = rw (ne-eqb m 0 (λ e. omega arith), ne-eqb m 1 (λ e. omega arith), ne-eqb m 2 (λ e. omega arith), ne-eqb m 3 (λ e. omega arith), ne-eqb m 4 (λ e. omega arith))
+  where
+    m : ℕ
+    m = suc (suc (suc (suc (suc k))))
 
 -- ---- a row of the group, or of another one
 

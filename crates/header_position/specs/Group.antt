@@ -1,18 +1,18 @@
 -- What the rows of a group make of `PositionData`. Assumes nothing.
-use mathlib.Core.Bool.{Bool, true, false, cond}
-use mathlib.Core.List.{List}
+use mathlib.Core.Bool.{cond}
+use mathlib.Core.List.{List, [], _∷_, _++_}
 use Prim.Native.Nat.{ℕ}
 use lib.Dec.{eqb}
+use lib.Seq.{sets}
 use Rattle.written.specs.Bytes.{same}
 use Rattle.written.specs.HeaderText.{Entry}
 use Rattle.written.specs.Record.{position-group}
-use Rattle.error.specs.declared.Refusal.{Refusal}
 use Rattle.error.specs.declared.Refusal.the-variants as refusal
 use Rattle.header.specs.Empty.{emptyPosition}
 use Rattle.header.specs.declared.Span.{Span}
+use Rattle.header_words.specs.Words.{flagWord, rangeWords, rangesWords}
 use Rattle.header.specs.declared.PositionData.{PositionData}
 use Rattle.de.specs.Values.{cursor}
-use Rattle.de_lists.specs.Lists.{firsts}
 use Rattle.de_lists.specs.declared.Outcome.the-variants as outcome
 use Rattle.de_values.specs.Values.{valueOf}
 use Rattle.de_values.specs.declared.Value.{Value}
@@ -39,6 +39,15 @@ stored d k v =
       «gv_tree» = cond (eqb k 4) (v .range) (d .«gv_tree»);
       «has_gv_tree» = cond (eqb k 4) (v .flag) (d .«has_gv_tree»);
     }
+
+-- the same among a group's words
+unfoldable pub storedIn : List ℕ → ℕ → Value → List ℕ
+storedIn t k v =
+    cond (eqb k 0) (sets t 2 (rangesWords 8 (v .ranges .items) ++ (v .ranges .count ∷ [])))
+    (cond (eqb k 1) (sets t 19 (rangeWords (v .range)))
+    (cond (eqb k 2) (sets t 21 (rangeWords (v .range)))
+    (cond (eqb k 3) (sets t 23 (rangeWords (v .range) ++ (flagWord (v .flag) ∷ [])))
+    (cond (eqb k 4) (sets t 26 (rangeWords (v .range) ++ (flagWord (v .flag) ∷ []))) t))))
 
 -- a line's value in its field
 unfoldable pub withLine : PositionData → Entry → PositionData

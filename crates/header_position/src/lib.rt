@@ -1,4 +1,4 @@
-// After header/mod.rs, `PositionData`: the fields of a group of [POSITION], row by row into the struct (01, 'Header text', its third paragraph).
+// After header/mod.rs, `PositionData`: the fields of a group of [POSITION], row by row into the words of the record (01, 'Header text', its third paragraph).
 // Assumes nothing.
 use de::Cursor;
 use de_values::Value;
@@ -14,9 +14,23 @@ use header_fields::missing;
 use header_lines::Step;
 use header_lines::Verdict;
 use header_lines::mark;
+use header_put::put_range;
+use header_put::put_ranges;
+use header_put::put_span;
+use header_put::put1;
+use header_words::GV_PDF;
+use header_words::GV_TREE;
+use header_words::HAS_GV_PDF;
+use header_words::HAS_GV_TREE;
+use header_words::STREAM_PDF;
+use header_words::STREAM_TREE;
+use header_words::STREAM_WIN;
+use header_words::STREAM_WIN_COUNT;
 ghost use mathlib.Core.Path.{_≡_};
-ghost use Rattle.groups.specs.Rows.{bytesOf, rowsAt, stop-with, over};
-ghost use Rattle.header_position.specs.Group.{named, stored, withRow, groupIn};
+ghost use lib.ListN.{length, replicate};
+ghost use Rattle.groups.specs.Rows.{bytesOf, rowsAt, over, lastOf};
+ghost use Rattle.header_words.specs.Words.{positionWords};
+ghost use Rattle.header_position.specs.Group.{named, storedIn, withRow, groupIn};
 
 // A group while it is read, as the contract speaks of it: which fields stood, and their values.
 pub struct Group {
@@ -30,58 +44,48 @@ pub struct GroupRead {
     pub item: PositionData,
 }
 
-// The struct with the value of a field; an unknown one's is dropped.
-pub fn store(item: PositionData, field: usize, v: Value) -> PositionData
-    ensures { λ r. ⌜ r ≡ stored item field v ⌝ }
+// A value where the group has its field; an unknown one's is dropped.
+fn store(item: &mut [u64], field: usize, v: Value)
+    requires { ⌜ length (now item) ≡ 29 ⌝ }
+    ensures { λ r. ⌜ now (item .exit) ≡ storedIn (now (item .entry)) field v ⌝ }
 {
-    let mut d = item;
     match field {
         0 => {
             let l = v.ranges;
             let x = l.items;
-            d.stream_win = x;
-            d.stream_win_count = l.count;
+            put_ranges(item, STREAM_WIN, x);
+            put1(item, STREAM_WIN_COUNT, l.count as u64);
         }
         1 => {
             let x = v.range;
-            d.stream_pdf = x;
+            put_range(item, STREAM_PDF, x);
         }
         2 => {
             let x = v.range;
-            d.stream_tree = x;
+            put_range(item, STREAM_TREE, x);
         }
         3 => {
             let x = v.range;
-            d.gv_pdf = x;
-            d.has_gv_pdf = v.flag;
+            put_range(item, GV_PDF, x);
+            put1(item, HAS_GV_PDF, v.flag as u64);
         }
         4 => {
             let x = v.range;
-            d.gv_tree = x;
-            d.has_gv_tree = v.flag;
+            put_range(item, GV_TREE, x);
+            put1(item, HAS_GV_TREE, v.flag as u64);
         }
         _ => {}
     }
-    d
 }
 
-fn refused(refusal: Refusal) -> GroupRead
-    ensures { λ r. ⌜ r ≡ groupIn (stop-with refusal) ⌝ }
-{
-    GroupRead {
-        verdict: Verdict::Refused(refusal),
-        item: PositionData::none(),
-    }
-}
-
-// The group of that name, out of the rows of the section that starts at `start`.
-pub fn read_group(s: &[u8], start: usize, name: Span) -> GroupRead
-    ensures { λ r. ⌜ r ≡ groupIn (over (withRow (now (s .entry)) (bytesOf (now (s .entry)) name)) (named name) (rowsAt (now (s .entry)) start)) ⌝ }
+// The group of that name into its words, out of the rows of the section that starts at `start`; where it is refused, what stood before the fault.
+pub fn read_group(s: &[u8], start: usize, name: Span, item: &mut [u64]) -> Verdict
+    requires { ⌜ now item ≡ replicate 29 0 ⌝ }
+    ensures { λ r. ⌜ (r ≡ groupIn (over (withRow (now (s .entry)) (bytesOf (now (s .entry)) name)) (named name) (rowsAt (now (s .entry)) start)) .verdict) × (now (item .exit) ≡ positionWords (lastOf (withRow (now (s .entry)) (bytesOf (now (s .entry)) name)) (named name) (rowsAt (now (s .entry)) start) .item)) ⌝ }
 {
     let mut at = Cursor { at: start };
     let mut seen = [false; 10];
-    let mut item = PositionData::none();
-    item.name = name;
+    put_span(item, 0, name);
     loop {
         match row_at(at, s) {
             RowAt::Found(row) => {
@@ -96,12 +100,11 @@ pub fn read_group(s: &[u8], start: usize, name: Span) -> GroupRead
                             let value = l.value;
                             let with_field = mark(seen, field, 5);
                             seen = with_field;
-                            let with_value = store(item, field, value);
-                            item = with_value;
+                            store(item, field, value);
                         }
                         Step::End => {}
                         Step::Refused(refusal) => {
-                            return refused(refusal);
+                            return Verdict::Refused(refusal);
                         }
                     }
                 }
@@ -111,12 +114,9 @@ pub fn read_group(s: &[u8], start: usize, name: Span) -> GroupRead
             }
             RowAt::End => {
                 if missing(seen, 3) {
-                    return refused(Refusal::Field);
+                    return Verdict::Refused(Refusal::Field);
                 }
-                return GroupRead {
-                    verdict: Verdict::Accepted,
-                    item,
-                };
+                return Verdict::Accepted;
             }
         }
     }

@@ -1,19 +1,28 @@
 // After header/mod.rs and deserialize_hashmap.rs: the groups of [POSITION] by first appearance, and the limits on their counts (01, 'What the loader
-// covers', 'Header text'). The first 8 groups are kept; a row of a later one has its group read anew, for its faults alone. Assumes nothing.
+// covers', 'Header text'). The first 8 groups are kept, in the words of the record; a row of a later one has its group read anew, for its faults alone. Assumes nothing.
 use de::Cursor;
-use error::Refusal;
+use group_words::judge;
+use group_words::known;
 use groups::Names;
-use groups::Row;
 use groups::RowAt;
 use groups::row_at;
 use header::PositionData;
 use header_lines::Verdict;
 use header_position::read_group;
+use header_put::put_all;
+use header_put::put1;
+use header_words::POSITION_COUNT;
+use header_words::POSITION_WORDS;
+use header_words::POSITIONS;
+use header_words::STREAM_WIN_COUNT;
 ghost use mathlib.Core.Path.{_≡_};
-ghost use Rattle.groups.specs.Rows.{rowsAt, stop-with, over};
-ghost use Rattle.header_positions.specs.Groups.{noPositions, withPositions, manyOver, withGroup, foundIn, judged, groupsIn};
+ghost use Prim.Native.Nat.{_≤_};
+ghost use lib.ListN.{length};
+ghost use Rattle.groups.specs.Rows.{rowsAt, over, lastOf};
+ghost use Rattle.header_words.specs.Words.{Zeros};
+ghost use Rattle.header_positions.specs.Groups.{noPositions, withGroup, groupsIn, wordsIn};
 
-// The groups: their names, and what the first 8 say.
+// The groups as the contract speaks of them: their names, and what the first 8 say.
 pub struct Positions {
     pub names: Names,
     pub items: [PositionData; 8],
@@ -25,127 +34,34 @@ pub struct GroupsRead {
     pub positions: Positions,
 }
 
-impl Positions {
-    pub fn none() -> Positions
-        ensures { λ r. ⌜ r ≡ noPositions ⌝ }
-    {
-        let item = PositionData::none();
-        Positions {
-            names: Names::none(),
-            items: [item; 8],
-        }
-    }
-
-    // With one more.
-    fn push(self, item: PositionData) -> Positions
-        ensures { λ r. ⌜ r ≡ withPositions self item ⌝ }
-    {
-        let names = self.names;
-        let n = names.count;
-        let mut items = self.items;
-        let name = item.name;
-        let all = names.push(name);
-        if n < 8 {
-            items[n] = item;
-        }
-        Positions { names: all, items }
-    }
-
-    // Whether one of the first n has more windows than its limit.
-    fn too_many(self, n: usize) -> bool
-        ensures { λ r. ⌜ r ≡ manyOver (self .items) n ⌝ }
-    {
-        let mut k = n;
-        while 0 < k {
-            k = k - 1;
-            if k < 8 {
-                let item = self.items[k];
-                if 8 < item.stream_win_count {
-                    return true;
-                }
-            }
-        }
-        false
-    }
-}
-
-fn refused(refusal: Refusal, none: Positions) -> GroupsRead
-    requires { ⌜ none ≡ noPositions ⌝ }
-    ensures { λ r. ⌜ r ≡ groupsIn (stop-with refusal) ⌝ }
-{
-    GroupsRead {
-        verdict: Verdict::Refused(refusal),
-        positions: none,
-    }
-}
-
-// The limits on counts.
-fn judge(positions: Positions, none: Positions) -> GroupsRead
-    requires { ⌜ none ≡ noPositions ⌝ }
-    ensures { λ r. ⌜ r ≡ judged positions ⌝ }
-{
-    let names = positions.names;
-    if 8 < names.count {
-        return refused(Refusal::Limit, none);
-    }
-    if positions.too_many(8) {
-        return refused(Refusal::Limit, none);
-    }
-    GroupsRead {
-        verdict: Verdict::Accepted,
-        positions,
-    }
-}
-
-// The groups with that of a row, unless it is known.
-fn take_group(positions: Positions, s: &[u8], start: usize, row: Row) -> GroupsRead
-    ensures { λ r. ⌜ r ≡ foundIn positions (withGroup (now (s .entry)) start positions row) ⌝ }
-{
-    let names = positions.names;
-    let name = row.name;
-    if names.known(s, name) {
-        return GroupsRead {
-            verdict: Verdict::Accepted,
-            positions,
-        };
-    }
-    let g = read_group(s, start, name);
-    let verdict = g.verdict;
-    match verdict {
-        Verdict::Accepted => {
-            let item = g.item;
-            GroupsRead {
-                verdict: Verdict::Accepted,
-                positions: positions.push(item),
-            }
-        }
-        Verdict::Refused(refusal) => GroupsRead {
-            verdict: Verdict::Refused(refusal),
-            positions,
-        },
-    }
-}
-
-// The groups of the section whose text runs from `start` to the end of s, and whose lines are whole.
-// `none` is Positions::none(): the caller makes it once and hands it on, since the compiler builds it anew wherever it is written.
-pub fn read_groups(s: &[u8], start: usize, none: Positions) -> GroupsRead
-    requires { ⌜ none ≡ noPositions ⌝ }
-    ensures { λ r. ⌜ r ≡ groupsIn (over (withGroup (now (s .entry)) start) noPositions (rowsAt (now (s .entry)) start)) ⌝ }
+// The groups of the section whose text runs from `start` to the end of s, and whose lines are whole, into the words of the record; where one is refused,
+// those before it.
+pub fn read_groups(s: &[u8], start: usize, words: &mut [u64]) -> Verdict
+    requires { ⌜ (645 ≤ length (now words)) × Zeros (now words) 412 232 ⌝ }
+    ensures { λ r. ⌜ (r ≡ groupsIn (over (withGroup (now (s .entry)) start) noPositions (rowsAt (now (s .entry)) start)) .verdict) × (now (words .exit) ≡ wordsIn (now (words .entry)) (over (withGroup (now (s .entry)) start) noPositions (rowsAt (now (s .entry)) start)) (lastOf (withGroup (now (s .entry)) start) noPositions (rowsAt (now (s .entry)) start))) ⌝ }
 {
     let mut at = Cursor { at: start };
-    let mut positions = none;
+    let mut n = 0;
     loop {
         match row_at(at, s) {
             RowAt::Found(row) => {
-                let t = take_group(positions, s, start, row);
-                let verdict = t.verdict;
-                match verdict {
-                    Verdict::Accepted => {
-                        positions = t.positions;
-                        at = Cursor { at: row.end };
-                    }
-                    Verdict::Refused(refusal) => {
-                        return refused(refusal, none);
+                at = Cursor { at: row.end };
+                let name = row.name;
+                if !known(s, words, POSITIONS, POSITION_WORDS, n, name) {
+                    // A ninth is read for its faults alone.
+                    let mut item: [u64; 29] = [0; 29];
+                    match read_group(s, start, name, &mut item) {
+                        Verdict::Accepted => {
+                            if n < 8 {
+                                put_all(words, POSITIONS + POSITION_WORDS * n, &item);
+                                n = n + 1;
+                            } else {
+                                n = 9;
+                            }
+                        }
+                        Verdict::Refused(refusal) => {
+                            return Verdict::Refused(refusal);
+                        }
                     }
                 }
             }
@@ -153,7 +69,8 @@ pub fn read_groups(s: &[u8], start: usize, none: Positions) -> GroupsRead
                 at = next;
             }
             RowAt::End => {
-                return judge(positions, none);
+                put1(words, POSITION_COUNT, n as u64);
+                return judge(words, POSITIONS + STREAM_WIN_COUNT, POSITION_WORDS, 8, n);
             }
         }
     }

@@ -1,102 +1,45 @@
--- Parts of a record laid one behind another are its words. Each law takes the words after each store. Assumes nothing.
-use mathlib.Core.Path.{_≡_, _∙_}
+-- Words copied one by one are stored as a whole; parts of a record laid one behind another are its words. Assumes nothing.
+use mathlib.Core.Path.{_≡_, refl, sym, ap, ap₂, _∙_}
 use mathlib.Core.List.{List, [], _∷_, _++_}
-use Prim.Native.Nat.{ℕ, _+_}
+use Prim.Native.Nat.{ℕ, zero, suc, _+_, _≤_, _<_}
+use native.Mathlib.Numerals.{add-one}
 use native.Mathlib.Omega.{arith}
-use lib.ListN.{length}
-use lib.Seq.{sets}
-use Rattle.header.specs.declared.Global.{Global}
-use Rattle.header.specs.declared.StreamData.{StreamData}
-use Rattle.header.specs.declared.PositionData.{PositionData}
+use lib.ListN.{length, getD, set, drop, length-set, drop-of-length-le}
+use lib.Seq.{sets, drop-cons}
 use Rattle.header.specs.declared.Header.{Header}
-use Rattle.header_words.specs.Words.{flagWord, spanWords, rangeWords, spansWords, rangesWords, globalWords, streamWords, positionWords, streamsWords, positionsWords, headerWords}
+use Rattle.header_words.specs.Words.{globalWords, streamsWords, positionsWords, headerWords}
 use Rattle.header_words.proofs.Items.{laid-before}
-use Rattle.header_words.proofs.Lengths.{length-spans, length-ranges, length-global, length-streams, length-positions}
+use Rattle.header_words.proofs.Lengths.{length-global, length-streams, length-positions}
 
-pub global-laid : (g : Global) (i : ℕ) (t t₁ t₂ t₃ t₄ t₅ t₆ t₇ : List ℕ)
-    → t₁ ≡ sets t i (spanWords (g .«hts_voice_version»))
-    → t₂ ≡ sets t₁ (i + 2) (g .«sampling_frequency» ∷ g .«frame_period» ∷ g .«num_states» ∷ g .«num_streams» ∷ [])
-    → t₃ ≡ sets t₂ (i + 6) (spansWords 8 (g .«stream_type»))
-    → t₄ ≡ sets t₃ (i + 22) (g .«stream_type_count» ∷ [])
-    → t₅ ≡ sets t₄ (i + 23) (g .«fullcontext_format» .start ∷ g .«fullcontext_format» .len ∷ g .«fullcontext_version» .start ∷ g .«fullcontext_version» .len ∷ [])
-    → t₆ ≡ sets t₅ (i + 27) (spansWords 32 (g .«gv_off_context»))
-    → t₇ ≡ sets t₆ (i + 91) (g .«gv_off_context_count» ∷ g .comment .start ∷ g .comment .len ∷ flagWord (g .«has_comment») ∷ [])
-    → t₇ ≡ sets t i (globalWords g)
-unfolding globalWords
-global-laid g i t t₁ t₂ t₃ t₄ t₅ t₆ t₇ e₁ e₂ e₃ e₄ e₅ e₆ e₇ =
-    let y₇ : List ℕ = g .«gv_off_context_count» ∷ g .comment .start ∷ g .comment .len ∷ flagWord (g .«has_comment») ∷ [] in
-    let y₆ : List ℕ = (spansWords 32 (g .«gv_off_context»)) ++ y₇ in
-    let y₅ : List ℕ = (g .«fullcontext_format» .start ∷ g .«fullcontext_format» .len ∷ g .«fullcontext_version» .start ∷ g .«fullcontext_version» .len ∷ []) ++ y₆ in
-    let y₄ : List ℕ = (g .«stream_type_count» ∷ []) ++ y₅ in
-    let y₃ : List ℕ = (spansWords 8 (g .«stream_type»)) ++ y₄ in
-    let y₂ : List ℕ = (g .«sampling_frequency» ∷ g .«frame_period» ∷ g .«num_states» ∷ g .«num_streams» ∷ []) ++ y₃ in
-    let q₆ : i + 91 ≡ i + 27 + length (spansWords 32 (g .«gv_off_context»)) = omega (arith, length-spans 32 (g .«gv_off_context»)) in
-    let q₅ : i + 27 ≡ i + 23 + 4 = omega arith in
-    let q₄ : i + 23 ≡ i + 22 + 1 = omega arith in
-    let q₃ : i + 22 ≡ i + 6 + length (spansWords 8 (g .«stream_type»)) = omega (arith, length-spans 8 (g .«stream_type»)) in
-    let q₂ : i + 6 ≡ i + 2 + 4 = omega arith in
-    let q₁ : i + 2 ≡ i + 2 = omega arith in
-    e₇
-    ∙ laid-before t₅ t₆ (i + 27) (i + 91) (spansWords 32 (g .«gv_off_context»)) y₇ e₆ q₆
-    ∙ laid-before t₄ t₅ (i + 23) (i + 27) (g .«fullcontext_format» .start ∷ g .«fullcontext_format» .len ∷ g .«fullcontext_version» .start ∷ g .«fullcontext_version» .len ∷ []) y₆ e₅ q₅
-    ∙ laid-before t₃ t₄ (i + 22) (i + 23) (g .«stream_type_count» ∷ []) y₅ e₄ q₄
-    ∙ laid-before t₂ t₃ (i + 6) (i + 22) (spansWords 8 (g .«stream_type»)) y₄ e₃ q₃
-    ∙ laid-before t₁ t₂ (i + 2) (i + 6) (g .«sampling_frequency» ∷ g .«frame_period» ∷ g .«num_states» ∷ g .«num_streams» ∷ []) y₃ e₂ q₂
-    ∙ laid-before t t₁ i (i + 2) (spanWords (g .«hts_voice_version»)) y₂ e₁ q₁
+-- ---- words that are copied
 
-pub stream-laid : (d : StreamData) (i : ℕ) (t t₁ t₂ t₃ t₄ : List ℕ)
-    → t₁ ≡ sets t i (spanWords (d .name))
-    → t₂ ≡ sets t₁ (i + 2) (d .«vector_length» ∷ d .«num_windows» ∷ flagWord (d .«is_msd») ∷ flagWord (d .«use_gv») ∷ [])
-    → t₃ ≡ sets t₂ (i + 6) (spansWords 16 (d .option))
-    → t₄ ≡ sets t₃ (i + 38) (d .«option_count» ∷ [])
-    → t₄ ≡ sets t i (streamWords d)
-unfolding streamWords
-stream-laid d i t t₁ t₂ t₃ t₄ e₁ e₂ e₃ e₄ =
-    let y₄ : List ℕ = d .«option_count» ∷ [] in
-    let y₃ : List ℕ = (spansWords 16 (d .option)) ++ y₄ in
-    let y₂ : List ℕ = (d .«vector_length» ∷ d .«num_windows» ∷ flagWord (d .«is_msd») ∷ flagWord (d .«use_gv») ∷ []) ++ y₃ in
-    let q₃ : i + 38 ≡ i + 6 + length (spansWords 16 (d .option)) = omega (arith, length-spans 16 (d .option)) in
-    let q₂ : i + 6 ≡ i + 2 + 4 = omega arith in
-    let q₁ : i + 2 ≡ i + 2 = omega arith in
-    e₄
-    ∙ laid-before t₂ t₃ (i + 6) (i + 38) (spansWords 16 (d .option)) y₄ e₃ q₃
-    ∙ laid-before t₁ t₂ (i + 2) (i + 6) (d .«vector_length» ∷ d .«num_windows» ∷ flagWord (d .«is_msd») ∷ flagWord (d .«use_gv») ∷ []) y₃ e₂ q₂
-    ∙ laid-before t t₁ i (i + 2) (spanWords (d .name)) y₂ e₁ q₁
+-- the first k words of a list stand from i on, and the others stored behind them give the whole
+pub record Copying (xs : List ℕ) (i : ℕ) (t₀ t : List ℕ) (k : ℕ) : Type 0 where
+  pub long : length t ≡ length t₀
+  pub whole : sets t (i + k) (drop k xs) ≡ sets t₀ i xs
 
-pub position-laid : (d : PositionData) (i : ℕ) (t t₁ t₂ t₃ t₄ t₅ t₆ t₇ t₈ : List ℕ)
-    → t₁ ≡ sets t i (spanWords (d .name))
-    → t₂ ≡ sets t₁ (i + 2) (rangesWords 8 (d .«stream_win»))
-    → t₃ ≡ sets t₂ (i + 18) (d .«stream_win_count» ∷ [])
-    → t₄ ≡ sets t₃ (i + 19) (d .«stream_pdf» .from ∷ d .«stream_pdf» .to ∷ d .«stream_tree» .from ∷ d .«stream_tree» .to ∷ [])
-    → t₅ ≡ sets t₄ (i + 23) (rangeWords (d .«gv_pdf»))
-    → t₆ ≡ sets t₅ (i + 25) (flagWord (d .«has_gv_pdf») ∷ [])
-    → t₇ ≡ sets t₆ (i + 26) (rangeWords (d .«gv_tree»))
-    → t₈ ≡ sets t₇ (i + 28) (flagWord (d .«has_gv_tree») ∷ [])
-    → t₈ ≡ sets t i (positionWords d)
-unfolding positionWords
-position-laid d i t t₁ t₂ t₃ t₄ t₅ t₆ t₇ t₈ e₁ e₂ e₃ e₄ e₅ e₆ e₇ e₈ =
-    let y₈ : List ℕ = flagWord (d .«has_gv_tree») ∷ [] in
-    let y₇ : List ℕ = (rangeWords (d .«gv_tree»)) ++ y₈ in
-    let y₆ : List ℕ = (flagWord (d .«has_gv_pdf») ∷ []) ++ y₇ in
-    let y₅ : List ℕ = (rangeWords (d .«gv_pdf»)) ++ y₆ in
-    let y₄ : List ℕ = (d .«stream_pdf» .from ∷ d .«stream_pdf» .to ∷ d .«stream_tree» .from ∷ d .«stream_tree» .to ∷ []) ++ y₅ in
-    let y₃ : List ℕ = (d .«stream_win_count» ∷ []) ++ y₄ in
-    let y₂ : List ℕ = (rangesWords 8 (d .«stream_win»)) ++ y₃ in
-    let q₇ : i + 28 ≡ i + 26 + 2 = omega arith in
-    let q₆ : i + 26 ≡ i + 25 + 1 = omega arith in
-    let q₅ : i + 25 ≡ i + 23 + 2 = omega arith in
-    let q₄ : i + 23 ≡ i + 19 + 4 = omega arith in
-    let q₃ : i + 19 ≡ i + 18 + 1 = omega arith in
-    let q₂ : i + 18 ≡ i + 2 + length (rangesWords 8 (d .«stream_win»)) = omega (arith, length-ranges 8 (d .«stream_win»)) in
-    let q₁ : i + 2 ≡ i + 2 = omega arith in
-    e₈
-    ∙ laid-before t₆ t₇ (i + 26) (i + 28) (rangeWords (d .«gv_tree»)) y₈ e₇ q₇
-    ∙ laid-before t₅ t₆ (i + 25) (i + 26) (flagWord (d .«has_gv_pdf») ∷ []) y₇ e₆ q₆
-    ∙ laid-before t₄ t₅ (i + 23) (i + 25) (rangeWords (d .«gv_pdf»)) y₆ e₅ q₅
-    ∙ laid-before t₃ t₄ (i + 19) (i + 23) (d .«stream_pdf» .from ∷ d .«stream_pdf» .to ∷ d .«stream_tree» .from ∷ d .«stream_tree» .to ∷ []) y₅ e₄ q₄
-    ∙ laid-before t₂ t₃ (i + 18) (i + 19) (d .«stream_win_count» ∷ []) y₄ e₃ q₃
-    ∙ laid-before t₁ t₂ (i + 2) (i + 18) (rangesWords 8 (d .«stream_win»)) y₃ e₂ q₂
-    ∙ laid-before t t₁ i (i + 2) (spanWords (d .name)) y₂ e₁ q₁
+module _ (xs : List ℕ) (i : ℕ) (t₀ : List ℕ) where
+  pub copying-none : Copying xs i t₀ t₀ 0
+  copying-none = record { long = refl; whole = ap (λ (j : ℕ). sets t₀ j xs) (omega arith) }
+
+  module _ (t : List ℕ) (k : ℕ) (c : Copying xs i t₀ t k) where
+    pub copying-more : k < length xs → Copying xs i t₀ (set t (i + k) (getD xs k 0)) (k + 1)
+    copying-more h =
+        record {
+          long = length-set t (i + k) (getD xs k 0) ∙ c .long;
+          whole =
+              ap₂ (λ (j m : ℕ). sets (set t (i + k) (getD xs k 0)) j (drop m xs)) the-place (add-one k)
+              ∙ sym (ap (λ (l : List ℕ). sets t (i + k) l) (drop-cons xs k 0 h))
+              ∙ c .whole;
+        }
+      where
+        the-place : i + (k + 1) ≡ suc (i + k)
+        the-place = omega arith
+
+    pub copying-done : length xs ≤ k → t ≡ sets t₀ i xs
+    copying-done h = sym (ap (λ (l : List ℕ). sets t (i + k) l) (drop-of-length-le xs {i = k} h)) ∙ c .whole
+
+-- ---- the parts of a record; the law takes the words after each store
 
 pub header-laid : (h : Header) (t t₁ t₂ t₃ t₄ t₅ t₆ t₇ : List ℕ)
     → t₁ ≡ sets t 0 (globalWords (h .global))

@@ -3,14 +3,18 @@ use mathlib.Core.Path.{_≡_, refl, sym, ap, ap₂, _∙_}
 use mathlib.Core.Bool.{Bool, true, false}
 use mathlib.Core.List.{List}
 use mathlib.Core.Option.{some, none}
-use Prim.Native.Nat.{ℕ}
+use Prim.Native.Nat.{ℕ, zero, suc}
+use native.Mathlib.Omega.{arith}
+use borrow.Author.Tests.{ne-eqb}
 use Rattle.written.specs.Bytes.{same}
 use Rattle.written.specs.HeaderText as says
 use Rattle.written.specs.HeaderText.{Entry, text, number, flag, texts, range, ranges, perhaps, unread}
 use Rattle.written.specs.Record.{stream-group}
 use Rattle.error.specs.declared.Refusal.{Refusal}
 use Rattle.header.specs.declared.StreamData.{StreamData}
+use Rattle.header_words.specs.Words.{flat, streamWords}
 use Rattle.de.specs.declared.Cursor.{Cursor}
+use Rattle.de_lists.specs.Lists.{firsts}
 use Rattle.de_lists.specs.declared.Outcome.{Outcome}
 use Rattle.de_lists.specs.declared.Outcome.the-variants as outcome
 use Rattle.de_values.specs.Values.{valueOf}
@@ -22,7 +26,7 @@ use Rattle.header_lines.specs.declared.Step.the-variants as step
 use Rattle.header_lines.proofs.Going.{entry-of, end-of, wrong-of}
 use Rattle.groups.specs.Rows.{bytesOf, rowLineAt, on, stop-with}
 use Rattle.groups.specs.declared.Row.{Row}
-use Rattle.header_stream.specs.Group.{stored, withLine, afterLine, withRow}
+use Rattle.header_stream.specs.Group.{stored, storedIn, withLine, afterLine, withRow}
 use Rattle.header_stream.specs.declared.Group.{Group}
 
 any : (d : StreamData) (k : ℕ) (o p : Outcome) (v : says.Value) → stored d k (valueOf o v) ≡ stored d k (valueOf p v)
@@ -40,6 +44,19 @@ any d k o p (unread x) = refl
 pub stored-line : (d : StreamData) (x : Entry) (o : Outcome) {k : ℕ} {u : Value} → k ≡ fieldIndex stream-group (x .name) → u ≡ valueOf o (x .value) → stored d k u ≡ withLine d x
 unfolding withLine
 stored-line d x o e f = rw (e, f) (any d _ _ _ (x .value))
+
+-- the words of a group with a value are the group's words with it
+pub stored-words : (d : StreamData) (k : ℕ) (v : Value) → storedIn (streamWords d) k v ≡ streamWords (stored d k v)
+unfolding stored storedIn streamWords flat firsts
+stored-words d zero v = refl
+stored-words d (suc zero) v = refl
+stored-words d (suc (suc zero)) v = refl
+stored-words d (suc (suc (suc zero))) v = refl
+stored-words d (suc (suc (suc (suc zero)))) v = refl
+stored-words d (suc (suc (suc (suc (suc k))))) v = rw (ne-eqb m 0 (λ e. omega arith), ne-eqb m 1 (λ e. omega arith), ne-eqb m 2 (λ e. omega arith), ne-eqb m 3 (λ e. omega arith), ne-eqb m 4 (λ e. omega arith))
+  where
+    m : ℕ
+    m = suc (suc (suc (suc (suc k))))
 
 -- ---- a row of the group, or of another one
 

@@ -1,15 +1,16 @@
 -- What the rows of a group make of `StreamData`. Assumes nothing.
-use mathlib.Core.Bool.{Bool, true, false, cond}
-use mathlib.Core.List.{List}
+use mathlib.Core.Bool.{cond}
+use mathlib.Core.List.{List, [], _∷_, _++_}
 use Prim.Native.Nat.{ℕ}
 use lib.Dec.{eqb}
+use lib.Seq.{sets}
 use Rattle.written.specs.Bytes.{same}
 use Rattle.written.specs.HeaderText.{Entry}
 use Rattle.written.specs.Record.{stream-group}
-use Rattle.error.specs.declared.Refusal.{Refusal}
 use Rattle.error.specs.declared.Refusal.the-variants as refusal
 use Rattle.header.specs.Empty.{emptyStream}
 use Rattle.header.specs.declared.Span.{Span}
+use Rattle.header_words.specs.Words.{flagWord, spansWords}
 use Rattle.header.specs.declared.StreamData.{StreamData}
 use Rattle.de.specs.Values.{cursor}
 use Rattle.de_lists.specs.Lists.{firsts}
@@ -37,6 +38,14 @@ stored d k v =
       option = cond (eqb k 4) (firsts 16 (v .spans .items) 0) (d .option);
       «option_count» = cond (eqb k 4) (v .spans .count) (d .«option_count»);
     }
+
+-- the same among a group's words
+unfoldable pub storedIn : List ℕ → ℕ → Value → List ℕ
+storedIn t k v =
+    cond (eqb k 0) (sets t 2 (v .number ∷ []))
+    (cond (eqb k 1) (sets t 3 (v .number ∷ []))
+    (cond (eqb k 2) (sets t 4 (flagWord (v .flag) ∷ []))
+    (cond (eqb k 3) (sets t 5 (flagWord (v .flag) ∷ [])) (cond (eqb k 4) (sets t 6 (spansWords 16 (v .spans .items) ++ (v .spans .count ∷ []))) t))))
 
 -- a line's value in its field
 unfoldable pub withLine : StreamData → Entry → StreamData

@@ -1,4 +1,4 @@
-// After header/mod.rs, `StreamData`: the fields of a group of [STREAM], row by row into the struct (01, 'Header text', its third paragraph).
+// After header/mod.rs, `StreamData`: the fields of a group of [STREAM], row by row into the words of the record (01, 'Header text', its third paragraph).
 // Assumes nothing.
 use de::Cursor;
 use de_values::Value;
@@ -14,9 +14,20 @@ use header_fields::missing;
 use header_lines::Step;
 use header_lines::Verdict;
 use header_lines::mark;
+use header_put::put_span;
+use header_put::put_spans;
+use header_put::put1;
+use header_words::IS_MSD;
+use header_words::NUM_WINDOWS;
+use header_words::OPTION;
+use header_words::OPTION_COUNT;
+use header_words::USE_GV;
+use header_words::VECTOR_LENGTH;
 ghost use mathlib.Core.Path.{_≡_};
-ghost use Rattle.groups.specs.Rows.{bytesOf, rowsAt, stop-with, over};
-ghost use Rattle.header_stream.specs.Group.{named, stored, withRow, groupIn};
+ghost use lib.ListN.{length, replicate};
+ghost use Rattle.groups.specs.Rows.{bytesOf, rowsAt, over, lastOf};
+ghost use Rattle.header_words.specs.Words.{streamWords};
+ghost use Rattle.header_stream.specs.Group.{named, storedIn, withRow, groupIn};
 
 // A group while it is read, as the contract speaks of it: which fields stood, and their values.
 pub struct Group {
@@ -30,52 +41,42 @@ pub struct GroupRead {
     pub item: StreamData,
 }
 
-// The struct with the value of a field; an unknown one's is dropped.
-pub fn store(item: StreamData, field: usize, v: Value) -> StreamData
-    ensures { λ r. ⌜ r ≡ stored item field v ⌝ }
+// A value where the group has its field; an unknown one's is dropped.
+fn store(item: &mut [u64], field: usize, v: Value)
+    requires { ⌜ length (now item) ≡ 39 ⌝ }
+    ensures { λ r. ⌜ now (item .exit) ≡ storedIn (now (item .entry)) field v ⌝ }
 {
-    let mut d = item;
     match field {
         0 => {
-            d.vector_length = v.number;
+            put1(item, VECTOR_LENGTH, v.number);
         }
         1 => {
-            d.num_windows = v.number;
+            put1(item, NUM_WINDOWS, v.number);
         }
         2 => {
-            d.is_msd = v.flag;
+            put1(item, IS_MSD, v.flag as u64);
         }
         3 => {
-            d.use_gv = v.flag;
+            put1(item, USE_GV, v.flag as u64);
         }
         4 => {
             let l = v.spans;
-            let x = l.first16();
-            d.option = x;
-            d.option_count = l.count;
+            let x = l.items;
+            put_spans(item, OPTION, x, 16);
+            put1(item, OPTION_COUNT, l.count as u64);
         }
         _ => {}
     }
-    d
 }
 
-fn refused(refusal: Refusal) -> GroupRead
-    ensures { λ r. ⌜ r ≡ groupIn (stop-with refusal) ⌝ }
-{
-    GroupRead {
-        verdict: Verdict::Refused(refusal),
-        item: StreamData::none(),
-    }
-}
-
-// The group of that name, out of the rows of the section that starts at `start`.
-pub fn read_group(s: &[u8], start: usize, name: Span) -> GroupRead
-    ensures { λ r. ⌜ r ≡ groupIn (over (withRow (now (s .entry)) (bytesOf (now (s .entry)) name)) (named name) (rowsAt (now (s .entry)) start)) ⌝ }
+// The group of that name into its words, out of the rows of the section that starts at `start`; where it is refused, what stood before the fault.
+pub fn read_group(s: &[u8], start: usize, name: Span, item: &mut [u64]) -> Verdict
+    requires { ⌜ now item ≡ replicate 39 0 ⌝ }
+    ensures { λ r. ⌜ (r ≡ groupIn (over (withRow (now (s .entry)) (bytesOf (now (s .entry)) name)) (named name) (rowsAt (now (s .entry)) start)) .verdict) × (now (item .exit) ≡ streamWords (lastOf (withRow (now (s .entry)) (bytesOf (now (s .entry)) name)) (named name) (rowsAt (now (s .entry)) start) .item)) ⌝ }
 {
     let mut at = Cursor { at: start };
     let mut seen = [false; 10];
-    let mut item = StreamData::none();
-    item.name = name;
+    put_span(item, 0, name);
     loop {
         match row_at(at, s) {
             RowAt::Found(row) => {
@@ -90,12 +91,11 @@ pub fn read_group(s: &[u8], start: usize, name: Span) -> GroupRead
                             let value = l.value;
                             let with_field = mark(seen, field, 5);
                             seen = with_field;
-                            let with_value = store(item, field, value);
-                            item = with_value;
+                            store(item, field, value);
                         }
                         Step::End => {}
                         Step::Refused(refusal) => {
-                            return refused(refusal);
+                            return Verdict::Refused(refusal);
                         }
                     }
                 }
@@ -105,12 +105,9 @@ pub fn read_group(s: &[u8], start: usize, name: Span) -> GroupRead
             }
             RowAt::End => {
                 if missing(seen, 3) {
-                    return refused(Refusal::Field);
+                    return Verdict::Refused(Refusal::Field);
                 }
-                return GroupRead {
-                    verdict: Verdict::Accepted,
-                    item,
-                };
+                return Verdict::Accepted;
             }
         }
     }

@@ -1,13 +1,14 @@
 -- Items of one width, laid in words and read from them one by one, over any items and any width. Assumes nothing.
 use mathlib.Core.Path.{_≡_, refl, sym, ap, ap₂, _∙_}
-use mathlib.Core.List.{List, [], _∷_, _++_, append-nil}
+use mathlib.Core.List.{List, [], _∷_, _++_, append-nil, append-assoc}
 use Prim.Native.Nat.{ℕ, zero, suc, _+_, _-_, _*_, _≤_, _<_}
+use native.Mathlib.Nat.{add-zero}
 use native.Mathlib.Numerals.{add-one}
 use native.Mathlib.Omega.{arith}
 use lib.ListN.{length, getD, set, length-set, length-append, drop-of-length-le}
-use lib.Seq.{sets, length-sets}
-use Rattle.laws.proofs.Tables.{sets-append, sets-front}
-use Rattle.header_words.specs.Words.{run, flat}
+use lib.Seq.{sets, length-sets, set-getD}
+use Rattle.laws.proofs.Tables.{sets-append, sets-front, sets-over, sets-before, sets-under, sets-past, sets-at}
+use Rattle.header_words.specs.Words.{run, flat, Zeros}
 
 -- ---- lengths
 
@@ -151,3 +152,70 @@ run-back d [] f k e = refl
 run-back d (x ∷ l) f k e =
     ap₂ _∷_ (ap f (omega arith) ∙ e 0 (omega arith))
     (run-back d l f (suc k) (λ i h. ap f (omega arith) ∙ e (suc i) (omega arith)))
+
+-- words that are stored in a place stand there
+pub stands-laid : (t : List ℕ) (i : ℕ) (xs : List ℕ) → i + length xs ≤ length t → Stands (sets t i xs) i xs
+stands-laid t i xs h = record { each = λ k l. sets-at xs t i k 0 l h }
+
+-- words that stand in a place are not changed by storing them there
+pub laid-same : (t : List ℕ) (i : ℕ) (xs : List ℕ) → Stands t i xs → sets t i xs ≡ t
+laid-same t i [] s = refl
+laid-same t i (x ∷ xs) s =
+    let e : getD t i 0 ≡ x = ap (λ (m : ℕ). getD t m 0) (sym (add-zero i)) ∙ s .each 0 (omega arith) in
+    ap (λ (l : List ℕ). sets l (suc i) xs) (ap (set t i) (sym e) ∙ set-getD t i 0)
+    ∙ laid-same t (suc i) xs (record { each = λ k l. ap (λ (m : ℕ). getD t m 0) (omega arith) ∙ s .each (suc k) (omega arith) })
+
+-- ---- words that are 0
+
+-- storing as many zeros changes nothing
+pub zeros-laid : (t : List ℕ) (i : ℕ) (xs : List ℕ) → Zeros t i (length xs) → ((k : ℕ) → k < length xs → getD xs k 0 ≡ 0) → sets t i xs ≡ t
+zeros-laid t i xs z e = laid-same t i xs (record { each = λ k l. z .each k l ∙ sym (e k l) })
+
+-- they stay 0 while words behind or before them are stored
+pub zeros-before : (t : List ℕ) (i n j : ℕ) (xs : List ℕ) → i + n ≤ j → Zeros t i n → Zeros (sets t j xs) i n
+zeros-before t i n j xs h z = record { each = λ k l. sets-under xs t j (i + k) 0 (omega arith) ∙ z .each k l }
+
+pub zeros-behind : (t : List ℕ) (i n j : ℕ) (xs : List ℕ) → j + length xs ≤ i → Zeros t i n → Zeros (sets t j xs) i n
+zeros-behind t i n j xs h z = record { each = λ k l. sets-past xs t j (i + k) 0 (omega arith) ∙ z .each k l }
+
+-- ---- a part stored anew
+
+pub laid-inside : (t : List ℕ) (i : ℕ) (xs ys zs us : List ℕ) → length us ≡ length ys → sets (sets t i (xs ++ (ys ++ zs))) (i + length xs) us ≡ sets t i (xs ++ (us ++ zs))
+laid-inside t i xs ys zs us e =
+    let j : ℕ = i + length xs in
+    let u : List ℕ = sets t i xs in
+    let q : j + length ys ≡ j + length us = omega (arith, e) in
+    ap (λ (l : List ℕ). sets l j us) (sym (sets-append t i xs (ys ++ zs)) ∙ sym (sets-before ys zs u j))
+    ∙ sets-over ys us (sets u (j + length ys) zs) j (omega (arith, e))
+    ∙ ap (λ (m : ℕ). sets (sets u m zs) j us) q
+    ∙ sets-before us zs u j
+    ∙ sets-append t i xs (us ++ zs)
+
+-- ---- items by their places
+
+pub getD-run : {A : Type 0} (f : ℕ → A) (d : A) (j n k : ℕ) → k < n → getD (run f j n) k d ≡ f (j + k)
+unfolding run
+getD-run f d j zero k h = absurd (omega arith)
+getD-run f d j (suc n) zero h = ap f (omega arith)
+getD-run f d j (suc n) (suc k) h = getD-run f d (suc j) n k (omega arith) ∙ ap f (omega arith)
+
+pub flat-same : (f g : ℕ → List ℕ) (k n : ℕ) → ((j : ℕ) → k ≤ j → j < k + n → f j ≡ g j) → flat f k n ≡ flat g k n
+unfolding flat
+flat-same f g k zero e = refl
+flat-same f g k (suc n) e = ap₂ _++_ (e k (omega arith) (omega arith)) (flat-same f g (suc k) n (λ j l h. e j (omega arith) (omega arith)))
+
+-- the items before one, that one, and those behind it
+pub flat-around : (g : ℕ → List ℕ) (k m n : ℕ) → flat g k (m + suc n) ≡ flat g k m ++ (g (k + m) ++ flat g (suc (k + m)) n)
+unfolding flat
+flat-around g k zero n =
+    let e : zero + suc n ≡ suc n = omega arith in
+    let q : k + 0 ≡ k = omega arith in
+    rw (e, q)
+flat-around g k (suc m) n =
+    let e : suc m + suc n ≡ suc (m + suc n) = omega arith in
+    let q : k + suc m ≡ suc k + m = omega arith in
+    rw (e, q, flat-around g (suc k) m n) (sym (append-assoc (g k) (flat g (suc k) m) (g (suc k + m) ++ flat g (suc (suc k + m)) n)))
+
+-- words that stand there stay while words behind them are stored
+pub stands-under : (t : List ℕ) (i : ℕ) (ws : List ℕ) (j : ℕ) (xs : List ℕ) → i + length ws ≤ j → Stands t i ws → Stands (sets t j xs) i ws
+stands-under t i ws j xs h s = record { each = λ k l. sets-under xs t j (i + k) 0 (omega arith) ∙ s .each k l }

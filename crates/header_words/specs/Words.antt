@@ -1,9 +1,10 @@
 -- The header record as a row of words (host/larsavim.h, 'The record'): a number, a count and a flag take one word, a string its start and its length, a range its
 -- first and its last byte, a list as many items as its limit is. `headerWords` are the words of a record, `headerAt` the record of any words; beyond their end
 -- words are 0. Assumes nothing.
+use mathlib.Core.Path.{_≡_}
 use mathlib.Core.Bool.{Bool, true, false, not, _&&_}
 use mathlib.Core.List.{List, [], _∷_, _++_}
-use Prim.Native.Nat.{ℕ, zero, suc, _+_, _*_}
+use Prim.Native.Nat.{ℕ, zero, suc, _+_, _*_, _<_}
 use lib.Dec.{leb, eqb}
 use lib.ListN.{getD}
 use Rattle.leaves.specs.Checks.{all}
@@ -162,6 +163,10 @@ headerAt w =
       «data_start» = wordAt w 645;
       «data_len» = wordAt w 646;
     }
+
+-- n words from i on are 0
+pub record Zeros (w : List ℕ) (i n : ℕ) : Type 0 where
+  pub each : (k : ℕ) → k < n → wordAt w (i + k) ≡ 0
 
 -- ---- the flags, 0 or 1 each
 

@@ -1,13 +1,15 @@
--- The contracts of `open` and `comment` determine what they answer. Assumes nothing.
+-- The contracts of `open` and `comment` determine what they answer, and the words that are lent. Assumes nothing.
 use mathlib.Core.Path.{_≡_, sym, _∙_}
 use mathlib.Core.List.{List}
 use Prim.Native.Nat.{ℕ}
 use Rattle.header.specs.declared.Header.{Header}
+use Rattle.header_lines.specs.declared.Verdict.{Verdict}
 use Rattle.parser.specs.Open.{openOf, commentOf}
-use Rattle.parser.specs.declared.Opened.{Opened}
+use Rattle.parser.specs.Left.{openLeft}
 
-pub open-once : (s : List ℕ) {x y : Opened} → x ≡ openOf s → y ≡ openOf s → x ≡ y
-open-once s e k = e ∙ sym k
+-- w are the words before it
+pub open-once : (s w : List ℕ) {x y : Verdict} {u v : List ℕ} → (x ≡ openOf s .verdict) × (u ≡ openLeft s w) → (y ≡ openOf s .verdict) × (v ≡ openLeft s w) → (x ≡ y) × (u ≡ v)
+open-once s w e k = (e .0 ∙ sym (k .0), e .1 ∙ sym (k .1))
 
 pub comment-once : (s : List ℕ) (h : Header) (fallback : List ℕ) {x y : List ℕ} → x ≡ commentOf s h fallback → y ≡ commentOf s h fallback → x ≡ y
 comment-once s h fallback e k = e ∙ sym k

@@ -1,37 +1,42 @@
-// After parser/mod.rs, `parse_htsvoice` up to its data: a file's bytes to its header record, in 01's order, and COMMENT (01, 'Numbers the loader gives',
-// 'Header text'). Each reader of a section gets the file up to the section's end, so that places are file offsets. Assumes nothing.
+// After parser/mod.rs, `parse_htsvoice` up to its data: a file's bytes to the words of its header record, in 01's order, and COMMENT (01, 'Numbers the
+// loader gives', 'Header text'). Each reader of a section gets the file up to the section's end, so that places are file offsets; it writes what the section
+// says where the record has it (`header_words`), into words that are 0 before. Assumes nothing.
 use error::Refusal;
 use groups::up_to;
-use header::Global;
 use header::Header;
 use header::Span;
-use header_global::GlobalRead;
 use header_global::read_global;
 use header_lines::Verdict;
 use header_lines::part_of;
 use header_positions::Positions;
-use header_streams::Streams;
+use header_put::put_span;
 use header_ungrouped::Durations;
 use header_ungrouped::check_lines;
 use header_ungrouped::read_durations;
+use header_words::COMMENT;
+use header_words::DATA_START;
+use header_words::DURATION_PDF;
+use header_words::HAS_COMMENT;
 use sections::Parts;
 use sections::Sections;
 use sections::split_sections;
+use tables::put4;
 use utf8::Answer;
 use utf8::check;
 ghost use mathlib.Core.Path.{_≡_};
 ghost use Prim.Native.Nat.{_+_, _≤_};
-ghost use lib.ListN.{length};
-ghost use Rattle.header_positions.specs.Groups.{noPositions};
-ghost use Rattle.parser.specs.Open.{Inside, utf8Of, globalOf, streamsOf, positionsOf, noPositionsFor, partsOf, refusedWith, openOf, commentOf};
+ghost use lib.ListN.{length, replicate};
+ghost use Rattle.header_words.specs.Words.{Zeros, headerAt};
+ghost use Rattle.parser.specs.Open.{Inside, utf8Of, globalOf, streamsOf, positionsOf, partsOf, openOf, commentOf};
+ghost use Rattle.parser.specs.Left.{globalLeft, streamsLeft, positionsLeft, partsLeft, openLeft};
 
-// The record, or the refusal and beside it the empty record.
+// What opening answers, as contracts speak of it: the record, or the refusal and beside it the empty record.
 pub struct Opened {
     pub verdict: Verdict,
     pub header: Header,
 }
 
-// What [POSITION] says: the duration ranges and the groups.
+// What [POSITION] says, as contracts speak of it: the duration ranges and the groups.
 pub struct PositionRead {
     pub verdict: Verdict,
     pub durations: Durations,
@@ -50,180 +55,105 @@ fn check_utf8(file: &[u8], x: Span) -> Verdict
     }
 }
 
-// What each section says: UTF-8 first, then its lines and groups.
-pub fn open_global(file: &[u8], x: Span) -> GlobalRead
-    requires { ⌜ x .start + x .len ≤ length (now file) ⌝ }
-    ensures { λ r. ⌜ r ≡ globalOf (now (file .entry)) x ⌝ }
+// What each section says: UTF-8 first, then its lines and groups. Where it is refused, the words have what it says before the fault.
+fn open_global(file: &[u8], x: Span, words: &mut [u64]) -> Verdict
+    requires { ⌜ (x .start + x .len ≤ length (now file)) × ((95 ≤ length (now words)) × Zeros (now words) 0 95) ⌝ }
+    ensures { λ r. ⌜ (r ≡ globalOf (now (file .entry)) x .verdict) × (now (words .exit) ≡ globalLeft (now (file .entry)) x (now (words .entry))) ⌝ }
 {
     match check_utf8(file, x) {
-        Verdict::Refused(refusal) => GlobalRead {
-            verdict: Verdict::Refused(refusal),
-            global: Global::none(),
-        },
+        Verdict::Refused(refusal) => Verdict::Refused(refusal),
         Verdict::Accepted => {
             let end = x.start + x.len;
-            read_global(up_to(file, end), x.start)
+            read_global(up_to(file, end), x.start, words)
         }
     }
 }
 
-pub fn open_streams(file: &[u8], x: Span) -> header_streams::GroupsRead
-    requires { ⌜ x .start + x .len ≤ length (now file) ⌝ }
-    ensures { λ r. ⌜ r ≡ streamsOf (now (file .entry)) x ⌝ }
+fn open_streams(file: &[u8], x: Span, words: &mut [u64]) -> Verdict
+    requires { ⌜ (x .start + x .len ≤ length (now file)) × ((408 ≤ length (now words)) × Zeros (now words) 95 312) ⌝ }
+    ensures { λ r. ⌜ (r ≡ streamsOf (now (file .entry)) x .verdict) × (now (words .exit) ≡ streamsLeft (now (file .entry)) x (now (words .entry))) ⌝ }
 {
-    // Made once and handed on: the compiler builds it anew wherever it is written.
-    let none = Streams::none();
     match check_utf8(file, x) {
-        Verdict::Refused(refusal) => header_streams::GroupsRead {
-            verdict: Verdict::Refused(refusal),
-            streams: none,
-        },
+        Verdict::Refused(refusal) => Verdict::Refused(refusal),
         Verdict::Accepted => {
             let end = x.start + x.len;
             let s = up_to(file, end);
             match check_lines(s, x.start) {
-                Verdict::Refused(refusal) => header_streams::GroupsRead {
-                    verdict: Verdict::Refused(refusal),
-                    streams: none,
-                },
-                Verdict::Accepted => header_streams::read_groups(s, x.start, none),
+                Verdict::Refused(refusal) => Verdict::Refused(refusal),
+                Verdict::Accepted => header_streams::read_groups(s, x.start, words),
             }
         }
     }
 }
 
-fn no_position(refusal: Refusal, none: Positions) -> PositionRead
-    requires { ⌜ none ≡ noPositions ⌝ }
-    ensures { λ r. ⌜ r ≡ noPositionsFor refusal ⌝ }
+fn open_positions(file: &[u8], x: Span, words: &mut [u64]) -> Verdict
+    requires { ⌜ (x .start + x .len ≤ length (now file)) × ((645 ≤ length (now words)) × Zeros (now words) 412 232) ⌝ }
+    ensures { λ r. ⌜ (r ≡ positionsOf (now (file .entry)) x .verdict) × (now (words .exit) ≡ positionsLeft (now (file .entry)) x (now (words .entry))) ⌝ }
 {
-    PositionRead {
-        verdict: Verdict::Refused(refusal),
-        durations: Durations::none(),
-        positions: none,
-    }
-}
-
-pub fn open_positions(file: &[u8], x: Span) -> PositionRead
-    requires { ⌜ x .start + x .len ≤ length (now file) ⌝ }
-    ensures { λ r. ⌜ r ≡ positionsOf (now (file .entry)) x ⌝ }
-{
-    // Made once and handed on, as in open_streams.
-    let none = Positions::none();
     match check_utf8(file, x) {
-        Verdict::Refused(refusal) => no_position(refusal, none),
+        Verdict::Refused(refusal) => Verdict::Refused(refusal),
         Verdict::Accepted => {
             let end = x.start + x.len;
             let s = up_to(file, end);
             let d = read_durations(s, x.start);
             let lines = d.verdict;
             match lines {
-                Verdict::Refused(refusal) => no_position(refusal, none),
+                Verdict::Refused(refusal) => Verdict::Refused(refusal),
                 Verdict::Accepted => {
-                    let g = header_positions::read_groups(s, x.start, none);
                     let durations = d.durations;
-                    let groups = g.verdict;
-                    match groups {
-                        Verdict::Refused(refusal) => no_position(refusal, none),
-                        Verdict::Accepted => {
-                            let positions = g.positions;
-                            PositionRead {
-                                verdict: Verdict::Accepted,
-                                durations,
-                                positions,
-                            }
-                        }
-                    }
+                    let pdf = durations.pdf;
+                    let tree = durations.tree;
+                    put4(words, DURATION_PDF, pdf.from, pdf.to, tree.from, tree.to);
+                    header_positions::read_groups(s, x.start, words)
                 }
             }
         }
     }
 }
 
-fn refused(refusal: Refusal) -> Opened
-    ensures { λ r. ⌜ r ≡ refusedWith refusal ⌝ }
+// The three sections in turn, and where the data stands.
+fn open_parts(file: &[u8], parts: Parts, words: &mut [u64]) -> Verdict
+    requires { ⌜ Inside (now file) parts × (now words ≡ replicate 647 0) ⌝ }
+    ensures { λ r. ⌜ (r ≡ partsOf (now (file .entry)) parts .verdict) × (now (words .exit) ≡ partsLeft (now (file .entry)) parts (now (words .entry))) ⌝ }
 {
-    Opened {
-        verdict: Verdict::Refused(refusal),
-        header: Header::none(),
-    }
-}
-
-// The three sections in turn.
-fn open_parts(file: &[u8], parts: Parts) -> Opened
-    requires { ⌜ Inside (now file) parts ⌝ }
-    ensures { λ r. ⌜ r ≡ partsOf (now (file .entry)) parts ⌝ }
-{
-    let g = open_global(file, parts.global);
-    let of_global = g.verdict;
-    match of_global {
-        Verdict::Refused(refusal) => refused(refusal),
-        Verdict::Accepted => {
-            let t = open_streams(file, parts.stream);
-            let of_stream = t.verdict;
-            match of_stream {
-                Verdict::Refused(refusal) => refused(refusal),
+    match open_global(file, parts.global, words) {
+        Verdict::Refused(refusal) => Verdict::Refused(refusal),
+        Verdict::Accepted => match open_streams(file, parts.stream, words) {
+            Verdict::Refused(refusal) => Verdict::Refused(refusal),
+            Verdict::Accepted => match open_positions(file, parts.position, words) {
+                Verdict::Refused(refusal) => Verdict::Refused(refusal),
                 Verdict::Accepted => {
-                    let p = open_positions(file, parts.position);
-                    let of_position = p.verdict;
-                    match of_position {
-                        Verdict::Refused(refusal) => refused(refusal),
-                        Verdict::Accepted => {
-                            let global = g.global;
-                            let streams = t.streams;
-                            let stream_names = streams.names;
-                            let stream_items = streams.items;
-                            let durations = p.durations;
-                            let pdf = durations.pdf;
-                            let tree = durations.tree;
-                            let positions = p.positions;
-                            let position_names = positions.names;
-                            let position_items = positions.items;
-                            let rest = parts.rest;
-                            let header = Header {
-                                global,
-                                streams: stream_items,
-                                stream_count: stream_names.count,
-                                duration_pdf: pdf,
-                                duration_tree: tree,
-                                positions: position_items,
-                                position_count: position_names.count,
-                                data_start: rest.start,
-                                data_len: rest.len,
-                            };
-                            Opened {
-                                verdict: Verdict::Accepted,
-                                header,
-                            }
-                        }
-                    }
+                    let rest = parts.rest;
+                    put_span(words, DATA_START, rest);
+                    Verdict::Accepted
                 }
-            }
-        }
+            },
+        },
     }
 }
 
-// Opens a file of any bytes.
-pub fn open(file: &[u8]) -> Opened
-    ensures { λ r. ⌜ r ≡ openOf (now (file .entry)) ⌝ }
+// Opens a file of any bytes, with the record into the words.
+pub fn open(file: &[u8], words: &mut [u64]) -> Verdict
+    requires { ⌜ now words ≡ replicate 647 0 ⌝ }
+    ensures { λ r. ⌜ (r ≡ openOf (now (file .entry)) .verdict) × (now (words .exit) ≡ openLeft (now (file .entry)) (now (words .entry))) ⌝ }
 {
     if 16777216 < file.len() {
-        return refused(Refusal::Limit);
+        return Verdict::Refused(Refusal::Limit);
     }
     match split_sections(file) {
-        Sections::Unsplit => refused(Refusal::Split),
-        Sections::Split(parts) => open_parts(file, parts),
+        Sections::Unsplit => Verdict::Refused(Refusal::Split),
+        Sections::Split(parts) => open_parts(file, parts, words),
     }
 }
 
 // The value of COMMENT, a part of the file; the fallback where the key is missing, or where the record points past the file.
-pub fn comment<'a>(file: &'a [u8], header: Header, fallback: &'a [u8]) -> &'a [u8]
-    ensures { λ r. ⌜ now r ≡ commentOf (now (file .entry)) header (now (fallback .entry)) ⌝ }
+pub fn comment<'a>(file: &'a [u8], words: &[u64], fallback: &'a [u8]) -> &'a [u8]
+    requires { ⌜ 647 ≤ length (now words) ⌝ }
+    ensures { λ r. ⌜ now r ≡ commentOf (now (file .entry)) (headerAt (now (words .entry))) (now (fallback .entry)) ⌝ }
 {
-    let global = header.global;
-    let x = global.comment;
-    let start = x.start;
-    let len = x.len;
-    if !global.has_comment {
+    let start = words[COMMENT] as usize;
+    let len = words[COMMENT + 1] as usize;
+    if words[HAS_COMMENT] == 0 {
         return fallback;
     }
     let n = file.len();

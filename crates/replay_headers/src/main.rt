@@ -3,13 +3,41 @@
 // They are the first of each three lines of the stored lists, one after the other (judge/pick.py): all of them don't fit its room.
 // Assumes that the lines fit its room, and a file 4,096 bytes; a line that doesn't differs.
 use error::Refusal;
-use header::Global;
-use header::Header;
-use header::PositionData;
-use header::Range;
-use header::Span;
-use header::StreamData;
 use header_lines::Verdict;
+use header_words::COMMENT;
+use header_words::DATA_START;
+use header_words::DURATION_PDF;
+use header_words::DURATION_TREE;
+use header_words::FRAME_PERIOD;
+use header_words::FULLCONTEXT_FORMAT;
+use header_words::FULLCONTEXT_VERSION;
+use header_words::GV_OFF_CONTEXT;
+use header_words::GV_PDF;
+use header_words::GV_TREE;
+use header_words::HAS_COMMENT;
+use header_words::HAS_GV_PDF;
+use header_words::HAS_GV_TREE;
+use header_words::HTS_VOICE_VERSION;
+use header_words::IS_MSD;
+use header_words::NUM_STATES;
+use header_words::NUM_STREAMS;
+use header_words::NUM_WINDOWS;
+use header_words::OPTION;
+use header_words::POSITION_COUNT;
+use header_words::POSITION_NAME;
+use header_words::POSITION_WORDS;
+use header_words::POSITIONS;
+use header_words::SAMPLING_FREQUENCY;
+use header_words::STREAM_COUNT;
+use header_words::STREAM_NAME;
+use header_words::STREAM_PDF;
+use header_words::STREAM_TREE;
+use header_words::STREAM_TYPE;
+use header_words::STREAM_WIN;
+use header_words::STREAM_WORDS;
+use header_words::STREAMS;
+use header_words::USE_GV;
+use header_words::VECTOR_LENGTH;
 use libc::STDIN_FILENO;
 use parser::open;
 use stored::Stored;
@@ -24,162 +52,118 @@ use stored::wrong;
 ghost use Prim.Native.Nat.{_≤_, _<_};
 ghost use lib.ListN.{length};
 
-fn told(c: Stored, s: &[u8], b: bool) -> Stored {
-    number(c, s, if b { 1 } else { 0 })
+// A word of the record; 0 past its end.
+fn word(words: &[u64], at: usize) -> u64 {
+    if at < words.len() { words[at] } else { 0 }
 }
 
-fn span(c: Stored, s: &[u8], x: Span) -> Stored {
-    pair(c, s, x.start, x.len)
+// A number, or a flag.
+fn one(c: Stored, s: &[u8], words: &[u64], at: usize) -> Stored {
+    number(c, s, word(words, at))
 }
 
-fn range(c: Stored, s: &[u8], x: Range) -> Stored {
-    number(number(c, s, x.from), s, x.to)
+// A string, or a range.
+fn two(c: Stored, s: &[u8], words: &[u64], at: usize) -> Stored
+    requires { ⌜ at ≤ 1000 ⌝ }
+{
+    one(one(c, s, words, at), s, words, at + 1)
 }
 
-// A name in STREAM_TYPE.
-fn one_type(c: Stored, s: &[u8], list: [Span; 8], k: usize) -> Stored {
-    if k < 8 { span(c, s, list[k]) } else { other(c) }
-}
-
-fn types(c: Stored, s: &[u8], list: [Span; 8], count: usize) -> Stored {
-    let mut cursor = number(c, s, count as u64);
-    for k in 0..count {
-        cursor = one_type(cursor, s, list, k);
+// A list of strings or of ranges, n at most, with its count behind it.
+fn list(c: Stored, s: &[u8], words: &[u64], at: usize, n: usize) -> Stored
+    requires { ⌜ (at ≤ 900) × (n ≤ 32) ⌝ }
+{
+    let count = word(words, at + 2 * n);
+    let mut cursor = number(c, s, count);
+    for k in 0..n {
+        if (k as u64) < count {
+            cursor = two(cursor, s, words, at + 2 * k);
+        }
     }
-    cursor
-}
-
-// A pattern of GV_OFF_CONTEXT.
-fn one_context(c: Stored, s: &[u8], list: [Span; 32], k: usize) -> Stored {
-    if k < 32 {
-        span(c, s, list[k])
+    if (n as u64) < count {
+        other(cursor)
     } else {
-        other(c)
+        cursor
     }
-}
-
-fn contexts(c: Stored, s: &[u8], list: [Span; 32], count: usize) -> Stored {
-    let mut cursor = number(c, s, count as u64);
-    for k in 0..count {
-        cursor = one_context(cursor, s, list, k);
-    }
-    cursor
-}
-
-// An item of OPTION.
-fn one_option(c: Stored, s: &[u8], list: [Span; 16], k: usize) -> Stored {
-    if k < 16 {
-        span(c, s, list[k])
-    } else {
-        other(c)
-    }
-}
-
-fn options(c: Stored, s: &[u8], list: [Span; 16], count: usize) -> Stored {
-    let mut cursor = number(c, s, count as u64);
-    for k in 0..count {
-        cursor = one_option(cursor, s, list, k);
-    }
-    cursor
-}
-
-// A range of STREAM_WIN.
-fn one_window(c: Stored, s: &[u8], list: [Range; 8], k: usize) -> Stored {
-    if k < 8 {
-        range(c, s, list[k])
-    } else {
-        other(c)
-    }
-}
-
-fn windows(c: Stored, s: &[u8], list: [Range; 8], count: usize) -> Stored {
-    let mut cursor = number(c, s, count as u64);
-    for k in 0..count {
-        cursor = one_window(cursor, s, list, k);
-    }
-    cursor
 }
 
 // What [GLOBAL] says, in the order of its fields.
-fn global_of(c: Stored, s: &[u8], g: Global) -> Stored {
-    let version = span(c, s, g.hts_voice_version);
-    let rates = number(number(version, s, g.sampling_frequency), s, g.frame_period);
-    let counts = number(number(rates, s, g.num_states), s, g.num_streams);
-    let listed = g.stream_type;
-    let named = types(counts, s, listed, g.stream_type_count);
-    let format = span(
-        span(named, s, g.fullcontext_format),
+fn global_of(c: Stored, s: &[u8], words: &[u64]) -> Stored {
+    let version = two(c, s, words, HTS_VOICE_VERSION);
+    let rates = one(
+        one(version, s, words, SAMPLING_FREQUENCY),
         s,
-        g.fullcontext_version,
+        words,
+        FRAME_PERIOD,
     );
-    let patterns = g.gv_off_context;
-    let off = contexts(format, s, patterns, g.gv_off_context_count);
-    span(told(off, s, g.has_comment), s, g.comment)
+    let counts = one(one(rates, s, words, NUM_STATES), s, words, NUM_STREAMS);
+    let named = list(counts, s, words, STREAM_TYPE, 8);
+    let format = two(named, s, words, FULLCONTEXT_FORMAT);
+    let labels = two(format, s, words, FULLCONTEXT_VERSION);
+    let off = list(labels, s, words, GV_OFF_CONTEXT, 32);
+    two(one(off, s, words, HAS_COMMENT), s, words, COMMENT)
 }
 
-// A group of [STREAM].
-fn stream_of(c: Stored, s: &[u8], x: StreamData) -> Stored {
-    let named = span(c, s, x.name);
-    let counts = number(number(named, s, x.vector_length), s, x.num_windows);
-    let flags = told(told(counts, s, x.is_msd), s, x.use_gv);
-    let listed = x.option;
-    options(flags, s, listed, x.option_count)
+// A group of [STREAM], from `at` on.
+fn stream_of(c: Stored, s: &[u8], words: &[u64], at: usize) -> Stored
+    requires { ⌜ at ≤ 700 ⌝ }
+{
+    let named = two(c, s, words, at + STREAM_NAME);
+    let counts = one(
+        one(named, s, words, at + VECTOR_LENGTH),
+        s,
+        words,
+        at + NUM_WINDOWS,
+    );
+    let flags = one(one(counts, s, words, at + IS_MSD), s, words, at + USE_GV);
+    list(flags, s, words, at + OPTION, 16)
 }
 
-fn one_stream(c: Stored, s: &[u8], list: [StreamData; 8], k: usize) -> Stored {
-    if k < 8 {
-        let x = list[k];
-        stream_of(c, s, x)
-    } else {
-        other(c)
+fn streams(c: Stored, s: &[u8], words: &[u64]) -> Stored {
+    let count = word(words, STREAM_COUNT);
+    let mut cursor = number(c, s, count);
+    for k in 0..8 {
+        if (k as u64) < count {
+            cursor = stream_of(cursor, s, words, STREAMS + STREAM_WORDS * k);
+        }
     }
+    if 8 < count { other(cursor) } else { cursor }
 }
 
-fn streams(c: Stored, s: &[u8], list: [StreamData; 8], count: usize) -> Stored {
-    let mut cursor = number(c, s, count as u64);
-    for k in 0..count {
-        cursor = one_stream(cursor, s, list, k);
+// A group of [POSITION], from `at` on.
+fn position_of(c: Stored, s: &[u8], words: &[u64], at: usize) -> Stored
+    requires { ⌜ at ≤ 700 ⌝ }
+{
+    let named = two(c, s, words, at + POSITION_NAME);
+    let listed = list(named, s, words, at + STREAM_WIN, 8);
+    let pdf = two(listed, s, words, at + STREAM_PDF);
+    let tree = two(pdf, s, words, at + STREAM_TREE);
+    let gv_pdf = two(one(tree, s, words, at + HAS_GV_PDF), s, words, at + GV_PDF);
+    two(
+        one(gv_pdf, s, words, at + HAS_GV_TREE),
+        s,
+        words,
+        at + GV_TREE,
+    )
+}
+
+fn positions(c: Stored, s: &[u8], words: &[u64]) -> Stored {
+    let count = word(words, POSITION_COUNT);
+    let mut cursor = number(c, s, count);
+    for k in 0..8 {
+        if (k as u64) < count {
+            cursor = position_of(cursor, s, words, POSITIONS + POSITION_WORDS * k);
+        }
     }
-    cursor
-}
-
-// A group of [POSITION].
-fn position_of(c: Stored, s: &[u8], x: PositionData) -> Stored {
-    let named = span(c, s, x.name);
-    let ranges = x.stream_win;
-    let listed = windows(named, s, ranges, x.stream_win_count);
-    let model = range(range(listed, s, x.stream_pdf), s, x.stream_tree);
-    let pdf = range(told(model, s, x.has_gv_pdf), s, x.gv_pdf);
-    range(told(pdf, s, x.has_gv_tree), s, x.gv_tree)
-}
-
-fn one_position(c: Stored, s: &[u8], list: [PositionData; 8], k: usize) -> Stored {
-    if k < 8 {
-        let x = list[k];
-        position_of(c, s, x)
-    } else {
-        other(c)
-    }
-}
-
-fn positions(c: Stored, s: &[u8], list: [PositionData; 8], count: usize) -> Stored {
-    let mut cursor = number(c, s, count as u64);
-    for k in 0..count {
-        cursor = one_position(cursor, s, list, k);
-    }
-    cursor
+    if 8 < count { other(cursor) } else { cursor }
 }
 
 // The whole record.
-fn header_of(c: Stored, s: &[u8], h: Header) -> Stored {
-    let first = h.global;
-    let global = global_of(c, s, first);
-    let duration = range(range(global, s, h.duration_pdf), s, h.duration_tree);
-    let of_stream = h.streams;
-    let grouped = streams(duration, s, of_stream, h.stream_count);
-    let of_position = h.positions;
-    let placed = positions(grouped, s, of_position, h.position_count);
-    pair(placed, s, h.data_start, h.data_len)
+fn header_of(c: Stored, s: &[u8], words: &[u64]) -> Stored {
+    let global = global_of(c, s, words);
+    let duration = two(two(global, s, words, DURATION_PDF), s, words, DURATION_TREE);
+    let placed = positions(streams(duration, s, words), s, words);
+    two(placed, s, words, DATA_START)
 }
 
 // A refusal's number and place.
@@ -190,11 +174,9 @@ fn refusal_of(c: Stored, s: &[u8], why: Refusal) -> Stored {
 // Whether all that is stored from `at` on is said of the file.
 fn replay_text(s: &[u8], at: usize, text: &[u8]) -> bool {
     let c = Stored { at, same: true };
-    let opened = open(text);
-    let verdict = opened.verdict;
-    let header = opened.header;
-    match verdict {
-        Verdict::Accepted => ended(header_of(pair(c, s, 0, 0), s, header), s),
+    let mut record: [u64; 647] = [0; 647];
+    match open(text, &mut record) {
+        Verdict::Accepted => ended(header_of(pair(c, s, 0, 0), s, &record), s),
         Verdict::Refused(why) => ended(refusal_of(c, s, why), s),
     }
 }

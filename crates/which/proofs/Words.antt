@@ -19,7 +19,7 @@ use Rattle.search.specs.Found.{lastBelow}
 use Rattle.search.specs.declared.Found.{Found}
 use Rattle.search.specs.declared.Found.the-variants.{At, Nothing}
 use Rattle.search.proofs.Last.{last-inside, last-ext-below}
-use Rattle.words_fit.proofs.Runs.{getD-run}
+use Rattle.header_words.proofs.Items.{getD-run}
 use Rattle.which.specs.Chosen.{positionNamed, streamNamed, numbered}
 use Rattle.which.specs.Entries.{typeName}
 use Rattle.which.specs.declared.Chosen.{Chosen}

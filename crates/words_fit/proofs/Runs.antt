@@ -1,18 +1,13 @@
 -- The loop over the items that count, from the last one on, where the items are read one by one. Assumes nothing.
 use mathlib.Core.Path.{_≡_, ap, _∙_}
 use mathlib.Core.Bool.{Bool, true, false}
-use Prim.Native.Nat.{ℕ, zero, suc, _+_, _-_, _<_}
+use Prim.Native.Nat.{ℕ, _-_, _<_}
 use native.Mathlib.Omega.{arith}
 use lib.ListN.{getD}
 use Rattle.header_fits.specs.Fits.{counted}
 use Rattle.header_fits.proofs.Each.{Left, left-off, left-on}
 use Rattle.header_words.specs.Words.{run}
-
-pub getD-run : {A : Type 0} (f : ℕ → A) (d : A) (j n k : ℕ) → k < n → getD (run f j n) k d ≡ f (j + k)
-unfolding run
-getD-run f d j zero k h = absurd (omega arith)
-getD-run f d j (suc n) zero h = ap f (omega arith)
-getD-run f d j (suc n) (suc k) h = getD-run f d (suc j) n k (omega arith) ∙ ap f (omega arith)
+use Rattle.header_words.proofs.Items.{getD-run}
 
 module _ {A : Type 0} (f : ℕ → A) {m : ℕ} {p : A → Bool} {count k : ℕ} (g : Left m p count (run f 0 m) k) (d : A) (e : p d ≡ true) (h : 0 < k) where
   item : p (getD (run f 0 m) (k - 1) d) ≡ p (f (k - 1))

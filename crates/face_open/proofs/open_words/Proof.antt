@@ -1,52 +1,55 @@
--- `face_open::open_words`: too long a file, one that doesn't split, or its sections in turn. Assumes nothing.
-use mathlib.Core.Path.{refl, sym, _∙_}
-use Rattle.parser.proofs.Inside.{split-inside}
-use Rattle.face_open.proofs.Laws.{says-refused, says-open, open-long, open-unsplit, open-split}
+-- `face_open::open_words`: a file that is refused, too few words, or the record copied. Assumes nothing.
+use mathlib.Core.Path.{sym, _∙_}
 use borrow.Author.Needs.{needs}
+use Rattle.face_open.proofs.Laws.{says-refused, says-few, says-done}
 use Rattle.face_open.proofs.open_words.Statement.{statement}
 use Rattle.face_open.proofs.open_words.Tie as tie
+
+slice-aggregate-open : tie.Need-slice-aggregate-open
+slice-aggregate-open c = search needs
+
+open-requires : tie.Need-open-requires
+open-requires c κs = search needs
+
+enum-known-refusal : tie.Need-enum-known-refusal
+enum-known-refusal c = search needs
 
 refused-requires : tie.Need-refused-requires
 refused-requires c κs = search needs
 
-returns : tie.Need-returns
-returns c = says-open _ _ (open-long _ (c .before .if1 .taken)) (says-refused _ _ refl (c .refused .ensures))
-
-split-sections-requires : tie.Need-split-sections-requires
-split-sections-requires c κs = search needs
-
 enum-told : tie.Need-enum-told
 enum-told c = search needs
 
-refused-requires-2 : tie.Need-refused-requires-2
-refused-requires-2 c κs = search needs
+returns : tie.Need-returns
+returns c = says-few _ _ (sym (c .before .before .before .before .«open» .ensures .0) ∙ c .before .enum-told .given .1) (c .if1 .taken)
 
-enum-known-parts : tie.Need-enum-known-parts
-enum-known-parts c = search needs
+slice-aggregate-put-all : tie.Need-slice-aggregate-put-all
+slice-aggregate-put-all c = search needs
 
-open-parts-requires : tie.Need-open-parts-requires
-open-parts-requires c κs = split-inside _ _ (sym (c .before .before .before .before .split-sections .ensures) ∙ c .before .before .parts .given .1)
+put-all-requires : tie.Need-put-all-requires
+put-all-requires c κs = search needs
 
 returns-2 : tie.Need-returns-2
-returns-2 c = says-open _ _ (open-unsplit _ (c .before .before .before .before .if1 .left) (sym (c .before .before .before .split-sections .ensures) ∙ c .before .enum-told .given .1)) (says-refused _ _ refl (c .refused2 .ensures))
+returns-2 c = says-refused _ _ _ (sym (c .before .before .before .before .before .«open» .ensures .0) ∙ c .before .before .refusal .given .1) (c .refused .ensures)
 
 same-length : tie.Need-same-length
 same-length c = search needs
 
 returns-3 : tie.Need-returns-3
-returns-3 c = says-open _ _ (open-split _ (c .before .before .before .before .before .before .before .before .if1 .left) _ (sym (c .before .before .before .before .before .before .before .split-sections .ensures) ∙ c .before .before .before .before .before .parts .given .1)) (c .before .before .open-parts .ensures)
+returns-3 c = says-done _ _ (sym (c .before .before .before .before .before .before .before .before .before .«open» .ensures .0) ∙ c .before .before .before .before .before .before .enum-told .given .1) (c .before .before .before .before .before .if1 .left) (c .before .before .before .before .before .before .before .before .before .«open» .ensures .1) (c .before .before .put-all .ensures)
 
 pub open-words-spec : {M : Type 1} → statement M
 open-words-spec =
     tie.close
     (tie.spec
+    slice-aggregate-open
+    open-requires
+    enum-known-refusal
     refused-requires
-    returns
-    split-sections-requires
     enum-told
-    refused-requires-2
-    enum-known-parts
-    open-parts-requires
+    returns
+    slice-aggregate-put-all
+    put-all-requires
     returns-2
     same-length
     returns-3)

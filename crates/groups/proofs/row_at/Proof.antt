@@ -5,10 +5,10 @@ use Rattle.header_lines.proofs.Parts.{part-in}
 use Rattle.groups.proofs.Rows.{split-whole}
 use Rattle.groups.specs.Rows.{rowAt, keyRow, splitOf}
 use lib.ListN.{length}
-use Prim.Native.Nat.{ℕ, _+_, _≤_, _<_}
+use Prim.Native.Nat.{_+_, _<_}
 use borrow.Author.Tests.{ne-eqb}
 use native.Mathlib.Omega.{arith}
-use mathlib.Core.Path.{_≡_, refl, sym, ap, ap₂, _∙_}
+use mathlib.Core.Path.{sym, ap, _∙_}
 use borrow.Author.Needs.{needs}
 use Rattle.groups.proofs.row_at.Statement.{statement}
 use Rattle.groups.proofs.row_at.Tie as tie

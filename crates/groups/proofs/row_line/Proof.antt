@@ -9,7 +9,7 @@ use Rattle.header_fields.proofs.Fields.{kind-of-key}
 use Rattle.header_fields.specs.Fields.{fieldsOf, fieldIndex, kindAt}
 use Rattle.written.specs.HeaderText.{Kind, Value, Field, kindOf}
 use Rattle.header_lines.proofs.Lines.{made, line-twice, line-read, line-wrong}
-use Rattle.header_lines.specs.Lines.{lineIn, stoodAt}
+use Rattle.header_lines.specs.Lines.{stoodAt}
 use Rattle.groups.specs.Rows.{rowLineAt, fieldName}
 use mathlib.Core.Path.{_≡_, refl, sym, ap, ap₂, _∙_}
 use borrow.Author.Needs.{needs}

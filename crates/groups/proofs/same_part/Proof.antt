@@ -1,6 +1,6 @@
 -- `groups::same_part` meets its contract. Assumes nothing.
 use Rattle.written.specs.Bytes.{same}
-use mathlib.Core.Path.{_≡_, refl, sym, ap, ap₂, _∙_}
+use mathlib.Core.Path.{ap₂, _∙_}
 use borrow.Author.Needs.{needs}
 use Rattle.groups.proofs.same_part.Statement.{statement}
 use Rattle.groups.proofs.same_part.Tie as tie

@@ -1,15 +1,14 @@
 -- `groups::split_key` meets its contract. Assumes nothing.
-use Rattle.laws.specs.Runs.{stop}
 use mathlib.Core.List.{[], _∷_}
 use Rattle.written.specs.Bytes.{bracket, noneOf}
 use Rattle.laws.proofs.Cursor.{stop-each}
 use Rattle.laws.proofs.Runs.{byte-out}
 use Rattle.groups.specs.Rows.{splitOf}
 use lib.ListN.{length}
-use Prim.Native.Nat.{ℕ, _+_, _-_, _≤_}
+use Prim.Native.Nat.{_-_}
 use borrow.Author.Tests.{ne-eqb, le-leb, lt-leb}
 use native.Mathlib.Omega.{arith}
-use mathlib.Core.Path.{_≡_, refl, sym, ap, ap₂, _∙_}
+use mathlib.Core.Path.{sym, _∙_}
 use borrow.Author.Needs.{needs}
 use Rattle.groups.proofs.split_key.Statement.{statement}
 use Rattle.groups.proofs.split_key.Tie as tie

@@ -1,7 +1,7 @@
 -- `groups::up_to` meets its contract. Assumes nothing.
 use native.Mathlib.Omega.{arith}
 use lib.Seq.{take-all, length-take-le}
-use mathlib.Core.Path.{_≡_, refl, sym, ap, ap₂, _∙_}
+use mathlib.Core.Path.{sym}
 use borrow.Author.Needs.{needs}
 use Rattle.groups.proofs.up_to.Statement.{statement}
 use Rattle.groups.proofs.up_to.Tie as tie

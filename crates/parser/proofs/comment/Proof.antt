@@ -1,26 +1,41 @@
 -- `parser::comment` meets its contract. Assumes nothing.
+use mathlib.Core.Path.{ap}
 use Prim.Native.Nat.{ℕ}
 use native.Mathlib.Nat.{add-sub-cancel-left}
-use lib.ListN.{take, drop}
-use Rattle.parser.specs.Open.{commentPart}
-use borrow.Author.Tests.{not-true, not-false, lt-ltb, le-ltb}
-use native.Mathlib.Omega.{arith}
-use mathlib.Core.Path.{_≡_, refl, sym, ap, ap₂, _∙_}
 use borrow.Author.Needs.{needs}
+use borrow.Author.Tests.{lt-ltb, le-ltb, eq-eqb, ne-eqb}
+use lib.ListN.{take, drop}
+use Rattle.header_words.specs.Words.{wordAt, globalAt, headerAt}
+use Rattle.parser.specs.Open.{commentPart}
 use Rattle.parser.proofs.comment.Statement.{statement}
 use Rattle.parser.proofs.comment.Tie as tie
 
+shared-slice-read-start : tie.Need-shared-slice-read-start
+shared-slice-read-start c = search needs
+
+add-len : tie.Need-add-len
+add-len c = search needs
+
+mul-len : tie.Need-mul-len
+mul-len c = search needs
+
+shared-slice-read-len : tie.Need-shared-slice-read-len
+shared-slice-read-len c = search needs
+
+shared-slice-read-if1 : tie.Need-shared-slice-read-if1
+shared-slice-read-if1 c = search needs
+
 returns : tie.Need-returns
-unfolding commentPart
-returns c = rw (not-true (c .before .before .before .before .args .header .global .«has_comment») (c .if1 .taken))
+unfolding commentPart headerAt globalAt
+returns c = rw (eq-eqb _ _ (c .if1 .taken))
 
 returns-2 : tie.Need-returns-2
-unfolding commentPart
-returns-2 c = rw (not-false (c .before .before .before .before .before .args .header .global .«has_comment») (c .before .if1 .left), lt-ltb _ _ (c .if2 .taken))
+unfolding commentPart headerAt globalAt
+returns-2 c = rw (ne-eqb _ _ (c .before .if1 .left), lt-ltb _ _ (c .if2 .taken))
 
 returns-3 : tie.Need-returns-3
-unfolding commentPart
-returns-3 c = rw (not-false (c .before .before .before .before .before .before .args .header .global .«has_comment») (c .before .before .if1 .left), le-ltb _ _ (c .before .if2 .left), lt-ltb _ _ (c .if3 .taken))
+unfolding commentPart headerAt globalAt
+returns-3 c = rw (ne-eqb _ _ (c .before .before .if1 .left), le-ltb _ _ (c .before .if2 .left), lt-ltb _ _ (c .if3 .taken))
 
 add-end : tie.Need-add-end
 add-end c = search needs
@@ -35,16 +50,20 @@ part-result-end : tie.Need-part-result-end
 part-result-end c = search needs
 
 returns-4 : tie.Need-returns-4
-unfolding commentPart
-returns-4 c =
-    let x = c .before .before .before .before .before .before .before .args .header .global .comment in
-    rw (not-false (c .before .before .before .before .before .before .before .args .header .global .«has_comment») (c .before .before .before .if1 .left), le-ltb _ _ (c .before .before .if2 .left), le-ltb _ _ (c .before .if3 .left))
-    (ap (λ (k : ℕ). take k (drop (x .start) (c .before .before .before .before .before .before .before .args .file .now))) (add-sub-cancel-left (x .start) (x .len)))
+unfolding commentPart headerAt globalAt
+returns-4 c = let w = c .before .before .before .before .before .before .before .args .words .now in
+    rw (ne-eqb _ _ (c .before .before .before .if1 .left), le-ltb _ _ (c .before .before .if2 .left), le-ltb _ _ (c .before .if3 .left))
+    (ap (λ (k : ℕ). take k (drop (wordAt w 92) (c .before .before .before .before .before .before .before .args .file .now))) (add-sub-cancel-left (wordAt w 92) (wordAt w 93)))
 
 pub comment-spec : {M : Type 1} → statement M
 comment-spec =
     tie.close
     (tie.spec
+    shared-slice-read-start
+    add-len
+    mul-len
+    shared-slice-read-len
+    shared-slice-read-if1
     returns
     returns-2
     returns-3

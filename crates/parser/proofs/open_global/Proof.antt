@@ -1,9 +1,8 @@
 -- `parser::open_global` meets its contract. Assumes nothing.
-use Rattle.header_global.specs.Global.{made}
-use Rattle.parser.specs.Open.{globalOf}
-use native.Mathlib.Omega.{arith}
-use mathlib.Core.Path.{_≡_, refl, sym, ap, ap₂, _∙_}
+use mathlib.Core.Path.{refl, sym, _∙_}
 use borrow.Author.Needs.{needs}
+use Rattle.parser.specs.Open.{globalOf}
+use Rattle.parser.specs.Left.{globalLeft}
 use Rattle.parser.proofs.open_global.Statement.{statement}
 use Rattle.parser.proofs.open_global.Tie as tie
 
@@ -12,9 +11,6 @@ check-utf8-requires c κs = search needs
 
 enum-known-refusal : tie.Need-enum-known-refusal
 enum-known-refusal c = search needs
-
-none-requires : tie.Need-none-requires
-none-requires c κs = search needs
 
 enum-told : tie.Need-enum-told
 enum-told c = search needs
@@ -29,12 +25,15 @@ read-global-requires : tie.Need-read-global-requires
 read-global-requires c κs = search needs
 
 returns : tie.Need-returns
-unfolding globalOf
-returns c = rw (sym (c .before .before .before .before .check-utf8 .ensures) ∙ c .before .before .refusal .given .1) (ap (made _) (c .none .ensures))
+unfolding globalOf globalLeft
+returns c = rw (sym (c .before .before .before .check-utf8 .ensures) ∙ c .before .refusal .given .1) (refl, refl)
+
+same-length : tie.Need-same-length
+same-length c = search needs
 
 returns-2 : tie.Need-returns-2
-unfolding globalOf
-returns-2 c = rw (sym (c .before .before .before .before .before .check-utf8 .ensures) ∙ c .before .before .before .enum-told .given .1, sym (c .before .up-to .ensures)) (c .read-global .ensures)
+unfolding globalOf globalLeft
+returns-2 c = rw (sym (c .before .before .before .before .before .before .before .before .check-utf8 .ensures) ∙ c .before .before .before .before .before .before .enum-told .given .1, sym (c .before .before .before .before .up-to .ensures)) (c .before .before .read-global .ensures)
 
 pub open-global-spec : {M : Type 1} → statement M
 open-global-spec =
@@ -42,10 +41,10 @@ open-global-spec =
     (tie.spec
     check-utf8-requires
     enum-known-refusal
-    none-requires
     enum-told
     add-end
     up-to-requires
     read-global-requires
     returns
+    same-length
     returns-2)

@@ -1,14 +1,10 @@
 -- `parser::open_streams` meets its contract. Assumes nothing.
-use Rattle.header_streams.specs.Groups.{made}
-use Rattle.parser.specs.Open.{streamsOf}
-use native.Mathlib.Omega.{arith}
-use mathlib.Core.Path.{_≡_, refl, sym, ap, ap₂, _∙_}
+use mathlib.Core.Path.{refl, sym, _∙_}
 use borrow.Author.Needs.{needs}
+use Rattle.parser.specs.Open.{streamsOf}
+use Rattle.parser.specs.Left.{streamsLeft}
 use Rattle.parser.proofs.open_streams.Statement.{statement}
 use Rattle.parser.proofs.open_streams.Tie as tie
-
-none-requires : tie.Need-none-requires
-none-requires c κs = search needs
 
 check-utf8-requires : tie.Need-check-utf8-requires
 check-utf8-requires c κs = search needs
@@ -38,22 +34,24 @@ read-groups-requires : tie.Need-read-groups-requires
 read-groups-requires c κs = search needs
 
 returns : tie.Need-returns
-unfolding streamsOf
-returns c = rw (sym (c .before .before .before .check-utf8 .ensures) ∙ c .before .refusal .given .1) (ap (made _) (c .before .before .before .before .none .ensures))
+unfolding streamsOf streamsLeft
+returns c = rw (sym (c .before .before .before .check-utf8 .ensures) ∙ c .before .refusal .given .1) (refl, refl)
 
 returns-2 : tie.Need-returns-2
-unfolding streamsOf
-returns-2 c = rw (sym (c .before .before .before .before .before .before .before .before .check-utf8 .ensures) ∙ c .before .before .before .before .before .before .enum-told .given .1, sym (c .before .before .before .before .up-to .ensures), sym (c .before .before .before .check-lines .ensures) ∙ c .before .refusal2 .given .1) (ap (made _) (c .before .before .before .before .before .before .before .before .before .none .ensures))
+unfolding streamsOf streamsLeft
+returns-2 c = rw (sym (c .before .before .before .before .before .before .before .before .check-utf8 .ensures) ∙ c .before .before .before .before .before .before .enum-told .given .1, sym (c .before .before .before .before .up-to .ensures), sym (c .before .before .before .check-lines .ensures) ∙ c .before .refusal2 .given .1) (refl, refl)
+
+same-length : tie.Need-same-length
+same-length c = search needs
 
 returns-3 : tie.Need-returns-3
-unfolding streamsOf
-returns-3 c = rw (sym (c .before .before .before .before .before .before .before .before .check-utf8 .ensures) ∙ c .before .before .before .before .before .before .enum-told .given .1, sym (c .before .before .before .before .up-to .ensures), sym (c .before .before .before .check-lines .ensures) ∙ c .before .enum-told2 .given .1) (c .read-groups .ensures)
+unfolding streamsOf streamsLeft
+returns-3 c = rw (sym (c .before .before .before .before .before .before .before .before .before .before .before .check-utf8 .ensures) ∙ c .before .before .before .before .before .before .before .before .before .enum-told .given .1, sym (c .before .before .before .before .before .before .before .up-to .ensures), sym (c .before .before .before .before .before .before .check-lines .ensures) ∙ c .before .before .before .before .enum-told2 .given .1) (c .before .before .read-groups .ensures)
 
 pub open-streams-spec : {M : Type 1} → statement M
 open-streams-spec =
     tie.close
     (tie.spec
-    none-requires
     check-utf8-requires
     enum-known-refusal
     enum-told
@@ -65,4 +63,5 @@ open-streams-spec =
     read-groups-requires
     returns
     returns-2
+    same-length
     returns-3)
