@@ -92,7 +92,7 @@ pub fn is_pattern(b: u8) -> bool
     }
 }
 
-// A byte that PDF references are made of: a letter, a digit, or the mark _. Letters and digits are most of them, so the class is asked for the others alone.
+// A byte that PDF references are made of: a letter, a digit, or the mark _. These are told at once, and the class is asked for the others alone.
 pub fn is_word(b: u8) -> bool
     ensures { λ r. ⌜ r ≡ inWord b ⌝ }
 {
@@ -100,6 +100,9 @@ pub fn is_word(b: u8) -> bool
         return true;
     }
     if is_digit(b) {
+        return true;
+    }
+    if b == b'_' {
         return true;
     }
     match class_of(b) {

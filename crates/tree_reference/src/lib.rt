@@ -8,6 +8,7 @@ use base_spaces::past_byte;
 use base_values::Signed;
 use base_values::parse_signed;
 ghost use mathlib.Core.Path.{_≡_};
+ghost use Rattle.tree_reference.specs.declared.Reference.the-variants.{Found};
 ghost use Rattle.tree_reference.specs.References.{pdfOf, pdfAt, bareAt, quotedAt, referenceAt, sameIndex, pdfCount};
 
 // Where a line leads: to the line that bears an id, or to the PDF of a number.
@@ -69,13 +70,29 @@ fn parse_bare(s: &[u8], at: usize) -> Reference
     }
 }
 
+// What was found, put together from its parts: copied whole, as bytes, it would be read before its parts are written, and a processor waits for that.
+fn found(index: TreeIndex, next: usize) -> Reference
+    ensures { λ r. ⌜ r ≡ Found index next ⌝ }
+{
+    match index {
+        TreeIndex::Node(x) => Reference::Found {
+            index: TreeIndex::Node(x),
+            next,
+        },
+        TreeIndex::Pdf(x) => Reference::Found {
+            index: TreeIndex::Pdf(x),
+            next,
+        },
+    }
+}
+
 // A reference from `at` on, and the quote behind it.
 fn parse_quoted(s: &[u8], at: usize) -> Reference
     ensures { λ r. ⌜ r ≡ quotedAt (now (s .entry)) at ⌝ }
 {
     match parse_bare(s, at) {
         Reference::Found { index, next } => match past_byte(s, next, b'"') {
-            Place::At(past) => Reference::Found { index, next: past },
+            Place::At(past) => found(index, past),
             Place::Nowhere => Reference::NoReference,
         },
         Reference::NoReference => Reference::NoReference,
@@ -88,7 +105,10 @@ pub fn parse_tree_index(s: &[u8], at: usize) -> Reference
 {
     match past_byte(s, at, b'"') {
         Place::At(inside) => parse_quoted(s, inside),
-        Place::Nowhere => parse_bare(s, at),
+        Place::Nowhere => match parse_bare(s, at) {
+            Reference::Found { index, next } => found(index, next),
+            Reference::NoReference => Reference::NoReference,
+        },
     }
 }
 

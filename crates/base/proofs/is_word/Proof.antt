@@ -1,4 +1,4 @@
--- `base::is_word`: a letter, a digit, or by the class, at each of the 256 bytes. Assumes nothing.
+-- `base::is_word`: a letter, a digit, the mark _, or by the class, at each of the 256 bytes. Assumes nothing.
 use mathlib.Core.Path.{_≡_, refl, sym, _∙_}
 use mathlib.Core.Bool.{Bool, true, false}
 use Prim.Native.Nat.{ℕ}
@@ -34,6 +34,10 @@ returns-2 : tie.Need-returns-2
 unfolding inWord
 returns-2 c = rw (sym (c .before .before .before .is-letter .ensures) ∙ c .before .before .if1 .left, sym (c .before .is-digit .ensures) ∙ c .if2 .taken)
 
+returns-3 : tie.Need-returns-3
+unfolding letter digit mark oneOf inWord
+returns-3 c = rw (c .if3 .taken)
+
 class-of-requires : tie.Need-class-of-requires
 class-of-requires c κs = search needs
 
@@ -52,25 +56,25 @@ enum-told-4 c = search needs
 enum-told-5 : tie.Need-enum-told-5
 enum-told-5 c = search needs
 
-returns-3 : tie.Need-returns-3
-unfolding classOf letter digit wildcard mark oneOf inWord
-returns-3 c = told inWord goes (c .before .before .before .before .before .before .before .args .b) refl (omega arith) (c .enum-told .given .1) (c .before .before .class-of .ensures)
-
 returns-4 : tie.Need-returns-4
 unfolding classOf letter digit wildcard mark oneOf inWord
-returns-4 c = told inWord goes (c .before .before .before .before .before .before .before .args .b) refl (omega arith) (c .enum-told2 .given .1) (c .before .before .class-of .ensures)
+returns-4 c = told inWord goes (c .before .before .before .before .before .before .before .before .args .b) refl (omega arith) (c .enum-told .given .1) (c .before .before .class-of .ensures)
 
 returns-5 : tie.Need-returns-5
 unfolding classOf letter digit wildcard mark oneOf inWord
-returns-5 c = told inWord goes (c .before .before .before .before .before .before .before .args .b) refl (omega arith) (c .enum-told3 .given .1) (c .before .before .class-of .ensures)
+returns-5 c = told inWord goes (c .before .before .before .before .before .before .before .before .args .b) refl (omega arith) (c .enum-told2 .given .1) (c .before .before .class-of .ensures)
 
 returns-6 : tie.Need-returns-6
 unfolding classOf letter digit wildcard mark oneOf inWord
-returns-6 c = told inWord goes (c .before .before .before .before .before .before .before .args .b) refl (omega arith) (c .enum-told4 .given .1) (c .before .before .class-of .ensures)
+returns-6 c = told inWord goes (c .before .before .before .before .before .before .before .before .args .b) refl (omega arith) (c .enum-told3 .given .1) (c .before .before .class-of .ensures)
 
 returns-7 : tie.Need-returns-7
 unfolding classOf letter digit wildcard mark oneOf inWord
-returns-7 c = told inWord goes (c .before .before .before .before .before .before .before .args .b) refl (omega arith) (c .enum-told5 .given .1) (c .before .before .class-of .ensures)
+returns-7 c = told inWord goes (c .before .before .before .before .before .before .before .before .args .b) refl (omega arith) (c .enum-told4 .given .1) (c .before .before .class-of .ensures)
+
+returns-8 : tie.Need-returns-8
+unfolding classOf letter digit wildcard mark oneOf inWord
+returns-8 c = told inWord goes (c .before .before .before .before .before .before .before .before .args .b) refl (omega arith) (c .enum-told5 .given .1) (c .before .before .class-of .ensures)
 
 pub is-word-spec : {M : Type 1} → statement M
 is-word-spec =
@@ -80,14 +84,15 @@ is-word-spec =
     returns
     is-digit-requires
     returns-2
+    returns-3
     class-of-requires
     enum-told
     enum-told-2
     enum-told-3
     enum-told-4
     enum-told-5
-    returns-3
     returns-4
     returns-5
     returns-6
-    returns-7)
+    returns-7
+    returns-8)

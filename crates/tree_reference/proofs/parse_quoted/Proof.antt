@@ -17,6 +17,9 @@ past-byte-requires c κs = search needs
 enum-known-past : tie.Need-enum-known-past
 enum-known-past c = search needs
 
+found-requires : tie.Need-found-requires
+found-requires c κs = search needs
+
 enum-told : tie.Need-enum-told
 enum-told c = search needs
 
@@ -26,8 +29,9 @@ enum-told-2 c = search needs
 returns : tie.Need-returns
 unfolding quotedAt
 returns c =
-    ap (closed _) (sym (c .before .past .given .1) ∙ c .before .before .before .past-byte .ensures)
-    ∙ ap (quotedRead _) (sym (c .before .before .before .before .before .index .given .1) ∙ c .before .before .before .before .before .before .before .parse-bare .ensures)
+    c .found .ensures
+    ∙ ap (closed _) (sym (c .before .before .past .given .1) ∙ c .before .before .before .before .past-byte .ensures)
+    ∙ ap (quotedRead _) (sym (c .before .before .before .before .before .before .index .given .1) ∙ c .before .before .before .before .before .before .before .before .parse-bare .ensures)
 
 returns-2 : tie.Need-returns-2
 unfolding quotedAt
@@ -47,6 +51,7 @@ parse-quoted-spec =
     enum-known-index
     past-byte-requires
     enum-known-past
+    found-requires
     enum-told
     enum-told-2
     returns
