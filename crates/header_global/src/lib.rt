@@ -35,7 +35,7 @@ ghost use Rattle.header_words.specs.Words.{Zeros, globalWords};
 ghost use Rattle.header_lines.specs.Lines.{linesAt, linesRead, kept};
 ghost use Rattle.header_global.specs.Global.{storedIn, judgedIn, withLine, globalIn};
 
-// What [GLOBAL] says; where it is refused, the empty struct.
+// What [GLOBAL] says, as contracts speak of it; where it is refused, the empty struct.
 pub struct GlobalRead {
     pub verdict: Verdict,
     pub global: Global,

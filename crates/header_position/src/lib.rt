@@ -38,7 +38,7 @@ pub struct Group {
     pub item: PositionData,
 }
 
-// What a group says; where it is refused, the empty struct.
+// What a group says, as contracts speak of it; where it is refused, the empty struct.
 pub struct GroupRead {
     pub verdict: Verdict,
     pub item: PositionData,

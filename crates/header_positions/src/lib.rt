@@ -28,7 +28,7 @@ pub struct Positions {
     pub items: [PositionData; 8],
 }
 
-// The groups; where they are refused, none.
+// The groups, as contracts speak of them; where they are refused, none.
 pub struct GroupsRead {
     pub verdict: Verdict,
     pub positions: Positions,

@@ -35,7 +35,7 @@ pub struct Group {
     pub item: StreamData,
 }
 
-// What a group says; where it is refused, the empty struct.
+// What a group says, as contracts speak of it; where it is refused, the empty struct.
 pub struct GroupRead {
     pub verdict: Verdict,
     pub item: StreamData,

@@ -28,7 +28,7 @@ pub struct Streams {
     pub items: [StreamData; 8],
 }
 
-// The groups; where they are refused, none.
+// The groups, as contracts speak of them; where they are refused, none.
 pub struct GroupsRead {
     pub verdict: Verdict,
     pub streams: Streams,
