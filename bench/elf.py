@@ -71,20 +71,28 @@ class Object:
                 return n
         return None
 
-    def calls(self):
-        """Function: names of the functions and outer symbols that its code refers to."""
-        out = {n: set() for n in self.functions}
+    def references(self):
+        """Of each place that code refers to: the function it stands in, the symbol, and what is added to it."""
         for s in self.sections:
             if s['type'] != RELA or self.kind(self.sections[s['info']]) != TEXT:
                 continue
             for at in range(s['offset'], s['offset'] + s['size'], 24):
                 place, info, add = struct.unpack_from('<QQq', self.b, at)
-                y = self.symbols[info >> 32]
-                name = self.holder(y['section'], y['at'] + add + self.early) if y['type'] == SECTION else y['name']
-                user = self.holder(s['info'], place)
-                if user and name and (name in self.functions or y['section'] == UNDEFINED):
-                    out[user].add(name)
+                yield self.holder(s['info'], place), self.symbols[info >> 32], add
+
+    def calls(self):
+        """Function: names of the functions and outer symbols that its code refers to."""
+        out = {n: set() for n in self.functions}
+        for user, y, add in self.references():
+            name = self.holder(y['section'], y['at'] + add + self.early) if y['type'] == SECTION else y['name']
+            if user and name and (name in self.functions or y['section'] == UNDEFINED):
+                out[user].add(name)
         return out
+
+    def tabled(self):
+        """The functions whose code refers to constants. A jump through a table needs one, and so does a look into a table."""
+        inside = lambda y: 0 < y['section'] < len(self.sections) and self.kind(self.sections[y['section']]) == CONSTANTS
+        return {user for user, y, _ in self.references() if user and inside(y)}
 
     def frames(self):
         """Function: bytes of its frame, from .stack_sizes (a function's place, by relocation, and a number in groups of 7 bits)."""

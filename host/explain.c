@@ -201,7 +201,6 @@ static void explain_other(FILE *to, const struct voice *v) {
     switch (v->number) {
     case LARSAVIM_SPLIT: explain_split(to, v->file); break;
     case LARSAVIM_FIELD: explain_field(to, v->file); break;
-    case LARSAVIM_TRAILING: fputs("header text is left over behind its last line", to); break;
     case LARSAVIM_LIMIT: put_limits(to, v->file); break;
     default: fputs("the library gave a number that its header doesn't have for an opening", to); break;
     }

@@ -142,6 +142,9 @@ int leaves_fit(const struct model *m);
 /* A walk over a loaded model's tables; out: number, PDF number, questions asked. */
 void walk_model(const struct model *m, uint64_t tree, struct bytes answers, uint64_t limit, uint64_t out[LARSAVIM_WALK_OUT]);
 
+/* The walks of a sentence, filled where they stand. */
+void walk_jobs_model(const struct model *m, struct bytes answers, struct larsavim_job *jobs, uint64_t count);
+
 /* ---- tree text, read again for messages (treetext.c) -------------------------------------------------------------------------- */
 
 /* Only texts in the grammar are read: the library has said so before. Any other bytes give some answer, and harm nothing. */
@@ -190,6 +193,9 @@ struct asked_walk {
     struct bytes answers; /* lent, where all four words are good */
 };
 
+/* Answer bytes out of a word of 0 and 1 (`-` is none), lent. 0 where it is empty or has anything else. */
+int read_answers(const char *word, struct bytes *answers);
+
 /* Reads the four words; says which of them is wrong, or WALK_WORDS for none. */
 int read_walk(char **words, struct asked_walk *w);
 
@@ -208,6 +214,7 @@ void dump_voice(struct bytes file); /* dump.c */
 int hex(void);                      /* hex.c */
 int walk(char **words);             /* walk.c */
 int walks(const char *path);        /* walks.c */
+int sentence(char **words);         /* sentence.c */
 int demo(const char *path);         /* demo.c */
 
 #endif

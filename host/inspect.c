@@ -111,7 +111,7 @@ static int show_model(const struct voice *v, uint64_t which, struct memory *sum)
         puts(": loaded");
         show_sizes(&m, sum);
         good = leaves_fit(&m);
-        puts(good ? "    leaf check: passed" : "    leaf check: FAILED, a leaf's number is past the entries of its tree");
+        puts(good ? "    leaf check: passed" : "    leaf check: FAILED, a leaf's number is 0 or past the entries of its tree");
     }
     free_model(&m);
     return good;
@@ -170,7 +170,7 @@ static int check_model(const char *path, const struct voice *v, uint64_t which) 
         put_model_name(stdout, v, which);
         fputs(": ", stdout);
         if (loads)
-            fputs("the leaf check failed: a leaf's number is past the entries of its tree", stdout);
+            fputs("the leaf check failed: a leaf's number is 0 or past the entries of its tree", stdout);
         else
             explain_load(stdout, v, which, m.loaded);
         putchar('\n');

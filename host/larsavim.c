@@ -8,6 +8,7 @@ static const char usage[] =
     "       larsavim check FILE..                          status 0 if every model of every file loads and passes the leaf check\n"
     "       larsavim walk FILE MODEL TREE ANSWERS LIMIT    one walk; ANSWERS is a 0 or 1 for each question, - for none\n"
     "       larsavim walks FILE                            many walks: lines MODEL TREE ANSWERS LIMIT on standard input\n"
+    "       larsavim sentence FILE MODEL ANSWERS           the walks of a sentence in one call: lines TREE LIMIT START on standard input\n"
     "       larsavim dump FILE                             everything, one fact a line, for comparing\n"
     "       larsavim hex                                   the dump of each line of hex on standard input, then END\n"
     "       larsavim demo FILE                             a voice in which two lines bear one id, and which of them wins\n"
@@ -30,6 +31,8 @@ static int run(const char *verb, int n, char **words) {
         return n == 5 ? walk(words) : wrong("walk takes FILE MODEL TREE ANSWERS LIMIT", NULL);
     if (strcmp(verb, "walks") == 0)
         return n == 1 ? walks(words[0]) : wrong("walks takes one FILE; its lines stand on standard input", NULL);
+    if (strcmp(verb, "sentence") == 0)
+        return n == 3 ? sentence(words) : wrong("sentence takes FILE MODEL ANSWERS; its lines stand on standard input", NULL);
     if (strcmp(verb, "dump") == 0)
         return n == 1 ? dump(words[0]) : wrong("dump takes one FILE", NULL);
     if (strcmp(verb, "hex") == 0)

@@ -3,13 +3,13 @@
  * This header is all that a program needs. Behind it stands a static library (crate `larsavim`) whose calls are proved to answer as
  * is written here, for any bytes, any words, any numbers and any lengths. Two things no call can check, and the caller sees to them:
  *
- *   1. each pointer is good for its length: that many bytes or 8-byte numbers can be read there (and written, where the parameter
+ *   1. each pointer is good for its length: that many bytes, 8-byte numbers or jobs can be read there (and written, where the parameter
  *      is not const), at an address that suits their type, and nobody else writes them until the call returns. A length of 0 asks
  *      nothing of its pointer, which may be null;
- *   2. nothing that is lent for writing (`words` of larsavim_open, the tables and the work of larsavim_load, every `out`) overlaps
+ *   2. nothing that is lent for writing (`words` of larsavim_open, the tables and the work of larsavim_load, the jobs, every `out`) overlaps
  *      another slice of the same call.
  *
- * Numbers are 64 bits wide; a slice is a pointer and, behind it, how many bytes or numbers it has. No call keeps a pointer.
+ * Numbers are 64 bits wide; a slice is a pointer and, behind it, how many bytes, numbers or jobs it has. No call keeps a pointer.
  * 01 is docs/01-scope.md, whose words are used here; docs/INTEGRATION.md shows the calls at work.
  */
 #ifndef LARSAVIM_H
@@ -34,7 +34,7 @@ extern "C" {
 #define LARSAVIM_NEWLINE 8    /* expected newline as map delimiter */
 #define LARSAVIM_FIELD 9      /* a field is missing or stands twice, or a pair has fewer than two numbers */
 #define LARSAVIM_NUMBER 10    /* a header number is 2^64 or more; place: its first digit */
-#define LARSAVIM_TRAILING 11  /* header text is left over */
+/* 11 is never given: a header section is read to its last byte or refused by another number. */
 #define LARSAVIM_LIMIT 12     /* a limit below is exceeded */
 #define LARSAVIM_NOPOS 13     /* a STREAM_TYPE name has no entry in [POSITION], or there is no such stream number */
 #define LARSAVIM_NOSTREAM 14  /* a STREAM_TYPE name has no entry in [STREAM] */
@@ -82,7 +82,7 @@ extern "C" {
 
 #define LARSAVIM_WORDS 647
 
-/* Opens a file. out: number (0, 1 to 12, 20), place. On 0 the words hold the record. A refused opening leaves the words unchanged;
+/* Opens a file. out: number (0, 1 to 10, 12, 20), place. On 0 the words hold the record. A refused opening leaves the words unchanged;
  * fewer words than LARSAVIM_WORDS is 20, after every refusal of the file. */
 uint64_t larsavim_open(const uint8_t *file, uint64_t file_len, uint64_t *words, uint64_t words_len, uint64_t *out, uint64_t out_len);
 
@@ -199,9 +199,24 @@ uint64_t larsavim_load(const uint8_t *file, uint64_t file_len, const uint64_t *w
 uint64_t larsavim_walk(const uint64_t *trees, uint64_t trees_len, const uint64_t *records, uint64_t records_len, uint64_t tree,
                        const uint8_t *answers, uint64_t answers_len, uint64_t limit, uint64_t *out, uint64_t out_len);
 
+/* One walk of a sentence. larsavim_walk_jobs fills number, pdf and asked; tree, limit and start stay. */
+struct larsavim_job {
+    uint64_t tree;   /* as in larsavim_walk */
+    uint64_t limit;  /* as in larsavim_walk */
+    uint64_t start;  /* its first answer byte, in the shared slice */
+    uint64_t number; /* 0, 24 or 25 */
+    uint64_t pdf;    /* PDF number; 0 when refused */
+    uint64_t asked;  /* questions asked; 0 when refused */
+};
+
+/* Walks for each job, as larsavim_walk does with the answers from the job's start to the slice's end. A start past the slice is 24; one
+ * at its end has no answers. A refused job doesn't end the call, and no job touches another. `jobs_len` counts jobs. */
+void larsavim_walk_jobs(const uint64_t *trees, uint64_t trees_len, const uint64_t *records, uint64_t records_len, const uint8_t *answers,
+                        uint64_t answers_len, struct larsavim_job *jobs, uint64_t jobs_len);
+
 /* The leaf check: 1 where, for each tree, there is a block row, its records, their questions and its values at the width given stand
- * inside their tables, each yes and no inside its records, kinds are 0 or 1, and every leaf's number is at most its entry count;
- * otherwise 0. */
+ * inside their tables, each yes and no inside its records, kinds are 0 or 1, and every leaf's number is one of its tree's entries,
+ * from 1 to their count; otherwise 0. */
 uint64_t larsavim_leaves(const uint64_t *questions, uint64_t questions_len, const uint64_t *trees, uint64_t trees_len,
                          const uint64_t *records, uint64_t records_len, const uint64_t *blocks, uint64_t blocks_len,
                          const uint64_t *values, uint64_t values_len, uint64_t width);

@@ -86,3 +86,7 @@ void walk_model(const struct model *m, uint64_t tree, struct bytes answers, uint
     larsavim_walk(m->table[TREES], used(m, TREES), m->table[RECORDS], used(m, RECORDS), tree, answers.at, answers.len, limit, walked, LARSAVIM_WALK_OUT);
     memcpy(out, walked, 8 * LARSAVIM_WALK_OUT);
 }
+
+void walk_jobs_model(const struct model *m, struct bytes answers, struct larsavim_job *jobs, uint64_t count) {
+    larsavim_walk_jobs(m->table[TREES], used(m, TREES), m->table[RECORDS], used(m, RECORDS), answers.at, answers.len, jobs, count);
+}

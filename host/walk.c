@@ -42,8 +42,7 @@ int walk_line(struct bytes file, const struct asked_walk *w, FILE *why) {
     return out[0] == LARSAVIM_SUCCESS ? ALL_WELL : REFUSED;
 }
 
-/* Answer bytes out of a word of 0 and 1 (`-` is none). 0 where it is empty or has anything else. */
-static int read_answers(const char *word, struct bytes *answers) {
+int read_answers(const char *word, struct bytes *answers) {
     size_t n = strspn(word, "01");
     uint8_t *own;
     if (strcmp(word, "-") != 0 && (n == 0 || word[n] != '\0'))

@@ -602,7 +602,7 @@ def leaves_fit(questions, trees, records, blocks, values, width):
             return False
         for r in range(first, first + count):
             kind, number, yes, no = records[4 * r:4 * r + 4]
-            if kind > 1 or kind == 1 and number > entries:
+            if kind > 1 or kind == 1 and not 1 <= number <= entries:
                 return False
             if kind == 0 and not (number < len(questions) // 4 and yes < count and no < count):
                 return False

@@ -118,6 +118,15 @@ def by_hand():
     for table, place, number in ((1, 1, 1), (1, 2, 4), (1, 2, 0), (2, 0, 2), (2, 1, 1), (2, 2, 3), (2, 3, 3), (2, 5, 0), (2, 5, 2), (2, 5, 3), (2, 6, 9), (2, 9, 3), (3, 0, 1), (3, 0, LARGE),
                                  (3, 1, 1), (3, 1, 3), (3, 1, 2 ** 63), (3, 1, LARGE)):
         yield leaf_case([t[:place] + [number] + t[place + 1:] if k == table else t for k, t in enumerate(whole)], width)
+    # a leaf 0 in each place, with entries and without, at width 0, in the second tree, in a record of no tree, shared by two trees; a line that asks question 0 is no leaf
+    for place in 5, 9:
+        for entries in 0, 1, 2:
+            for w in 0, width:
+                yield leaf_case(whole[:2] + [whole[2][:place] + [0] + whole[2][place + 1:], [0, entries], whole[4]], w)
+    for second in (2, 3, 1, 0), (2, 1, 1, 0), (2, 3, 0, 0):
+        yield leaf_case([whole[0], whole[1] + list(second), whole[2] + [1, 0, 0, 0], [0, 2, 0, 2], whole[4]], width)
+    yield leaf_case([[], [2, 0, 1, 0, 2, 0, 1, 0], [1, 0, 0, 0], [0, 1, 1, 1], [0] * 2], 1)
+    yield leaf_case([[], [2, 0, 1, 0], [1, 1, 9, 9], [0, 1], [0]], 1)
     # no block row; block rows beyond the trees; no records and no entries, wherever they start
     yield leaf_case(whole[:3] + [[0], whole[4]], width)
     yield leaf_case(whole[:3] + [[0, 2, LARGE, LARGE], whole[4]], width)

@@ -26,6 +26,7 @@ __typeof__(larsavim_pair) __real_larsavim_pair, __wrap_larsavim_pair;
 __typeof__(larsavim_needs) __real_larsavim_needs, __wrap_larsavim_needs;
 __typeof__(larsavim_load) __real_larsavim_load, __wrap_larsavim_load;
 __typeof__(larsavim_walk) __real_larsavim_walk, __wrap_larsavim_walk;
+__typeof__(larsavim_walk_jobs) __real_larsavim_walk_jobs, __wrap_larsavim_walk_jobs;
 __typeof__(larsavim_leaves) __real_larsavim_leaves, __wrap_larsavim_leaves;
 
 uint64_t __wrap_larsavim_open(const uint8_t *file, uint64_t file_len, uint64_t *words, uint64_t words_len, uint64_t *out, uint64_t out_len) {
@@ -91,6 +92,15 @@ uint64_t __wrap_larsavim_walk(const uint64_t *trees, uint64_t trees_len, const u
     touch("walk.answers", answers, answers_len);
     touch("walk.out", out, 8 * out_len);
     return number;
+}
+
+void __wrap_larsavim_walk_jobs(const uint64_t *trees, uint64_t trees_len, const uint64_t *records, uint64_t records_len, const uint8_t *answers, uint64_t answers_len,
+                               struct larsavim_job *jobs, uint64_t jobs_len) {
+    __real_larsavim_walk_jobs(trees, trees_len, records, records_len, answers, answers_len, jobs, jobs_len);
+    touch("walk_jobs.trees", trees, 8 * trees_len);
+    touch("walk_jobs.records", records, 8 * records_len);
+    touch("walk_jobs.answers", answers, answers_len);
+    touch("walk_jobs.jobs", jobs, sizeof *jobs * jobs_len);
 }
 
 uint64_t __wrap_larsavim_leaves(const uint64_t *questions, uint64_t questions_len, const uint64_t *trees, uint64_t trees_len, const uint64_t *records, uint64_t records_len,

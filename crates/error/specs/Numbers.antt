@@ -1,7 +1,8 @@
--- 01's 'Numbers the loader gives': the number, the place and the line of each refusal. Where 01 says 0, 0. Assumes nothing.
+-- 01's 'Numbers the loader gives': the number, the place and the line of each refusal. Where 01 says 0, 0. 11 is retired (02, Wish 14).
 use Prim.Native.Nat.{ℕ}
 use Rattle.error.specs.declared.Refusal.{Refusal}
-use Rattle.error.specs.declared.Refusal.the-variants.{Split, Utf8, Eof, ExpectedBool, ExpectedInteger, ExpectedArrayComma, ExpectedMapColon, ExpectedMapNewline, Field, Number, TrailingCharacters, Limit, NoPosition, NoStream, UseGv, Range, Text, State, Block, Room, NodeRef, QuestionRef, LoneNode, WalkTable, Steps}
+use Rattle.error.specs.declared.Told.{Told}
+use Rattle.error.specs.declared.Refusal.the-variants.{Split, Utf8, Eof, ExpectedBool, ExpectedInteger, ExpectedArrayComma, ExpectedMapColon, ExpectedMapNewline, Field, Number, Limit, NoPosition, NoStream, UseGv, Range, Text, State, Block, Room, NodeRef, QuestionRef, LoneNode, WalkTable, Steps}
 
 abbrev pub numberOf : Refusal → ℕ
 numberOf Split = 1
@@ -14,7 +15,6 @@ numberOf (ExpectedMapColon p) = 7
 numberOf (ExpectedMapNewline p) = 8
 numberOf Field = 9
 numberOf (Number p) = 10
-numberOf TrailingCharacters = 11
 numberOf Limit = 12
 numberOf NoPosition = 13
 numberOf NoStream = 14
@@ -42,7 +42,6 @@ placeOf (ExpectedMapColon p) = p
 placeOf (ExpectedMapNewline p) = p
 placeOf Field = 0
 placeOf (Number p) = p
-placeOf TrailingCharacters = 0
 placeOf Limit = 0
 placeOf NoPosition = 0
 placeOf NoStream = 0
@@ -70,7 +69,6 @@ lineOf (ExpectedMapColon p) = 0
 lineOf (ExpectedMapNewline p) = 0
 lineOf Field = 0
 lineOf (Number p) = 0
-lineOf TrailingCharacters = 0
 lineOf Limit = 0
 lineOf NoPosition = 0
 lineOf NoStream = 0
@@ -85,3 +83,7 @@ lineOf (QuestionRef t k) = k
 lineOf (LoneNode t k) = k
 lineOf WalkTable = 0
 lineOf Steps = 0
+
+-- all three
+abbrev pub toldOf : Refusal → Told
+toldOf r = record { number = numberOf r; place = placeOf r; line = lineOf r }

@@ -1,7 +1,8 @@
-// After header/error.rs: why a call refuses. `Refusal` has a case for each of 01's numbers from 1 to 25, with the place that 01 gives it.
-// Only this crate and the C boundary look into its cases; all others build a case or pass it on. Assumes nothing.
+// After header/error.rs: why a call refuses. `Refusal` has a case for each of 01's numbers from 1 to 25 but 11, with the place that 01 gives it. 11 is
+// retired (02, Wish 14): no input gave it, and it is not given again.
+// Only this crate and the C boundary look into its cases; all others build a case or pass it on.
 ghost use mathlib.Core.Path.{_≡_};
-ghost use Rattle.error.specs.Numbers.{numberOf, placeOf, lineOf};
+ghost use Rattle.error.specs.Numbers.{toldOf, numberOf, placeOf, lineOf};
 
 // A place is a file offset; `tree` and `line` are counted from 0.
 pub enum Refusal {
@@ -25,8 +26,6 @@ pub enum Refusal {
     Field,
     // 10: a header number is 2^64 or more; its first digit
     Number(usize),
-    // 11: some characters were not consumed
-    TrailingCharacters,
     // 12: a limit is exceeded
     Limit,
     // 13: a stream's name has no entry in [POSITION], or there is no such stream
@@ -57,103 +56,70 @@ pub enum Refusal {
     Steps,
 }
 
+// What a refusal says in numbers: 01's number; the place, a file offset or the tree of 21 to 23, 0 where 01 gives none; the line of 21 to 23, else 0.
+pub struct Told {
+    pub number: u64,
+    pub place: usize,
+    pub line: usize,
+}
+
+fn says(number: u64, place: usize, line: usize) -> Told
+    ensures { λ r. ⌜ r ≡ (record { number = number; place = place; line = line }) ⌝ }
+{
+    Told {
+        number,
+        place,
+        line,
+    }
+}
+
 impl Refusal {
-    // 01's number.
+    pub fn told(self) -> Told
+        ensures { λ r. ⌜ r ≡ toldOf self ⌝ }
+    {
+        match self {
+            Refusal::Split => says(1, 0, 0),
+            Refusal::Utf8(at) => says(2, at, 0),
+            Refusal::Eof(at) => says(3, at, 0),
+            Refusal::ExpectedBool(at) => says(4, at, 0),
+            Refusal::ExpectedInteger(at) => says(5, at, 0),
+            Refusal::ExpectedArrayComma(at) => says(6, at, 0),
+            Refusal::ExpectedMapColon(at) => says(7, at, 0),
+            Refusal::ExpectedMapNewline(at) => says(8, at, 0),
+            Refusal::Field => says(9, 0, 0),
+            Refusal::Number(at) => says(10, at, 0),
+            Refusal::Limit => says(12, 0, 0),
+            Refusal::NoPosition => says(13, 0, 0),
+            Refusal::NoStream => says(14, 0, 0),
+            Refusal::UseGv => says(15, 0, 0),
+            Refusal::Range => says(16, 0, 0),
+            Refusal::Text => says(17, 0, 0),
+            Refusal::State => says(18, 0, 0),
+            Refusal::Block => says(19, 0, 0),
+            Refusal::Room => says(20, 0, 0),
+            Refusal::NodeRef { tree, line } => says(21, tree, line),
+            Refusal::QuestionRef { tree, line } => says(22, tree, line),
+            Refusal::LoneNode { tree, line } => says(23, tree, line),
+            Refusal::WalkTable => says(24, 0, 0),
+            Refusal::Steps => says(25, 0, 0),
+        }
+    }
+
     pub fn number(self) -> u64
         ensures { λ r. ⌜ r ≡ numberOf self ⌝ }
     {
-        match self {
-            Refusal::Split => 1,
-            Refusal::Utf8(_) => 2,
-            Refusal::Eof(_) => 3,
-            Refusal::ExpectedBool(_) => 4,
-            Refusal::ExpectedInteger(_) => 5,
-            Refusal::ExpectedArrayComma(_) => 6,
-            Refusal::ExpectedMapColon(_) => 7,
-            Refusal::ExpectedMapNewline(_) => 8,
-            Refusal::Field => 9,
-            Refusal::Number(_) => 10,
-            Refusal::TrailingCharacters => 11,
-            Refusal::Limit => 12,
-            Refusal::NoPosition => 13,
-            Refusal::NoStream => 14,
-            Refusal::UseGv => 15,
-            Refusal::Range => 16,
-            Refusal::Text => 17,
-            Refusal::State => 18,
-            Refusal::Block => 19,
-            Refusal::Room => 20,
-            Refusal::NodeRef { tree: _, line: _ } => 21,
-            Refusal::QuestionRef { tree: _, line: _ } => 22,
-            Refusal::LoneNode { tree: _, line: _ } => 23,
-            Refusal::WalkTable => 24,
-            Refusal::Steps => 25,
-        }
+        self.told().number
     }
 
-    // 01's place: a file offset, or the tree of 21 to 23; 0 where 01 gives none.
     pub fn place(self) -> usize
         ensures { λ r. ⌜ r ≡ placeOf self ⌝ }
     {
-        match self {
-            Refusal::Split => 0,
-            Refusal::Utf8(at) => at,
-            Refusal::Eof(at) => at,
-            Refusal::ExpectedBool(at) => at,
-            Refusal::ExpectedInteger(at) => at,
-            Refusal::ExpectedArrayComma(at) => at,
-            Refusal::ExpectedMapColon(at) => at,
-            Refusal::ExpectedMapNewline(at) => at,
-            Refusal::Field => 0,
-            Refusal::Number(at) => at,
-            Refusal::TrailingCharacters => 0,
-            Refusal::Limit => 0,
-            Refusal::NoPosition => 0,
-            Refusal::NoStream => 0,
-            Refusal::UseGv => 0,
-            Refusal::Range => 0,
-            Refusal::Text => 0,
-            Refusal::State => 0,
-            Refusal::Block => 0,
-            Refusal::Room => 0,
-            Refusal::NodeRef { tree, line: _ } => tree,
-            Refusal::QuestionRef { tree, line: _ } => tree,
-            Refusal::LoneNode { tree, line: _ } => tree,
-            Refusal::WalkTable => 0,
-            Refusal::Steps => 0,
-        }
+        self.told().place
     }
 
-    // The line of 21 to 23, counted from 0; 0 for the others.
     pub fn line(self) -> usize
         ensures { λ r. ⌜ r ≡ lineOf self ⌝ }
     {
-        match self {
-            Refusal::Split => 0,
-            Refusal::Utf8(_) => 0,
-            Refusal::Eof(_) => 0,
-            Refusal::ExpectedBool(_) => 0,
-            Refusal::ExpectedInteger(_) => 0,
-            Refusal::ExpectedArrayComma(_) => 0,
-            Refusal::ExpectedMapColon(_) => 0,
-            Refusal::ExpectedMapNewline(_) => 0,
-            Refusal::Field => 0,
-            Refusal::Number(_) => 0,
-            Refusal::TrailingCharacters => 0,
-            Refusal::Limit => 0,
-            Refusal::NoPosition => 0,
-            Refusal::NoStream => 0,
-            Refusal::UseGv => 0,
-            Refusal::Range => 0,
-            Refusal::Text => 0,
-            Refusal::State => 0,
-            Refusal::Block => 0,
-            Refusal::Room => 0,
-            Refusal::NodeRef { tree: _, line } => line,
-            Refusal::QuestionRef { tree: _, line } => line,
-            Refusal::LoneNode { tree: _, line } => line,
-            Refusal::WalkTable => 0,
-            Refusal::Steps => 0,
-        }
+        self.told().line
     }
 }

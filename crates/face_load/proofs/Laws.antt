@@ -1,17 +1,17 @@
--- Each way through a load by words. Assumes nothing.
+-- Each way through a load by words.
 use mathlib.Core.Path.{_≡_, refl, sym, ap, _∙_}
 use mathlib.Core.Bool.{Bool, cond}
 use mathlib.Core.List.{List}
 use Prim.Native.Nat.{ℕ}
 use lib.Dec.{eqb}
 use lib.IntN.{ℤ}
-use Rattle.header_words.specs.Words.{headerAt}
-use Rattle.which.specs.declared.Which.{Which}
+use Rattle.head_words.specs.Words.{headerAt}
+use Rattle.load_choose.specs.declared.Which.{Which}
 use Rattle.face_open.specs.Answers.{judgedOf}
 use Rattle.face_open.proofs.Laws.{fit, unfit}
-use Rattle.model.specs.Load.{After, loadOf}
-use Rattle.model.specs.declared.Loaded.{Loaded}
-use Rattle.model.proofs.Laws.{Is}
+use Rattle.load_model.specs.Load.{After, loadOf}
+use Rattle.load_model.specs.declared.Loaded.{Loaded}
+use Rattle.load_model.proofs.Laws.{Is}
 use Rattle.face_model.specs.declared.Rows.{Rows}
 use Rattle.face_model.specs.Answers.{whichOf, noRows, rowsBy}
 use Rattle.face_load.specs.Answers.{Filled, filledBy, untouched, filledIn, filledOf}

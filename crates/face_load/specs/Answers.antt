@@ -1,13 +1,13 @@
 -- What a load answers in numbers, and each lent slice after it, by the words of a record (host/larsavim.h). Words that are no record leave everything as it was.
--- Assumes nothing.
+--
 use mathlib.Core.Bool.{cond}
 use mathlib.Core.List.{List}
 use Prim.Native.Nat.{ℕ}
 use lib.Dec.{eqb}
 use lib.IntN.{ℤ}
-use Rattle.header_words.specs.Words.{headerAt}
+use Rattle.head_words.specs.Words.{headerAt}
 use Rattle.face_open.specs.Answers.{judgedOf}
-use Rattle.model.specs.Load.{After, loadOf}
+use Rattle.load_model.specs.Load.{After, loadOf}
 use Rattle.face_model.specs.declared.Rows.{Rows}
 use Rattle.face_model.specs.Answers.{whichOf, noRows, rowsBy}
 

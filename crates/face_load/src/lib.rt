@@ -1,9 +1,9 @@
-// A load by the words of a record, its answer in numbers (host/larsavim.h). Any file, any words, any tables, any numbers. Assumes nothing.
+// A load by the words of a record, its answer in numbers (host/larsavim.h). Any file, any words, any tables, any numbers.
 use face_model::Rows;
 use face_model::which_of;
 use face_open::judged;
-use model::Loaded;
-use model::load;
+use load_model::Loaded;
+use load_model::load;
 ghost use mathlib.Core.Path.{_≡_};
 ghost use Rattle.face_model.specs.Answers.{noRows, rowsBy};
 ghost use Rattle.face_load.specs.Answers.{filledOf};

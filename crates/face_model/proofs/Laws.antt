@@ -1,4 +1,4 @@
--- Each way through the calls on a model and on loaded tables. Assumes nothing.
+-- Each way through the calls on a model and on loaded tables.
 use mathlib.Core.Path.{_≡_, refl, sym, ap, _∙_}
 use mathlib.Core.Bool.{Bool, true, false, cond}
 use mathlib.Core.List.{List}
@@ -9,18 +9,18 @@ use lib.Dec.{ltb, eqb}
 use lib.ListN.{length}
 use Rattle.error.specs.Numbers.{numberOf, placeOf, lineOf}
 use Rattle.error.specs.declared.Refusal.{Refusal}
-use Rattle.header.specs.declared.Header.{Header}
-use Rattle.header_words.specs.Words.{headerAt}
+use Rattle.head_record.specs.declared.Header.{Header}
+use Rattle.head_words.specs.Words.{headerAt}
 use Rattle.face_open.specs.Answers.{judgedOf}
 use Rattle.face_open.proofs.Laws.{fit, unfit}
-use Rattle.which.specs.declared.Which.{Which}
-use Rattle.which.specs.declared.Which.the-variants.{Duration, Stream, Gv}
-use Rattle.model_plan.specs.Plans.{dataOf, planned}
-use Rattle.model_plan.specs.declared.Plan.{Plan}
-use Rattle.model_plan.specs.declared.Planned.{Planned}
-use Rattle.model_plan.specs.declared.Planned.the-variants as planned
-use Rattle.model_plan.proofs.Laws.{needs-sound}
-use Rattle.model.proofs.Laws.{part-short, small-values}
+use Rattle.load_choose.specs.declared.Which.{Which}
+use Rattle.load_choose.specs.declared.Which.the-variants.{Duration, Stream, Gv}
+use Rattle.load_plan.specs.Plans.{dataOf, planned}
+use Rattle.load_plan.specs.declared.Plan.{Plan}
+use Rattle.load_plan.specs.declared.Planned.{Planned}
+use Rattle.load_plan.specs.declared.Planned.the-variants as planned
+use Rattle.load_plan.proofs.Laws.{needs-sound}
+use Rattle.load_model.proofs.Laws.{part-short, small-values}
 use Rattle.face_model.specs.declared.Needed.{Needed}
 use Rattle.face_model.specs.Answers.{whichOf, workFor, notNeeded, neededFor, neededBy, neededIn, neededOf}
 

@@ -1,21 +1,21 @@
--- What the calls on a model and on loaded tables answer in numbers (host/larsavim.h): which model a number names, what a model needs, a load, a walk. Assumes nothing.
+-- What the calls on a model and on loaded tables answer in numbers (host/larsavim.h): which model a number names, what a model needs, a load, a walk.
 use mathlib.Core.Bool.{Bool, cond}
 use mathlib.Core.List.{List}
 use Prim.Native.Nat.{ℕ, _-_, _*_, _/_, _%_}
 use lib.Dec.{ltb, eqb}
 use lib.IntN.{ℤ}
 use Rattle.error.specs.Numbers.{numberOf, placeOf, lineOf}
-use Rattle.header_words.specs.Words.{headerAt}
+use Rattle.head_words.specs.Words.{headerAt}
 use Rattle.face_open.specs.Answers.{judgedOf}
-use Rattle.which.specs.declared.Which.{Which}
-use Rattle.which.specs.declared.Which.the-variants.{Duration, Stream, Gv}
-use Rattle.model_plan.specs.Plans.{planned}
-use Rattle.model_plan.specs.declared.Plan.{Plan}
-use Rattle.model_plan.specs.declared.Planned.{Planned}
-use Rattle.model_plan.specs.declared.Planned.the-variants as planned
-use Rattle.model.specs.Load.{After, loadOf}
-use Rattle.model.specs.declared.Loaded.{Loaded}
-use Rattle.model.specs.declared.Loaded.the-variants as loaded
+use Rattle.load_choose.specs.declared.Which.{Which}
+use Rattle.load_choose.specs.declared.Which.the-variants.{Duration, Stream, Gv}
+use Rattle.load_plan.specs.Plans.{planned}
+use Rattle.load_plan.specs.declared.Plan.{Plan}
+use Rattle.load_plan.specs.declared.Planned.{Planned}
+use Rattle.load_plan.specs.declared.Planned.the-variants as planned
+use Rattle.load_model.specs.Load.{After, loadOf}
+use Rattle.load_model.specs.declared.Loaded.{Loaded}
+use Rattle.load_model.specs.declared.Loaded.the-variants as loaded
 use Rattle.walk.specs.Walking.{walkOf}
 use Rattle.walk.specs.declared.Walked.{Walked}
 use Rattle.walk.specs.declared.Walked.the-variants as walked

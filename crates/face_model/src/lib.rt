@@ -1,12 +1,12 @@
 // The calls on a model and on loaded tables, their answers in numbers (host/larsavim.h): what a model needs, a load, a walk. The exports of `larsavim` write
-// these answers out. Any file, any words, any tables, any numbers. Assumes nothing.
+// these answers out. Any file, any words, any tables, any numbers.
 use face_open::judged;
-use model_plan::Plan;
-use model_plan::Planned;
-use model_plan::needs;
+use load_choose::Which;
+use load_plan::Plan;
+use load_plan::Planned;
+use load_plan::needs;
 use walk::Walked;
 use walk::walk;
-use which::Which;
 ghost use mathlib.Core.Path.{_≡_};
 ghost use Prim.Native.Nat.{_*_, _<_, _^_};
 ghost use Rattle.face_model.specs.Answers.{whichOf, workFor, notNeeded, neededFor, neededOf, endedOf};

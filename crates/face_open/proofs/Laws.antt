@@ -1,4 +1,4 @@
--- Each way through the calls on a file and its record. Assumes nothing.
+-- Each way through the calls on a file and its record.
 use mathlib.Core.Path.{_≡_, refl, sym, ap, _∙_}
 use mathlib.Core.Bool.{Bool, true, false, cond}
 use mathlib.Core.List.{List}
@@ -10,12 +10,12 @@ use lib.ListN.{length, replicate}
 use lib.Seq.{sets}
 use Rattle.error.specs.Numbers.{numberOf, placeOf}
 use Rattle.error.specs.declared.Refusal.{Refusal}
-use Rattle.header_lines.specs.declared.Verdict.{Verdict}
-use Rattle.header_lines.specs.declared.Verdict.the-variants.{Accepted, Refused}
-use Rattle.header_words.specs.Words.{wordAt, headerWords, flagsFit}
-use Rattle.parser.specs.Open.{openOf}
-use Rattle.parser.specs.Left.{openLeft}
-use Rattle.parser.proofs.Left.{open-words}
+use Rattle.head_lines.specs.declared.Verdict.{Verdict}
+use Rattle.head_lines.specs.declared.Verdict.the-variants.{Accepted, Refused}
+use Rattle.head_words.specs.Words.{wordAt, headerWords, flagsFit}
+use Rattle.head_open.specs.Open.{openOf}
+use Rattle.head_open.specs.Left.{openLeft}
+use Rattle.head_open.proofs.Left.{open-words}
 use Rattle.face_open.specs.declared.Said.{Said}
 use Rattle.face_open.specs.declared.Part.{Part}
 use Rattle.face_open.specs.declared.Pair.{Pair}

@@ -1,4 +1,4 @@
--- What the calls on a file and its record answer in numbers (host/larsavim.h): opening, COMMENT, and the fields of the record. Assumes nothing.
+-- What the calls on a file and its record answer in numbers (host/larsavim.h): opening, COMMENT, and the fields of the record.
 use mathlib.Core.Bool.{Bool, true, false, cond}
 use mathlib.Core.List.{List}
 use Prim.Native.Nat.{ℕ, _+_, _-_}
@@ -7,11 +7,11 @@ use lib.ListN.{length}
 use lib.Seq.{sets}
 use Rattle.error.specs.Numbers.{numberOf, placeOf}
 use Rattle.error.specs.declared.Refusal.{Refusal}
-use Rattle.header.specs.declared.Header.{Header}
-use Rattle.header_lines.specs.declared.Verdict.{Verdict}
-use Rattle.header_lines.specs.declared.Verdict.the-variants.{Accepted, Refused}
-use Rattle.header_words.specs.Words.{wordAt, headerWords, flagsFit}
-use Rattle.parser.specs.Open.{openOf}
+use Rattle.head_record.specs.declared.Header.{Header}
+use Rattle.head_lines.specs.declared.Verdict.{Verdict}
+use Rattle.head_lines.specs.declared.Verdict.the-variants.{Accepted, Refused}
+use Rattle.head_words.specs.Words.{wordAt, headerWords, flagsFit}
+use Rattle.head_open.specs.Open.{openOf}
 use Rattle.face_open.specs.declared.Said.{Said}
 use Rattle.face_open.specs.declared.Part.{Part}
 use Rattle.face_open.specs.declared.Pair.{Pair}

@@ -1,13 +1,13 @@
 // The calls on a file and its record, their answers in numbers (host/larsavim.h): opening, COMMENT, the record's fields. The exports of `larsavim` write
-// these answers out. Any file, any words, any numbers. Assumes nothing.
+// these answers out. Any file, any words, any numbers.
 use error::Refusal;
-use header_lines::Verdict;
-use header_put::put_all;
-use header_words::COMMENT;
-use header_words::HAS_COMMENT;
-use header_words::WORDS;
-use header_words::flags_fit;
-use parser::open;
+use head_lines::Verdict;
+use head_open::open;
+use head_put::put_all;
+use head_words::COMMENT;
+use head_words::HAS_COMMENT;
+use head_words::WORDS;
+use head_words::flags_fit;
 ghost use mathlib.Core.Path.{_≡_};
 ghost use lib.ListN.{length};
 ghost use Rattle.error.specs.Numbers.{numberOf, placeOf};

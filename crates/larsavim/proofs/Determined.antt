@@ -1,11 +1,11 @@
--- What each exported contract fixes: any two outcomes that it allows are equal, what is returned and every lent slice. Assumes nothing.
+-- What each exported contract fixes: any two outcomes that it allows are equal, what is returned and every lent slice.
 use mathlib.Core.Path.{_≡_, sym, _∙_}
 use mathlib.Core.List.{List}
 use Prim.Native.Nat.{ℕ}
 use lib.IntN.{ℤ}
 use lib.ListN.{length}
-use Rattle.header_words.specs.Words.{flagWord}
-use Rattle.leaves.specs.Checks.{leavesFit}
+use Rattle.head_words.specs.Words.{flagWord}
+use Rattle.walk_leaves.specs.Checks.{leavesFit}
 use Rattle.face_open.specs.Answers.{openSaid, openWords, commentSaid, getSaid, pairSaid}
 use Rattle.face_model.specs.Answers.{neededOf, endedOf}
 use Rattle.face_load.specs.Answers.{filledOf}

@@ -1,4 +1,4 @@
--- How answers are written, and what a slice that is too short leaves. Assumes nothing.
+-- How answers are written, and what a slice that is too short leaves.
 use mathlib.Core.Path.{_≡_, refl, sym, ap, _∙_}
 use mathlib.Core.Bool.{Bool, cond}
 use mathlib.Core.List.{List, [], _∷_}

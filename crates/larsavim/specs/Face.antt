@@ -1,5 +1,5 @@
 -- How an answer crosses to C (host/larsavim.h, 'Answers'): its numbers go to the front of a lent slice, all of them in every case, and the first is returned.
--- A slice shorter than the answer is 20, with nothing written anywhere. Assumes nothing.
+-- A slice shorter than the answer is 20, with nothing written anywhere.
 use mathlib.Core.Bool.{cond}
 use mathlib.Core.List.{List, [], _∷_}
 use Prim.Native.Nat.{ℕ}

@@ -1,5 +1,7 @@
 // The face: the public calls exported to C, on numbers and slices alone (host/larsavim.h documents each). No call has a requirement: any bytes, any words, any
-// numbers, slices of any length. A slice for an answer that is too short is 20 before all else, with nothing written. Assumes nothing.
+// numbers, slices of any length. A slice for an answer that is too short is 20 before all else, with nothing written.
+use face_jobs::Job;
+use face_jobs::walk_job;
 use face_load::load_said;
 use face_model::Needed;
 use face_model::Rows;
@@ -9,18 +11,19 @@ use face_open::comment_said;
 use face_open::get_said;
 use face_open::open_words;
 use face_open::pair_said;
-use leaves::leaves_fit;
-use tables::put2;
-use tables::put4;
+use table_put::put2;
+use table_put::put4;
+use walk_leaves::leaves_fit;
 ghost use mathlib.Core.Path.{_≡_};
 ghost use mathlib.Core.List.{[], _∷_};
 ghost use Prim.Native.Nat.{_≤_};
 ghost use lib.ListN.{length};
 ghost use lib.Seq.{sets};
-ghost use Rattle.header_words.specs.Words.{flagWord};
-ghost use Rattle.leaves.specs.Checks.{leavesFit};
+ghost use Rattle.head_words.specs.Words.{flagWord};
+ghost use Rattle.walk_leaves.specs.Checks.{leavesFit};
 ghost use Rattle.face_open.specs.Answers.{openSaid, openWords, commentSaid, getSaid, pairSaid};
 ghost use Rattle.face_model.specs.Answers.{neededOf, endedOf};
+ghost use Rattle.face_jobs.specs.Done.{jobsDone};
 ghost use Rattle.face_load.specs.Answers.{filledOf};
 ghost use Rattle.larsavim.specs.Face.{answered, written, left, saidNumbers, partNumbers, pairNumbers, neededNumbers, rowsNumbers, endedNumbers};
 
@@ -232,4 +235,23 @@ pub extern "C" fn larsavim_leaves(
     ensures { λ r. ⌜ r ≡ flagWord (leavesFit (now (questions .entry)) (now (trees .entry)) (now (records .entry)) (now (blocks .entry)) (now (values .entry)) width) ⌝ }
 {
     leaves_fit(questions, trees, records, blocks, values, width) as u64
+}
+
+// Walks for each job of a lent slice, and writes how each ended where the job stands. The borrow checker covers no function over a slice of structs, so this loop is proved
+// by hand and does nothing but call the covered `walk_job`.
+#[no_mangle]
+pub extern "C" fn larsavim_walk_jobs(
+    trees: &[u64],
+    records: &[u64],
+    answers: &[u8],
+    jobs: &mut [Job],
+)
+    ensures { λ _. ⌜ now (jobs .exit) ≡ jobsDone (now (trees .entry)) (now (records .entry)) (now (answers .entry)) (now (jobs .entry)) ⌝ }
+{
+    let mut i = 0;
+    while i < jobs.len() {
+        let job = jobs[i];
+        jobs[i] = walk_job(trees, records, answers, job);
+        i = i + 1;
+    }
 }

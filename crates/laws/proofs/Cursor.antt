@@ -1,4 +1,4 @@
--- From runs that compute, as a cursor's answers have them, to the definitions: strings, digits and unknown values. Assumes nothing.
+-- From runs that compute, as a cursor's answers have them, to the definitions: strings, digits and unknown values.
 use mathlib.Core.Path.{_≡_, refl, sym, ap, _∙_, subst}
 use mathlib.Core.Bool.{Bool, true, false, not, cond, _||_}
 use lib.Dec.{eqb}

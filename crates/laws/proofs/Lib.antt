@@ -8,3 +8,4 @@ pub mod Steps
 pub mod Wholes
 pub mod Parted
 pub mod Nth
+pub mod Every

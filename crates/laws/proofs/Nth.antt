@@ -1,4 +1,4 @@
--- Where things of a list stand, in `written`'s words, and rows one behind the other. Assumes nothing.
+-- Where things of a list stand, in `written`'s words, and rows one behind the other.
 use mathlib.Core.Path.{_≡_, refl, sym, ap, _∙_}
 use mathlib.Core.List.{List, [], _∷_, _++_, flatten, append-assoc}
 use Prim.Native.Nat.{ℕ, zero, suc, _<_}

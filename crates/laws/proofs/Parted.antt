@@ -1,4 +1,4 @@
--- Items that `written` has parted, and items that are read by steps: where each step reads what stands there, what is read is what is parted, both ways. Assumes nothing.
+-- Items that `written` has parted, and items that are read by steps: where each step reads what stands there, what is read is what is parted, both ways.
 use mathlib.Core.Path.{_≡_, refl, ap, ap₂, _∙_, subst}
 use mathlib.Core.List.{List, [], _∷_, zipWith}
 use Prim.Native.Nat.{ℕ, zero, suc, _≤_, _<_}

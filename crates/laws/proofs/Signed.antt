@@ -1,4 +1,4 @@
--- Signed numbers as the machine has them: a number read back from its bits, the test for a negative one, and `!` of it. Assumes nothing.
+-- Signed numbers as the machine has them: a number read back from its bits, the test for a negative one, and `!` of it.
 use mathlib.Core.Path.{_≡_, refl, sym, ap, _∙_}
 use mathlib.Core.Bool.{Bool, true, false}
 use Prim.Native.Nat.{ℕ, zero, suc, _-_, _^_, _<_}

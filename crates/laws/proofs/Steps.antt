@@ -1,4 +1,4 @@
--- Items that are read by steps: where each step goes up and stays inside the text, what is read from a place on is what its step reads. Assumes nothing.
+-- Items that are read by steps: where each step goes up and stays inside the text, what is read from a place on is what its step reads.
 use mathlib.Core.Path.{_≡_, refl, ap}
 use Prim.Native.Nat.{ℕ, zero, suc, _+_, _≤_, _<_}
 use native.Mathlib.Omega.{arith}

@@ -1,4 +1,4 @@
--- `stop` is where a run of `written` ends, and its bytes are those of `run`: for any test that is false at the end of the text. Assumes nothing.
+-- `stop` is where a run of `written` ends, and its bytes are those of `run`: for any test that is false at the end of the text.
 use mathlib.Core.Path.{_≡_, refl, sym, ap, _∙_, subst}
 use mathlib.Core.Bool.{Bool, true, false}
 use mathlib.Core.List.{List, [], _∷_}

@@ -1,4 +1,4 @@
--- The test `eqZ`, and what the machine tests: whether the bits of two signed numbers are the same. Assumes nothing.
+-- The test `eqZ`, and what the machine tests: whether the bits of two signed numbers are the same.
 use mathlib.Core.Path.{_≡_, refl, sym, ap, _∙_}
 use mathlib.Core.Bool.{true, false}
 use Prim.Native.Nat.{ℕ, _^_, _<_}

@@ -1,5 +1,5 @@
 -- Runs of bytes that pass a test, by computation: the bytes, and the place where they end. Contracts of readers cite these;
--- proofs/Stops and proofs/Cursor join them to the runs of `written`. Assumes nothing.
+-- proofs/Stops and proofs/Cursor join them to the runs of `written`.
 use mathlib.Core.Bool.{Bool, cond}
 use mathlib.Core.List.{List, [], _∷_}
 use Prim.Native.Nat.{ℕ, _+_}

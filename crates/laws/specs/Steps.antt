@@ -1,4 +1,4 @@
--- Items of a text, read one after another by a step: what stands at a place, and where reading goes on from there. Assumes nothing.
+-- Items of a text, read one after another by a step: what stands at a place, and where reading goes on from there.
 use mathlib.Core.List.{List, [], _∷_}
 use Prim.Native.Nat.{ℕ, zero, suc}
 

@@ -1,4 +1,4 @@
--- Numbers of the items of a list: their sum, the largest, and whether any passes a test. Assumes nothing.
+-- Numbers of the items of a list: their sum, the largest, and whether any passes a test.
 use mathlib.Core.Bool.{Bool, cond, _||_}
 use mathlib.Core.List.{List, [], _∷_}
 use Prim.Native.Nat.{ℕ, _+_}

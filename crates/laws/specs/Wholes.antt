@@ -1,4 +1,4 @@
--- Whole numbers: a test whether two are the same. Assumes nothing.
+-- Whole numbers: a test whether two are the same.
 use mathlib.Core.Bool.{Bool, false}
 use lib.Dec.{eqb}
 use lib.IntN.{ℤ, pos, negsuc}

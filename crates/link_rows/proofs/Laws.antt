@@ -1,4 +1,4 @@
--- Leaves spread from the last on, and lines written from the first on. Assumes nothing.
+-- Leaves spread from the last on, and lines written from the first on.
 use mathlib.Core.Path.{_≡_, refl, sym, ap, ap₂, _∙_, subst}
 use mathlib.Core.List.{List, [], _∷_, _++_}
 use Prim.Native.Nat.{ℕ, zero, suc, _+_, _-_, _*_, _≤_, _<_}
@@ -8,7 +8,7 @@ use lib.IntN.{ℤ, pos}
 use lib.ListN.{length, getD, take, drop, length-take, length-drop, drop-of-length-le}
 use lib.Seq.{sets, length-sets, drop-cons, getD-take, getD-drop}
 use Rattle.laws.proofs.Tables.{sets-append, sets-before, sets-under, sets-past}
-use Rattle.link_refs.specs.Lines.{natOf}
+use Rattle.link_targets.specs.Lines.{natOf}
 use Rattle.link_rows.specs.Rows.{leafRows, lineRows}
 
 -- ---- leaves

@@ -1,9 +1,9 @@
--- The records of a tree as numbers, four a record: (1, PDF number, 0, 0) of a leaf, (0, question, yes, no) of a line. Assumes nothing.
+-- The records of a tree as numbers, four a record: (1, PDF number, 0, 0) of a leaf, (0, question, yes, no) of a line.
 use mathlib.Core.List.{List, [], _∷_}
 use Prim.Native.Nat.{ℕ, zero, suc, _+_, _-_, _*_}
 use lib.IntN.{ℤ, pos}
 use lib.ListN.{getD}
-use Rattle.link_refs.specs.Lines.{natOf}
+use Rattle.link_targets.specs.Lines.{natOf}
 
 unfoldable pub leafRows : List ℕ → List ℕ
 leafRows [] = []

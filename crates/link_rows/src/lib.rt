@@ -1,14 +1,14 @@
 // After model/mod.rs, `convert_tree`: the records of a tree, written where their parts stand (01, 'Linking and tables').
 // The rows of a tree of n lines have four numbers a line, then four a leaf. Before these functions the yes and no of line k stand at
-// 2n + 2k, and the leaves' numbers side by side from 4n on. Assumes nothing.
-use link_refs::natural;
-use tables::put4;
+// 2n + 2k, and the leaves' numbers side by side from 4n on.
+use link_targets::natural;
+use table_put::put4;
 ghost use mathlib.Core.Path.{_≡_};
 ghost use Prim.Native.Nat.{_+_, _-_, _*_, _≤_};
 ghost use lib.IntN.{pos};
 ghost use lib.ListN.{length, getD, take, drop};
 ghost use lib.Seq.{sets};
-ghost use Rattle.link_refs.specs.Lines.{natOf};
+ghost use Rattle.link_targets.specs.Lines.{natOf};
 ghost use Rattle.link_rows.specs.Rows.{leafRows, lineRows};
 
 // The leaves, from the last to the first, so that no number is written over before it is read.

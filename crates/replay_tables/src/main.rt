@@ -2,14 +2,14 @@
 // records and walks, or 1, questions, trees, records, blocks, values, width and the answer, 1 for yes. A table is its length and its
 // numbers; a walk is tree, answer bytes and limit, and then number, PDF number and questions asked.
 // Assumes that the input fits 65,536 bytes, a table 256 numbers and the answer bytes 64; what doesn't fit differs.
-use base::blank_end;
-use base_values::Unsigned;
-use base_values::parse_unsigned;
-use leaves::leaves_fit;
 use libc::STDIN_FILENO;
-use stored::say;
+use replay::say;
+use text_base::blank_end;
+use text_numbers::Unsigned;
+use text_numbers::parse_unsigned;
 use walk::Walked;
 use walk::walk;
+use walk_leaves::leaves_fit;
 ghost use Prim.Native.Nat.{_≤_};
 ghost use Rattle.io.specs.Counts.{Counts};
 

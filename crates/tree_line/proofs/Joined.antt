@@ -1,5 +1,5 @@
 -- The lines that this crate answers and those of `written`'s grammar are the same, one by one and as a tree's list: what stands there is answered,
--- what is answered stands there. Assumes nothing.
+-- what is answered stands there.
 use mathlib.Core.Path.{_≡_, refl, sym, ap, ap₂, _∙_, subst}
 use mathlib.Core.Bool.{Bool, true, false, cond}
 use mathlib.Core.List.{List, zipWith}
@@ -18,16 +18,16 @@ use Rattle.laws.specs.Runs.{stop}
 use Rattle.laws.specs.Steps.{doneAt, Step, next, last, broken}
 use Rattle.laws.proofs.Parted.{Stood, Reads, Read, parted-read, read-parted}
 use Rattle.laws.proofs.Stops.{run₁-stop, run₁-is}
-use Rattle.base_spaces.specs.Spaces.{nameAt, closeAt, linePartingAt}
-use Rattle.base_spaces.specs.declared.Name.{Name}
-use Rattle.base_spaces.specs.declared.Name.the-variants as name
-use Rattle.base_spaces.specs.declared.Place.{Place}
-use Rattle.base_spaces.specs.declared.Place.the-variants.{At, Nowhere}
-use Rattle.base_spaces.proofs.Joined.{no-blank, clash, name-found, found-name, line-parting-found, found-line-parting, Closed, close-found, found-close, closed-before, line-parting-inside}
-use Rattle.base_values.specs.Answers.{signedAt}
-use Rattle.base_values.specs.declared.Signed.{Signed}
-use Rattle.base_values.specs.declared.Signed.the-variants as signed
-use Rattle.base_values.proofs.Joined.{number-signed, signed-number}
+use Rattle.text_spaces.specs.Spaces.{nameAt, closeAt, linePartingAt}
+use Rattle.text_spaces.specs.declared.Name.{Name}
+use Rattle.text_spaces.specs.declared.Name.the-variants as name
+use Rattle.text_spaces.specs.declared.Place.{Place}
+use Rattle.text_spaces.specs.declared.Place.the-variants.{At, Nowhere}
+use Rattle.text_spaces.proofs.Joined.{no-blank, clash, name-found, found-name, line-parting-found, found-line-parting, Closed, close-found, found-close, closed-before, line-parting-inside}
+use Rattle.text_numbers.specs.Answers.{signedAt}
+use Rattle.text_numbers.specs.declared.Signed.{Signed}
+use Rattle.text_numbers.specs.declared.Signed.the-variants as signed
+use Rattle.text_numbers.proofs.Joined.{number-signed, signed-number}
 use Rattle.tree_reference.specs.References.{indexOf, referenceAt}
 use Rattle.tree_reference.specs.declared.TreeIndex.{TreeIndex}
 use Rattle.tree_reference.specs.declared.Reference.{Reference as Answer}

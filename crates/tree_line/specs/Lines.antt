@@ -1,4 +1,4 @@
--- What the readers of this crate answer, on the list of bytes and the place; a tree's lines as a list; what a line of `written` is in code. Assumes nothing.
+-- What the readers of this crate answer, on the list of bytes and the place; a tree's lines as a list; what a line of `written` is in code.
 use mathlib.Core.Bool.{cond}
 use mathlib.Core.List.{List}
 use Prim.Native.Nat.{ℕ}
@@ -9,14 +9,14 @@ use Rattle.written.specs.Bytes.{blank, Span}
 use Rattle.written.specs.Said as said
 use Rattle.laws.specs.Runs.{stop}
 use Rattle.laws.specs.Steps.{Step, next, last, broken, Reading, read}
-use Rattle.base_spaces.specs.Spaces.{nameAt, closeAt, linePartingAt}
-use Rattle.base_spaces.specs.declared.Name.{Name}
-use Rattle.base_spaces.specs.declared.Name.the-variants as name
-use Rattle.base_spaces.specs.declared.Place.{Place}
-use Rattle.base_spaces.specs.declared.Place.the-variants.{At, Nowhere}
-use Rattle.base_values.specs.Answers.{signedAt}
-use Rattle.base_values.specs.declared.Signed.{Signed}
-use Rattle.base_values.specs.declared.Signed.the-variants as signed
+use Rattle.text_spaces.specs.Spaces.{nameAt, closeAt, linePartingAt}
+use Rattle.text_spaces.specs.declared.Name.{Name}
+use Rattle.text_spaces.specs.declared.Name.the-variants as name
+use Rattle.text_spaces.specs.declared.Place.{Place}
+use Rattle.text_spaces.specs.declared.Place.the-variants.{At, Nowhere}
+use Rattle.text_numbers.specs.Answers.{signedAt}
+use Rattle.text_numbers.specs.declared.Signed.{Signed}
+use Rattle.text_numbers.specs.declared.Signed.the-variants as signed
 use Rattle.tree_reference.specs.References.{indexOf, referenceAt}
 use Rattle.tree_reference.specs.declared.TreeIndex.{TreeIndex}
 use Rattle.tree_reference.specs.declared.Reference.{Reference}

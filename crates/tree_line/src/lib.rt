@@ -1,14 +1,14 @@
 // After model/tree.rs, `parse_node`: the lines of a tree (01, 'Tree text'). Id, question name, no reference, yes reference: on the page no stands before yes.
 // A caller reads the lines of a tree in order, by `next_line` from the place of the first up to the last.
-// Every function takes any bytes and any place, also one past the end. A place is an index into the slice. Assumes nothing.
-use base::blank_end;
-use base_spaces::Name;
-use base_spaces::Place;
-use base_spaces::line_parting;
-use base_spaces::name_between;
-use base_spaces::past_byte;
-use base_values::Signed;
-use base_values::parse_signed;
+// Every function takes any bytes and any place, also one past the end. A place is an index into the slice.
+use text_base::blank_end;
+use text_numbers::Signed;
+use text_numbers::parse_signed;
+use text_spaces::Name;
+use text_spaces::Place;
+use text_spaces::line_parting;
+use text_spaces::name_between;
+use text_spaces::past_byte;
 use tree_reference::Reference;
 use tree_reference::TreeIndex;
 use tree_reference::parse_tree_index;

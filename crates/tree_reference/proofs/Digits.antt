@@ -1,4 +1,4 @@
--- The laws of `digitsFrom`: a digit more, and where the digits begin. Assumes nothing.
+-- The laws of `digitsFrom`: a digit more, and where the digits begin.
 use mathlib.Core.Path.{_≡_, refl, sym, ap, _∙_}
 use mathlib.Core.Bool.{Bool, true, false, _||_}
 use mathlib.Core.List.{List}

@@ -1,5 +1,5 @@
 -- The references that this crate answers and those of `written`'s grammar are the same: what stands there is answered, what is answered stands there,
--- and where nothing is answered nothing stands. Assumes nothing.
+-- and where nothing is answered nothing stands.
 use mathlib.Core.Path.{_≡_, refl, sym, ap, _∙_, subst}
 use mathlib.Core.Bool.{Bool, true, false, cond, _||_}
 use mathlib.Core.List.{List}
@@ -17,14 +17,14 @@ use Rattle.written.proofs.Once.{digits-lt, digits-at, word-first, number-not, f
 use Rattle.laws.specs.Runs.{stop}
 use Rattle.laws.proofs.Runs.{stop-from}
 use Rattle.laws.proofs.Stops.{run-is, run₁-stop, run₁-is}
-use Rattle.base_spaces.specs.Spaces.{pastByte}
-use Rattle.base_spaces.specs.declared.Place.{Place}
-use Rattle.base_spaces.specs.declared.Place.the-variants.{At, Nowhere}
-use Rattle.base_spaces.proofs.Joined.{byte-past, past-byte, clash}
-use Rattle.base_values.specs.Answers.{signedAt}
-use Rattle.base_values.specs.declared.Signed.{Signed}
-use Rattle.base_values.specs.declared.Signed.the-variants as signed
-use Rattle.base_values.proofs.Joined.{number-signed, signed-number, no-number}
+use Rattle.text_spaces.specs.Spaces.{pastByte}
+use Rattle.text_spaces.specs.declared.Place.{Place}
+use Rattle.text_spaces.specs.declared.Place.the-variants.{At, Nowhere}
+use Rattle.text_spaces.proofs.Joined.{byte-past, past-byte, clash}
+use Rattle.text_numbers.specs.Answers.{signedAt}
+use Rattle.text_numbers.specs.declared.Signed.{Signed}
+use Rattle.text_numbers.specs.declared.Signed.the-variants as signed
+use Rattle.text_numbers.proofs.Joined.{number-signed, signed-number, no-number}
 use Rattle.tree_reference.specs.References.{indexOf, digitsFrom, pdfRead, pdfOf, pdfAt, bareRead, bareAt, closed, quotedRead, quotedAt, opened, referenceAt}
 use Rattle.tree_reference.specs.declared.TreeIndex.{TreeIndex}
 use Rattle.tree_reference.specs.declared.TreeIndex.the-variants.{Node, Pdf}

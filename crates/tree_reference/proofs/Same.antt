@@ -1,4 +1,4 @@
--- Two references of the text are the same exactly where `sameIndex` says so. Assumes nothing.
+-- Two references of the text are the same exactly where `sameIndex` says so.
 use mathlib.Core.Path.{_≡_, refl, ap}
 use mathlib.Core.Bool.{true}
 use Prim.Native.Nat.{ℕ}

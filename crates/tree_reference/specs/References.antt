@@ -1,4 +1,4 @@
--- What the readers of this crate answer, on the list of bytes and the place; and what a reference of `written` is in code. Assumes nothing.
+-- What the readers of this crate answer, on the list of bytes and the place; and what a reference of `written` is in code.
 use mathlib.Core.Bool.{Bool, false, cond}
 use mathlib.Core.List.{List}
 use Prim.Native.Nat.{ℕ, zero, suc}
@@ -8,12 +8,12 @@ use Rattle.written.specs.Bytes.{quote, digit, inWord, byteAt}
 use Rattle.written.specs.Said.{Ref, node, pdf}
 use Rattle.laws.specs.Runs.{stop}
 use Rattle.laws.specs.Wholes.{eqZ}
-use Rattle.base_spaces.specs.Spaces.{pastByte}
-use Rattle.base_spaces.specs.declared.Place.{Place}
-use Rattle.base_spaces.specs.declared.Place.the-variants.{At, Nowhere}
-use Rattle.base_values.specs.Answers.{signedAt}
-use Rattle.base_values.specs.declared.Signed.{Signed}
-use Rattle.base_values.specs.declared.Signed.the-variants as signed
+use Rattle.text_spaces.specs.Spaces.{pastByte}
+use Rattle.text_spaces.specs.declared.Place.{Place}
+use Rattle.text_spaces.specs.declared.Place.the-variants.{At, Nowhere}
+use Rattle.text_numbers.specs.Answers.{signedAt}
+use Rattle.text_numbers.specs.declared.Signed.{Signed}
+use Rattle.text_numbers.specs.declared.Signed.the-variants as signed
 use Rattle.tree_reference.specs.declared.TreeIndex.{TreeIndex}
 use Rattle.tree_reference.specs.declared.TreeIndex.the-variants.{Node, Pdf}
 use Rattle.tree_reference.specs.declared.Reference.{Reference}

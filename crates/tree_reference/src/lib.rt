@@ -1,12 +1,12 @@
 // After model/tree.rs, `parse_tree_index`: references (01, 'Tree text').
 // A reference is bare or in `"`: a number that fits signed 64 bits is a node; failing that, letters, digits and `_` are a PDF, by the digits at their end.
-// Every function takes any bytes and any place, also one past the end. A place is an index into the slice. Assumes nothing.
-use base::is_digit;
-use base::is_word;
-use base_spaces::Place;
-use base_spaces::past_byte;
-use base_values::Signed;
-use base_values::parse_signed;
+// Every function takes any bytes and any place, also one past the end. A place is an index into the slice.
+use text_base::is_digit;
+use text_base::is_word;
+use text_numbers::Signed;
+use text_numbers::parse_signed;
+use text_spaces::Place;
+use text_spaces::past_byte;
 ghost use mathlib.Core.Path.{_≡_};
 ghost use Rattle.tree_reference.specs.declared.Reference.the-variants.{Found};
 ghost use Rattle.tree_reference.specs.References.{pdfOf, pdfAt, bareAt, quotedAt, referenceAt, sameIndex, pdfCount};

@@ -1,4 +1,4 @@
--- The laws of surveying trees: what one tree needs; a turn of the loop counts one more of those that are read, and goes up. Assumes nothing.
+-- The laws of surveying trees: what one tree needs; a turn of the loop counts one more of those that are read, and goes up.
 use mathlib.Core.Path.{_≡_, refl, sym, ap, _∙_}
 use mathlib.Core.Bool.{Bool, false, _||_}
 use mathlib.Core.List.{List, [], zipWith}
@@ -13,18 +13,18 @@ use Rattle.written.proofs.Decide.{number-le, reference-le, parting-lt}
 use Rattle.laws.specs.Steps.{Ending, doneAt, brokenAt, Step, next, last, broken, Reading, readOf}
 use Rattle.laws.specs.Totals.{total, larger, largest, anyOf}
 use Rattle.laws.proofs.Parted.{onward}
-use Rattle.base_spaces.proofs.Joined.{Closed}
+use Rattle.text_spaces.proofs.Joined.{Closed}
 use Rattle.tree_line.specs.Lines.{lineOf, linesAt}
 use Rattle.tree_line.specs.declared.Line.{Line}
 use Rattle.tree_line.proofs.Joined.{lines-read}
-use Rattle.line_survey.specs.Counts.{linePdfs, recordsOf, surveyEnded as linesEnded, linesSurveyed}
-use Rattle.line_survey.proofs.Counting.{lines-size, records-few}
-use Rattle.tree.specs.Trees.{lone, braces, Tree, bodyOf, treeOf, headAt, afterTree, treeFollowed, treeRead, treeHeaded, treeStepAt, treesAt}
-use Rattle.tree.specs.declared.TreeHead.{TreeHead}
-use Rattle.tree.specs.declared.TreeHead.the-variants as head
-use Rattle.tree.specs.declared.TreeStep.the-variants as after
-use Rattle.tree.proofs.Filling.{trees-are}
-use Rattle.tree.proofs.Joined.{reads}
+use Rattle.tree_survey_lines.specs.Counts.{linePdfs, recordsOf, surveyEnded as linesEnded, linesSurveyed}
+use Rattle.tree_survey_lines.proofs.Counting.{lines-size, records-few}
+use Rattle.tree_body.specs.Trees.{lone, braces, Tree, bodyOf, treeOf, headAt, afterTree, treeFollowed, treeRead, treeHeaded, treeStepAt, treesAt}
+use Rattle.tree_body.specs.declared.TreeHead.{TreeHead}
+use Rattle.tree_body.specs.declared.TreeHead.the-variants as head
+use Rattle.tree_body.specs.declared.TreeStep.the-variants as after
+use Rattle.tree_body.proofs.Filling.{trees-are}
+use Rattle.tree_body.proofs.Joined.{reads}
 use Rattle.tree_survey.specs.Survey.{negative, bodyRecords, treeNegative, treeRecords, treeLines, linesCounted, headCounted, treeSurveyed, treesEnded, treesCounted}
 use Rattle.tree_survey.specs.declared.TreeCount.the-variants as count
 use Rattle.tree_survey.specs.declared.TreeSurvey.the-variants as surveyed

@@ -1,4 +1,4 @@
--- What is read of a text and what `written`'s grammar has it say are the same, both ways: (b) and (c) of tree text. Assumes nothing.
+-- What is read of a text and what `written`'s grammar has it say are the same, both ways: (b) and (c) of tree text.
 use mathlib.Core.Path.{_≡_, refl, sym, ap, _∙_}
 use mathlib.Core.Bool.{Bool, true, false, cond}
 use mathlib.Core.List.{List, [], zipWith}
@@ -13,12 +13,12 @@ use Rattle.laws.specs.Runs.{stop}
 use Rattle.laws.specs.Steps.{Ending, doneAt, brokenAt}
 use Rattle.laws.proofs.Parted.{parted-read, read-parted, laid-only}
 use Rattle.laws.proofs.Stops.{run-is}
-use Rattle.base_spaces.proofs.Joined.{no-blank}
-use Rattle.question.specs.Questions.{startsQuestion, itemAt, questionsFrom, questionsAt}
-use Rattle.question.specs.declared.Item.the-variants as item
-use Rattle.question.proofs.Joined.{question-starts, starts-qs, question-reads, tree-over, over-blanks}
-use Rattle.tree.specs.Trees.{treeOf}
-use Rattle.tree.proofs.Joined.{trees-read, read-trees}
+use Rattle.text_spaces.proofs.Joined.{no-blank}
+use Rattle.tree_question.specs.Questions.{startsQuestion, itemAt, questionsFrom, questionsAt}
+use Rattle.tree_question.specs.declared.Item.the-variants as item
+use Rattle.tree_question.proofs.Joined.{question-starts, starts-qs, question-reads, tree-over, over-blanks}
+use Rattle.tree_body.specs.Trees.{treeOf}
+use Rattle.tree_body.proofs.Joined.{trees-read, read-trees}
 use Rattle.laws.specs.Totals.{anyOf}
 use Rattle.tree_survey.specs.Survey.{textRead, textAt, treeNegative, surveyEnded, surveyOf, surveyAt}
 use Rattle.tree_survey.specs.Said.{textOf}

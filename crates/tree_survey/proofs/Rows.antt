@@ -1,4 +1,4 @@
--- The rows that the survey counts are those that `written` has a model's linking write. Assumes nothing.
+-- The rows that the survey counts are those that `written` has a model's linking write.
 use mathlib.Core.Path.{_≡_, refl, sym, ap, ap₂, _∙_}
 use mathlib.Core.Bool.{Bool, true, false, cond}
 use mathlib.Core.List.{List, [], _∷_, map, Forall₂, Forall₂·nil, Forall₂·cons}

@@ -1,4 +1,4 @@
--- The survey of a text is that of what it says, whatever its layout; and what its counts are in the words of `written`. Assumes nothing.
+-- The survey of a text is that of what it says, whatever its layout; and what its counts are in the words of `written`.
 use mathlib.Core.Path.{_≡_, refl, sym, ap, ap₂, _∙_}
 use mathlib.Core.Bool.{Bool, true, false, cond, _||_}
 use mathlib.Core.List.{List, [], _∷_, _++_, zipWith}
@@ -15,10 +15,10 @@ use Rattle.written.specs.Tables as tables
 use Rattle.laws.specs.Totals.{total, larger, largest, anyOf}
 use Rattle.tree_reference.specs.References.{indexOf, sameIndex, pdfCount}
 use Rattle.tree_reference.proofs.Same.{same-index, index-same}
-use Rattle.question_survey.specs.Counts.{patternCount}
+use Rattle.tree_survey_questions.specs.Counts.{patternCount}
 use Rattle.tree_line.specs.Lines.{lineOf}
-use Rattle.line_survey.specs.Counts.{linePdfs, recordsOf}
-use Rattle.tree.specs.Trees.{bodyOf, treeOf}
+use Rattle.tree_survey_lines.specs.Counts.{linePdfs, recordsOf}
+use Rattle.tree_body.specs.Trees.{bodyOf, treeOf}
 use Rattle.tree_survey.specs.Survey.{negative, bodyRecords, bodyLines, treeNegative, treeRecords, treeLines, surveyOf, surveyAt}
 use Rattle.tree_survey.specs.Said.{saidPatterns, saidRecords, saidBodyRecords, saidBodyLines, saidNegative, saidTreeRecords, saidTreeLines, saidSurvey}
 use Rattle.tree_survey.specs.declared.Survey.the-variants.{Counted, Broken, Negative}

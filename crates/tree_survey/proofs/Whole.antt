@@ -1,4 +1,4 @@
--- The laws of the survey of a whole text: its questions, then its trees. Assumes nothing.
+-- The laws of the survey of a whole text: its questions, then its trees.
 use mathlib.Core.Path.{_≡_, refl, sym, ap, _∙_}
 use mathlib.Core.Bool.{Bool, true, false, cond}
 use mathlib.Core.List.{List}
@@ -8,10 +8,10 @@ use lib.ListN.{length}
 use Rattle.written.specs.Said.{QuestionPlace}
 use Rattle.laws.specs.Steps.{Ending, doneAt, brokenAt, Reading}
 use Rattle.laws.specs.Totals.{total, largest, anyOf}
-use Rattle.question.specs.Questions.{questionsAt}
-use Rattle.question_survey.specs.Counts.{patternCount, questionsEnded, questionsCounted}
-use Rattle.question_survey.specs.declared.Questions.the-variants as questions
-use Rattle.tree.specs.Trees.{Tree, treesAt}
+use Rattle.tree_question.specs.Questions.{questionsAt}
+use Rattle.tree_survey_questions.specs.Counts.{patternCount, questionsEnded, questionsCounted}
+use Rattle.tree_survey_questions.specs.declared.Questions.the-variants as questions
+use Rattle.tree_body.specs.Trees.{Tree, treesAt}
 use Rattle.tree_survey.specs.Survey.{textRead, textAt, treeNegative, treeRecords, treeLines, treesEnded, treesCounted, surveyEnded, surveyOf, surveyAt}
 use Rattle.tree_survey.specs.declared.Trees.the-variants as trees
 use Rattle.tree_survey.specs.declared.Survey.the-variants.{Counted, Broken, Negative}

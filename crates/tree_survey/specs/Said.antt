@@ -1,4 +1,4 @@
--- What is read of a text, and what its survey answers, as functions of what the text says. Assumes nothing.
+-- What is read of a text, and what its survey answers, as functions of what the text says.
 use mathlib.Core.Bool.{Bool, false, cond}
 use mathlib.Core.List.{List, [], _∷_, zipWith}
 use Prim.Native.Nat.{ℕ, _+_}
@@ -8,7 +8,7 @@ use Rattle.written.specs.Linking.{pdfs}
 use Rattle.laws.specs.Steps.{doneAt}
 use Rattle.laws.specs.Totals.{total, largest, anyOf}
 use Rattle.tree_reference.specs.References.{indexOf, sameIndex}
-use Rattle.tree.specs.Trees.{treeOf}
+use Rattle.tree_body.specs.Trees.{treeOf}
 use Rattle.tree_survey.specs.Survey.{Text, negative}
 use Rattle.tree_survey.specs.declared.Survey.{Survey}
 use Rattle.tree_survey.specs.declared.Survey.the-variants.{Counted, Negative}

@@ -1,4 +1,4 @@
--- A tree text as it is read, and what the surveys of this crate answer of it. Assumes nothing.
+-- A tree text as it is read, and what the surveys of this crate answer of it.
 use mathlib.Core.Bool.{Bool, true, false, cond}
 use mathlib.Core.List.{List, []}
 use Prim.Native.Nat.{ℕ, _+_}
@@ -7,15 +7,15 @@ use lib.ListN.{length}
 use Rattle.written.specs.Said.{QuestionPlace}
 use Rattle.laws.specs.Steps.{Ending, doneAt, brokenAt, Step, next, last, broken, Reading}
 use Rattle.laws.specs.Totals.{total, largest, anyOf}
-use Rattle.question.specs.Questions.{questionsAt}
-use Rattle.question_survey.specs.Counts.{patternCount}
+use Rattle.tree_question.specs.Questions.{questionsAt}
+use Rattle.tree_survey_questions.specs.Counts.{patternCount}
 use Rattle.tree_line.specs.Lines.{linesAt}
-use Rattle.line_survey.specs.Counts.{recordsOf, linesSurveyed}
-use Rattle.line_survey.specs.declared.LineSurvey.{LineSurvey}
-use Rattle.line_survey.specs.declared.LineSurvey.the-variants as lines
-use Rattle.tree.specs.Trees.{Body, lone, braces, Tree, treesAt}
-use Rattle.tree.specs.declared.TreeHead.{TreeHead}
-use Rattle.tree.specs.declared.TreeHead.the-variants as head
+use Rattle.tree_survey_lines.specs.Counts.{recordsOf, linesSurveyed}
+use Rattle.tree_survey_lines.specs.declared.LineSurvey.{LineSurvey}
+use Rattle.tree_survey_lines.specs.declared.LineSurvey.the-variants as lines
+use Rattle.tree_body.specs.Trees.{Body, lone, braces, Tree, treesAt}
+use Rattle.tree_body.specs.declared.TreeHead.{TreeHead}
+use Rattle.tree_body.specs.declared.TreeHead.the-variants as head
 use Rattle.tree_survey.specs.declared.TreeCount.{TreeCount}
 use Rattle.tree_survey.specs.declared.TreeCount.the-variants as count
 use Rattle.tree_survey.specs.declared.TreeSurvey.{TreeSurvey}

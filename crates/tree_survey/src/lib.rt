@@ -1,18 +1,18 @@
 // The survey of a whole tree text (01, 'Tree text'): whether it is in the grammar (17) and its states are not negative (18), and what it needs of each table.
 // It reads the text once, by the readers that a load fills its tables with. The text is a prefix of the data, read from `at` on.
-// Every function takes any bytes and any place, also one past the end. A place is an index into the slice. Assumes nothing.
-use line_survey::LineSurvey;
-use line_survey::survey_lines;
-use question_survey::Questions;
-use question_survey::survey_questions;
-use tree::TreeHead;
-use tree::TreeStep;
-use tree::after_tree;
-use tree::tree_head;
+// Every function takes any bytes and any place, also one past the end. A place is an index into the slice.
+use tree_body::TreeHead;
+use tree_body::TreeStep;
+use tree_body::after_tree;
+use tree_body::tree_head;
+use tree_survey_lines::LineSurvey;
+use tree_survey_lines::survey_lines;
+use tree_survey_questions::Questions;
+use tree_survey_questions::survey_questions;
 ghost use mathlib.Core.Path.{_≡_};
 ghost use mathlib.Core.Bool.{false, _||_};
 ghost use Rattle.laws.specs.Totals.{larger};
-ghost use Rattle.tree.specs.Trees.{headAt, treeStepAt, treesAt};
+ghost use Rattle.tree_body.specs.Trees.{headAt, treeStepAt, treesAt};
 ghost use Rattle.tree_survey.specs.Survey.{negative, headCounted, treeSurveyed, treesCounted, surveyAt};
 
 // What a tree needs, and the place past it.

@@ -1,12 +1,12 @@
 -- How many questions a walk can ask, whatever its limit: no more than its tree has records in the table. And the numbers that it gives.
--- Assumes nothing.
+--
 use mathlib.Core.Path.{_≡_, ap, subst}
 use mathlib.Core.Bool.{Bool, true, false, cond}
 use mathlib.Core.List.{List}
 use Prim.Native.Nat.{ℕ, zero, suc, _≤_, min}
 use native.Mathlib.Omega.{arith}
 use Rattle.error.specs.declared.Refusal.the-variants.{WalkTable, Steps}
-use Rattle.rows.specs.Rows.{treeThere, treeFirst, treeRecords, recordsIn}
+use Rattle.table_rows.specs.Rows.{treeThere, treeFirst, treeRecords, recordsIn}
 use Rattle.walk.specs.declared.Met.{Met}
 use Rattle.walk.specs.declared.Met.the-variants.{Leaf, Line, Wrong}
 use Rattle.walk.specs.declared.Walked.{Walked}

@@ -1,5 +1,5 @@
 -- Demand 3, second half, of the call: over tables in which linked rows stand, the walk ends as the written walk of the tree: the same PDF
--- and as many questions, or the limit met in both, or 24 for empty braces. And what the walk's contract fixes. Assumes nothing.
+-- and as many questions, or the limit met in both, or 24 for empty braces. And what the walk's contract fixes.
 use mathlib.Core.Path.{_≡_, refl, sym, ap, _∙_, subst}
 use mathlib.Core.Bool.{Bool}
 use mathlib.Core.List.{List, flatten}
@@ -11,9 +11,9 @@ use Rattle.written.specs.Tables.{TreeRows}
 use Rattle.written.specs.Walks.{Ending, limit, nothing, Written, Outcome, refused, Loaded, LoadedTree, asLoaded, Answers}
 use Rattle.written.proofs.Walk.{demand₃, written-once}
 use Rattle.written.proofs.Model.{model-walks}
-use Rattle.rows.specs.Rows.{treeFirst, treeRecords, treeTable, recordTable, HasTree}
-use Rattle.rows.proofs.Stand.{tree-there, standing-cut}
-use Rattle.rows.proofs.Fours.{fours-model, record-table, tree-table}
+use Rattle.table_rows.specs.Rows.{treeFirst, treeRecords, treeTable, recordTable, HasTree}
+use Rattle.table_rows.proofs.Stand.{tree-there, standing-cut}
+use Rattle.table_rows.proofs.Fours.{fours-model, record-table, tree-table}
 use Rattle.walk.specs.declared.Walked.{Walked}
 use Rattle.walk.specs.declared.Walked.the-variants.{Pdf, Refused}
 use Rattle.walk.specs.Walking.{walkOf}

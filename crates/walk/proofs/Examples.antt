@@ -1,5 +1,5 @@
 -- The walk by computation: 01's tree of five records, a tree that goes round under the largest limit, what is refused; and demand 3 used on
--- 01's tree. Assumes nothing.
+-- 01's tree.
 use mathlib.Core.Path.{_≡_, refl, sym, ap, _∙_}
 use mathlib.Core.Bool.{false}
 use mathlib.Core.List.{List, [], _∷_, flatten}
@@ -10,9 +10,9 @@ use Rattle.written.specs.Walks.{Ending, Answers}
 use Rattle.written.proofs.Walk.{no-row}
 use Rattle.written.proofs.Link.{records-linked}
 use Rattle.written.proofs.Examples.{records₁, walk₁, walk₁-limit}
-use Rattle.rows.specs.Rows.{HasTree}
-use Rattle.rows.proofs.Stand.{flat-stands}
-use Rattle.rows.proofs.Fours.{fours-records}
+use Rattle.table_rows.specs.Rows.{HasTree}
+use Rattle.table_rows.proofs.Stand.{flat-stands}
+use Rattle.table_rows.proofs.Fours.{fours-records}
 use Rattle.error.specs.declared.Refusal.the-variants.{WalkTable, Steps}
 use Rattle.walk.specs.declared.Walked.{Walked}
 use Rattle.walk.specs.declared.Walked.the-variants.{Pdf, Refused}

@@ -1,11 +1,11 @@
--- The walk's loop: after `asked` questions at record k, what is left of the walk is the answer. Assumes nothing.
+-- The walk's loop: after `asked` questions at record k, what is left of the walk is the answer.
 use mathlib.Core.Path.{_≡_, sym, ap, ap₂, _∙_}
 use mathlib.Core.Bool.{Bool, true, false, cond}
 use mathlib.Core.List.{List}
 use Prim.Native.Nat.{ℕ, _+_, _-_, _≤_, _<_, min}
 use native.Mathlib.Omega.{arith}
 use Rattle.error.specs.declared.Refusal.the-variants.{WalkTable, Steps}
-use Rattle.rows.specs.Rows.{treeThere, treeFirst, treeRecords, recordsIn}
+use Rattle.table_rows.specs.Rows.{treeThere, treeFirst, treeRecords, recordsIn}
 use Rattle.walk.specs.declared.Met.{Met}
 use Rattle.walk.specs.declared.Met.the-variants.{Leaf, Line, Wrong}
 use Rattle.walk.specs.declared.Walked.{Walked}

@@ -1,4 +1,4 @@
--- What is met at a record: one law for each way out of `ask` and `meet`. Assumes nothing.
+-- What is met at a record: one law for each way out of `ask` and `meet`.
 use mathlib.Core.Path.{_≡_, refl, sym, ap, ap₂, _∙_}
 use mathlib.Core.Bool.{Bool, true, false, cond}
 use mathlib.Core.List.{List}
@@ -8,8 +8,8 @@ use borrow.Author.Tests.{lt-ltb, le-ltb, eq-eqb, ne-eqb}
 use lib.Dec.{eqb}
 use lib.ListN.{length, getD}
 use Rattle.written.specs.Walks.{chosen, isYes}
-use Rattle.rows.specs.Rows.{recordThere, recordsIn, recordKind, recordQuestion, recordPdf, recordYes, recordNo}
-use Rattle.rows.proofs.Stand.{record-in}
+use Rattle.table_rows.specs.Rows.{recordThere, recordsIn, recordKind, recordQuestion, recordPdf, recordYes, recordNo}
+use Rattle.table_rows.proofs.Stand.{record-in}
 use Rattle.walk.specs.declared.Met.{Met}
 use Rattle.walk.specs.declared.Met.the-variants.{Leaf, Line, Wrong}
 use Rattle.walk.specs.Walking.{lineAt, kindAt, meetAt}

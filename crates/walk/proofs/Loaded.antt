@@ -1,4 +1,4 @@
--- The walk's answer is the loaded walk of `written` over the rows of its tables, both ways, for any tables. Assumes nothing.
+-- The walk's answer is the loaded walk of `written` over the rows of its tables, both ways, for any tables.
 use mathlib.Core.Path.{_≡_, refl, subst}
 use mathlib.Core.Bool.{Bool, true, false, cond}
 use mathlib.Core.List.{List, [], _∷_}
@@ -11,8 +11,8 @@ use Rattle.written.specs.Linking.{Nth, Row, branch}
 use Rattle.written.specs.Walks.{isYes, chosen, Outcome, refused, afterwards, Loaded, LoadedTree}
 use Rattle.written.proofs.Walk.{nth-once, loaded-once}
 use Rattle.error.specs.declared.Refusal.the-variants.{WalkTable, Steps}
-use Rattle.rows.specs.Rows.{treeThere, treeFirst, treeRecords, recordThere, recordKind, recordQuestion, recordPdf, recordYes, recordNo, recordRow, treeTable, recordTable}
-use Rattle.rows.proofs.Stand.{nth-at, nth-below, tree-there, tree-missing, record-stands, record-out}
+use Rattle.table_rows.specs.Rows.{treeThere, treeFirst, treeRecords, recordThere, recordKind, recordQuestion, recordPdf, recordYes, recordNo, recordRow, treeTable, recordTable}
+use Rattle.table_rows.proofs.Stand.{nth-at, nth-below, tree-there, tree-missing, record-stands, record-out}
 use Rattle.walk.specs.declared.Met.{Met}
 use Rattle.walk.specs.declared.Met.the-variants.{Leaf, Line, Wrong}
 use Rattle.walk.specs.declared.Walked.{Walked}

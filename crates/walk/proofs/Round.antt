@@ -1,5 +1,5 @@
 -- A walk that asks as many questions as its tree has records in the table goes round: a limit above that many makes no difference.
--- Stated over any `meets` whose lines stand below m. Assumes nothing.
+-- Stated over any `meets` whose lines stand below m.
 use mathlib.Core.Path.{_≡_, refl, sym, ap, ap₂, _∙_, subst}
 use mathlib.Core.Logic.{_⊎_, inl, inr}
 use Prim.Native.Nat.{ℕ, zero, suc, _+_, _-_, _≤_, _<_, min}

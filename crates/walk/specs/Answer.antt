@@ -1,5 +1,5 @@
 -- 01's number, PDF number and questions asked of each way in which a walk ends; where it is refused, 24 or 25 and both are 0; the
--- same of the written walk. Assumes nothing.
+-- same of the written walk.
 use Prim.Native.Nat.{ℕ}
 use Rattle.written.specs.Walks.{Ending, limit, nothing, Outcome, refused}
 use Rattle.error.specs.Numbers.{numberOf}

@@ -1,5 +1,5 @@
 -- The walk over flat tables, by computation (01, 'Linking and tables'): records are judged as they are met, inside the tree's records and
--- the table, then kind, then answer byte, then limit. Assumes nothing.
+-- the table, then kind, then answer byte, then limit.
 use mathlib.Core.Bool.{Bool, cond}
 use mathlib.Core.List.{List}
 use Prim.Native.Nat.{ℕ, zero, suc, _+_}
@@ -7,7 +7,7 @@ use lib.Dec.{ltb, eqb}
 use lib.ListN.{length, getD}
 use Rattle.written.specs.Walks.{chosen, isYes}
 use Rattle.error.specs.declared.Refusal.the-variants.{WalkTable, Steps}
-use Rattle.rows.specs.Rows.{treeThere, treeFirst, treeRecords, recordThere, recordKind, recordQuestion, recordPdf, recordYes, recordNo}
+use Rattle.table_rows.specs.Rows.{treeThere, treeFirst, treeRecords, recordThere, recordKind, recordQuestion, recordPdf, recordYes, recordNo}
 use Rattle.walk.specs.declared.Met.{Met}
 use Rattle.walk.specs.declared.Met.the-variants.{Leaf, Line, Wrong}
 use Rattle.walk.specs.declared.Walked.{Walked}

@@ -1,19 +1,19 @@
 // After voice/tree.rs, `search_node`: the walk over loaded tables (01, 'Linking and tables'). Only records met are judged, in this
-// order: inside the tree's records and the table, kind, answer byte, limit. Any tables, any lengths, any tree. Assumes nothing.
+// order: inside the tree's records and the table, kind, answer byte, limit. Any tables, any lengths, any tree.
 use error::Refusal;
-use rows::record_kind;
-use rows::record_no;
-use rows::record_pdf;
-use rows::record_question;
-use rows::record_there;
-use rows::record_yes;
-use rows::records_in;
-use rows::tree_first;
-use rows::tree_records;
-use rows::tree_there;
+use table_rows::record_kind;
+use table_rows::record_no;
+use table_rows::record_pdf;
+use table_rows::record_question;
+use table_rows::record_there;
+use table_rows::record_yes;
+use table_rows::records_in;
+use table_rows::tree_first;
+use table_rows::tree_records;
+use table_rows::tree_there;
 ghost use mathlib.Core.Path.{_≡_};
 ghost use Prim.Native.Nat.{_<_};
-ghost use Rattle.rows.specs.Rows.{recordRows};
+ghost use Rattle.table_rows.specs.Rows.{recordRows};
 ghost use Rattle.walk.specs.Walking.{lineAt, meetAt, walkFrom, walkOf};
 
 // How a walk ends: at a PDF, after so many questions; or refused, by 24 or 25.

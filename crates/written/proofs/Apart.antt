@@ -1,4 +1,4 @@
--- What is read is not refused, and a refusal is determined, number and place: values and lines. Assumes nothing.
+-- What is read is not refused, and a refusal is determined, number and place: values and lines.
 use mathlib.Core.Path.{_≡_, refl, sym, ap, _∙_, subst}
 use mathlib.Core.Bool.{Bool, true, false, _||_}
 use mathlib.Core.List.{List, [], _∷_, _++_}

@@ -1,4 +1,4 @@
--- Whether a text says something is decided, rule by rule: a reader that stands at a place finds the one thing that stands there, or that nothing does. Assumes nothing.
+-- Whether a text says something is decided, rule by rule: a reader that stands at a place finds the one thing that stands there, or that nothing does.
 use mathlib.Core.Path.{_≡_, refl, sym, ap, ap₂, _∙_, subst}
 use mathlib.Core.Bool.{Bool, true, false}
 use mathlib.Core.List.{List, [], _∷_}

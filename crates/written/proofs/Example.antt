@@ -1,4 +1,4 @@
--- A small whole file that says its record. Assumes nothing.
+-- A small whole file that says its record.
 use mathlib.Core.Path.{_≡_, refl}
 use mathlib.Core.Bool.{false}
 use mathlib.Core.Option.{some, none as nothing}

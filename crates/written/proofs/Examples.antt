@@ -1,4 +1,4 @@
--- Texts of document 01 that say what it says, the records that it gives, and texts that say nothing. Assumes nothing.
+-- Texts of document 01 that say what it says, the records that it gives, and texts that say nothing.
 use mathlib.Core.Path.{_≡_, refl, sym, ap, _∙_}
 use mathlib.Core.Bool.{Bool, true, false}
 use mathlib.Core.List.{List, [], _∷_, Forall₂, Forall₂·nil, Forall₂·cons}

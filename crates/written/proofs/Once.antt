@@ -1,4 +1,4 @@
--- A text says at most one thing: a rule, from equal starts, ends at one place and says one thing. Assumes nothing.
+-- A text says at most one thing: a rule, from equal starts, ends at one place and says one thing.
 use mathlib.Core.Path.{_≡_, refl, sym, ap, ap₂, _∙_, subst}
 use mathlib.Core.Bool.{Bool, true, false}
 use mathlib.Core.List.{List, [], _∷_}

@@ -1,4 +1,4 @@
--- A text says at most one thing: what is read at a place, and where reading ends, is determined. Assumes nothing.
+-- A text says at most one thing: what is read at a place, and where reading ends, is determined.
 use mathlib.Core.Path.{_≡_, refl, sym, ap, ap₂, _∙_, subst}
 use mathlib.Core.Bool.{Bool, true, false, not}
 use mathlib.Core.Option.{some}

@@ -1,4 +1,4 @@
--- A file splits in at most one way, and says at most one record. Assumes nothing.
+-- A file splits in at most one way, and says at most one record.
 use mathlib.Core.Path.{_≡_, refl, sym, ap, ap₂, _∙_, subst}
 use mathlib.Core.Bool.{Bool, true, false, _||_}
 use mathlib.Core.List.{List, [], _∷_, _++_}

@@ -1,4 +1,4 @@
--- 01's worked examples of header text, as the definitions have them. Assumes nothing.
+-- 01's worked examples of header text, as the definitions have them.
 use mathlib.Core.Path.{_≡_, refl}
 use mathlib.Core.Bool.{true}
 use mathlib.Core.List.{List, [], _∷_, _++_, List·Memᴰ·head, List·Memᴰ·tail}

@@ -1,4 +1,4 @@
--- The definitions' parts from tests that compute, for texts that are written out. Assumes nothing.
+-- The definitions' parts from tests that compute, for texts that are written out.
 use mathlib.Core.Path.{_≡_, refl, sym, ap, _∙_, subst}
 use mathlib.Core.Bool.{Bool, true, false, not, _&&_, _||_}
 use mathlib.Core.List.{List, [], _∷_, _++_, List·Memᴰ, List·Memᴰ·head, List·Memᴰ·cases-cons}

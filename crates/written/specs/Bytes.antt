@@ -1,5 +1,5 @@
 -- Words that the other files share: bytes by name, classes of bytes as tests, a byte at a place, runs, parts of a text, decimal numbers.
--- The classes are document 01's, 'Tree text'. A place counts from 0; a run from i up to j has the bytes at i, i + 1, .., j - 1. Assumes nothing.
+-- The classes are document 01's, 'Tree text'. A place counts from 0; a run from i up to j has the bytes at i, i + 1, .., j - 1.
 use mathlib.Core.Path.{_≡_}
 use mathlib.Core.Bool.{Bool, true, false, not, cond, _&&_, _||_}
 use mathlib.Core.List.{List, [], _∷_}

@@ -1,6 +1,6 @@
 -- What is wrong with a file: for each refusal of opening, 1 to 10 and 12, when it is the answer and at which place. From 01's 'Numbers the loader gives'.
 -- A fault of reading is: the longest good beginning (of items, lines, rows, groups), and what stands after it. Which of two things wrong at one place counts
--- first (a repeated key before its missing colon, 2 before all else, 9 for missing fields before the groups, 12 last) is 01's order and is written as such. Assumes nothing.
+-- first (a repeated key before its missing colon, 2 before all else, 9 for missing fields before the groups, 12 last) is 01's order and is written as such.
 use mathlib.Core.Path.{_≡_}
 use mathlib.Core.Bool.{true, false}
 use mathlib.Core.List.{List, [], _∷_, _++_, List·Memᴰ}

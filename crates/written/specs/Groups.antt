@@ -1,4 +1,4 @@
--- Which key belongs to which group, and what a group's lines say. From 01's 'Header text', its third paragraph. Assumes nothing.
+-- Which key belongs to which group, and what a group's lines say. From 01's 'Header text', its third paragraph.
 use mathlib.Core.Path.{_≡_}
 use mathlib.Core.Bool.{false, cond}
 use mathlib.Core.List.{List, [], _∷_, _++_}

@@ -1,5 +1,5 @@
 -- Which header text is a string, a number, a bool, a list, a pair, a line, a section, and what it says. From 01's 'Header text'.
--- A text is read at a place i of s, with the delimiters D open (at most two), up to a place j; s ends where the section or the group value ends. Assumes nothing.
+-- A text is read at a place i of s, with the delimiters D open (at most two), up to a place j; s ends where the section or the group value ends.
 use mathlib.Core.Path.{_≡_}
 use mathlib.Core.Bool.{Bool, true, false, not, cond}
 use mathlib.Core.Option.{Option, some, none as nothing}

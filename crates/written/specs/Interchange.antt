@@ -1,5 +1,5 @@
 -- IEEE 754's binary interchange formats, over the sizes of their fields: 1 bit of sign, e of exponent, f of fraction, from the top.
--- binary32 is e = 8, f = 23, and binary64 is e = 11, f = 52. Assumes nothing.
+-- binary32 is e = 8, f = 23, and binary64 is e = 11, f = 52.
 use mathlib.Core.Path.{_≡_}
 use mathlib.Core.Bool.{cond}
 use Prim.Native.Nat.{ℕ, _+_, _-_, _*_, _/_, _%_, _^_, _≤_, _<_}

@@ -1,5 +1,5 @@
 -- What a tree text says, and beside it where its strings stand: document 01, 'Tree text'.
--- Two texts are equal but for string starts where what they say is equal; the layouts may differ. Assumes nothing.
+-- Two texts are equal but for string starts where what they say is equal; the layouts may differ.
 use mathlib.Core.List.{List}
 use Prim.Native.Nat.{ℕ}
 use lib.IntN.{ℤ}

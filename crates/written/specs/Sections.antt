@@ -1,4 +1,4 @@
--- How a file splits into four parts. From 01's 'Sections'. Assumes nothing.
+-- How a file splits into four parts. From 01's 'Sections'.
 use mathlib.Core.Path.{_≡_}
 use mathlib.Core.List.{List, _∷_, _++_}
 use Prim.Native.Nat.{ℕ, suc, _+_, _≤_}

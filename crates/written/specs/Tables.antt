@@ -1,4 +1,4 @@
--- The rows of a whole model out of what its tree text says: document 01, 'Linking and tables'. Block rows and values are not here. Assumes nothing.
+-- The rows of a whole model out of what its tree text says: document 01, 'Linking and tables'. Block rows and values are not here.
 use mathlib.Core.Path.{_≡_}
 use mathlib.Core.List.{List, [], _∷_, _++_, map}
 use Prim.Native.Nat.{ℕ, zero, suc, _+_}

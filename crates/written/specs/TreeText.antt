@@ -1,6 +1,6 @@
 -- The grammar of document 01, 'Tree text', as a relation between a text, two places in it, and what stands between them.
 -- The text is s; a place is counted from its first byte. 'X i j ..' reads: an X stands from i up to j, the byte at j no more in it.
--- A rule lists its parts in the text's order, each from where the last one ended. Assumes nothing.
+-- A rule lists its parts in the text's order, each from where the last one ended.
 use mathlib.Core.Path.{_≡_}
 use mathlib.Core.Bool.{Bool, true, false}
 use mathlib.Core.List.{List, [], _∷_}

@@ -1,4 +1,4 @@
--- `face_load::load_said`: by how the words are judged. Assumes nothing.
+-- `face_load::load_said`: by how the words are judged.
 use mathlib.Core.Path.{sym, _∙_}
 use Rattle.face_open.proofs.Laws.{judged-room}
 use Rattle.face_load.proofs.Laws.{load-fit, load-unfit}

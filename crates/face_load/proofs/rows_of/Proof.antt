@@ -1,4 +1,4 @@
--- `face_load::rows_of`: by how the load ends. Assumes nothing.
+-- `face_load::rows_of`: by how the load ends.
 use mathlib.Core.Path.{sym, ap, _∙_}
 use Rattle.face_model.specs.Answers.{noRows, rowsBy}
 use borrow.Author.Needs.{needs}

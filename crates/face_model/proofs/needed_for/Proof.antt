@@ -1,4 +1,4 @@
--- `face_model::needed_for`: field by field. Assumes nothing.
+-- `face_model::needed_for`: field by field.
 use mathlib.Core.Path.{refl}
 use borrow.Author.Needs.{needs}
 use Rattle.face_model.proofs.needed_for.Statement.{statement}

@@ -1,4 +1,4 @@
--- `face_model::needs_said`: by how the words are judged, then by the plan. Assumes nothing.
+-- `face_model::needs_said`: by how the words are judged, then by the plan.
 use mathlib.Core.Path.{sym, ap, _∙_}
 use native.Mathlib.Omega.{arith}
 use Rattle.error.specs.Numbers.{numberOf, placeOf, lineOf}

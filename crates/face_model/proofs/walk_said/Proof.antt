@@ -1,4 +1,4 @@
--- `face_model::walk_said`: by how the walk ends. Assumes nothing.
+-- `face_model::walk_said`: by how the walk ends.
 use mathlib.Core.Path.{sym, ap, _∙_}
 use Rattle.face_model.specs.Answers.{endedBy}
 use borrow.Author.Needs.{needs}

@@ -1,4 +1,4 @@
--- `face_model::which_of`: by zero and parity. Assumes nothing.
+-- `face_model::which_of`: by zero and parity.
 use Rattle.face_model.proofs.Laws.{which-duration, which-stream, which-gv}
 use borrow.Author.Needs.{needs}
 use Rattle.face_model.proofs.which_of.Statement.{statement}

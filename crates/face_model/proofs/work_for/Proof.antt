@@ -1,4 +1,4 @@
--- `face_model::work_for`: by whether the product fits. Assumes nothing.
+-- `face_model::work_for`: by whether the product fits.
 use Rattle.face_model.proofs.Laws.{work-most, work-all}
 use borrow.Author.Needs.{needs}
 use Rattle.face_model.proofs.work_for.Statement.{statement}

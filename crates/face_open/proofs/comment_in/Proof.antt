@@ -1,4 +1,4 @@
--- `face_open::comment_in`: by where it stands. Assumes nothing.
+-- `face_open::comment_in`: by where it stands.
 use mathlib.Core.Path.{_∙_}
 use borrow.Author.Tests.{not-true, not-false}
 use Rattle.face_open.proofs.Laws.{in-none, in-past, in-long, in-file}

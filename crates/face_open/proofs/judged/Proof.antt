@@ -1,4 +1,4 @@
--- `face_open::judged`: by length and flags. Assumes nothing.
+-- `face_open::judged`: by length and flags.
 use mathlib.Core.Path.{sym, _∙_}
 use Rattle.face_open.proofs.Laws.{judged-few, judged-fit, judged-bad}
 use borrow.Author.Needs.{needs}

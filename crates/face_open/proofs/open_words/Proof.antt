@@ -1,4 +1,4 @@
--- `face_open::open_words`: a file that is refused, too few words, or the record copied. Assumes nothing.
+-- `face_open::open_words`: a file that is refused, too few words, or the record copied.
 use mathlib.Core.Path.{sym, _∙_}
 use borrow.Author.Needs.{needs}
 use Rattle.face_open.proofs.Laws.{says-refused, says-few, says-done}

@@ -1,4 +1,4 @@
--- `face_open::refused`: number and place. Assumes nothing.
+-- `face_open::refused`: number and place.
 use mathlib.Core.Path.{refl}
 use borrow.Author.Needs.{needs}
 use Rattle.face_open.proofs.refused.Statement.{statement}

@@ -1,4 +1,4 @@
--- `larsavim::larsavim_get`: too short, or written. Assumes nothing.
+-- `larsavim::larsavim_get`: too short, or written.
 use Rattle.larsavim.specs.Face.{saidNumbers}
 use Rattle.larsavim.proofs.Laws.{short, full}
 use borrow.Author.Needs.{needs}

@@ -1,6 +1,6 @@
--- `larsavim::larsavim_leaves`: the bool as a number. Assumes nothing.
+-- `larsavim::larsavim_leaves`: the bool as a number.
 use mathlib.Core.Path.{ap}
-use Rattle.header_words.specs.Words.{flagWord}
+use Rattle.head_words.specs.Words.{flagWord}
 use borrow.Author.Needs.{needs}
 use Rattle.larsavim.proofs.larsavim_leaves.Statement.{statement}
 use Rattle.larsavim.proofs.larsavim_leaves.Tie as tie

@@ -1,4 +1,4 @@
--- `larsavim::larsavim_needs`: too short, or written. Assumes nothing.
+-- `larsavim::larsavim_needs`: too short, or written.
 use Rattle.larsavim.specs.Face.{neededNumbers}
 use Rattle.larsavim.proofs.Laws.{short, full}
 use borrow.Author.Needs.{needs}

@@ -1,4 +1,4 @@
--- `larsavim::put3`: number by number. Assumes nothing.
+-- `larsavim::put3`: number by number.
 use native.Mathlib.Omega.{arith}
 use lib.ListN.{length-set}
 use borrow.Author.Needs.{needs}

@@ -1,4 +1,4 @@
--- `larsavim::put_needed`: part by part. Assumes nothing.
+-- `larsavim::put_needed`: part by part.
 use Rattle.larsavim.proofs.Laws.{needed-written}
 use borrow.Author.Needs.{needs}
 use Rattle.larsavim.proofs.put_needed.Statement.{statement}

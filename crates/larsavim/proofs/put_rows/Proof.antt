@@ -1,4 +1,4 @@
--- `larsavim::put_rows`: part by part. Assumes nothing.
+-- `larsavim::put_rows`: part by part.
 use Rattle.larsavim.proofs.Laws.{rows-written}
 use borrow.Author.Needs.{needs}
 use Rattle.larsavim.proofs.put_rows.Statement.{statement}

@@ -1,11 +1,11 @@
--- `link_rows::question_of` meets its contract. Assumes nothing.
+-- `link_rows::question_of` meets its contract.
 use mathlib.Core.Path.{_≡_, sym, ap, _∙_}
 use Prim.Native.Nat.{_-_, _+_, _*_}
 use native.Mathlib.Omega.{arith}
 use lib.IntN.{pos}
 use lib.ListN.{getD}
 use Rattle.laws.proofs.Signed.{back}
-use Rattle.link_refs.specs.Lines.{natOf}
+use Rattle.link_targets.specs.Lines.{natOf}
 use borrow.Author.Needs.{needs}
 use Rattle.link_rows.proofs.question_of.Statement.{statement}
 use Rattle.link_rows.proofs.question_of.Tie as tie

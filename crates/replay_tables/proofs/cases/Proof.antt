@@ -1,4 +1,4 @@
--- `replay_tables::cases` ends: each turn leaves one case less. Assumes nothing.
+-- `replay_tables::cases` ends: each turn leaves one case less.
 use Prim.Native.Nat.{_≤_}
 use borrow.Author.Needs.{needs}
 use Rattle.replay_tables.proofs.cases.Statement.{statement}

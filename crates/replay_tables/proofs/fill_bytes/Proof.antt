@@ -1,4 +1,4 @@
--- `replay_tables::fill_bytes`: the count stays within the table. Assumes nothing.
+-- `replay_tables::fill_bytes`: the count stays within the table.
 use mathlib.Core.Path.{_≡_, sym}
 use Prim.Native.Nat.{_-_, _≤_}
 use native.Mathlib.Omega.{arith}

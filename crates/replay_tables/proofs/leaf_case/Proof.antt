@@ -1,4 +1,4 @@
--- `replay_tables::leaf_case`: each table is cut to what was put into it. Assumes nothing.
+-- `replay_tables::leaf_case`: each table is cut to what was put into it.
 use borrow.Author.Needs.{needs}
 use Rattle.replay_tables.proofs.leaf_case.Statement.{statement}
 use Rattle.replay_tables.proofs.leaf_case.Tie as tie

@@ -1,4 +1,4 @@
--- `replay_tables::walks` ends: each turn leaves one walk less. Assumes nothing.
+-- `replay_tables::walks` ends: each turn leaves one walk less.
 use Prim.Native.Nat.{_≤_}
 use borrow.Author.Needs.{needs}
 use Rattle.replay_tables.proofs.walks.Statement.{statement}

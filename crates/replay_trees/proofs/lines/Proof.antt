@@ -1,4 +1,4 @@
--- `replay_trees::lines`: each turn reads a line. Assumes nothing.
+-- `replay_trees::lines`: each turn reads a line.
 use Prim.Native.Nat.{_-_, _≤_}
 use borrow.Author.Needs.{needs}
 use Rattle.replay_trees.proofs.lines.Statement.{statement}

@@ -1,4 +1,4 @@
--- `replay_trees::patterns`: each turn reads a pattern. Assumes nothing.
+-- `replay_trees::patterns`: each turn reads a pattern.
 use Prim.Native.Nat.{_-_, _≤_}
 use borrow.Author.Needs.{needs}
 use Rattle.replay_trees.proofs.patterns.Statement.{statement}

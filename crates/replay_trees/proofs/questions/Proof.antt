@@ -1,4 +1,4 @@
--- `replay_trees::questions`: each turn reads a question. Assumes nothing.
+-- `replay_trees::questions`: each turn reads a question.
 use Prim.Native.Nat.{_-_, _≤_}
 use borrow.Author.Needs.{needs}
 use Rattle.replay_trees.proofs.questions.Statement.{statement}

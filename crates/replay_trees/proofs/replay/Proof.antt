@@ -1,4 +1,4 @@
--- `replay_trees::replay`: the place goes up. Assumes nothing.
+-- `replay_trees::replay`: the place goes up.
 use Prim.Native.Nat.{_-_, _≤_}
 use borrow.Author.Needs.{needs}
 use lib.ListN.{length}

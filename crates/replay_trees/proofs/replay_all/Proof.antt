@@ -1,4 +1,4 @@
--- `replay_trees::replay_all`: the part of the buffer that was read. Assumes nothing.
+-- `replay_trees::replay_all`: the part of the buffer that was read.
 use mathlib.Core.Path.{sym}
 use lib.Seq.{length-take-le}
 use borrow.Author.Needs.{needs}

@@ -1,4 +1,4 @@
--- `replay_trees::replay_room`: the part of the room that the text fills. Assumes nothing.
+-- `replay_trees::replay_room`: the part of the room that the text fills.
 use mathlib.Core.Path.{sym}
 use lib.Seq.{length-take-le}
 use borrow.Author.Needs.{needs}

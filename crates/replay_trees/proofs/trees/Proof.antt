@@ -1,4 +1,4 @@
--- `replay_trees::trees`: each turn reads a tree. Assumes nothing.
+-- `replay_trees::trees`: each turn reads a tree.
 use Prim.Native.Nat.{_-_, _≤_}
 use borrow.Author.Needs.{needs}
 use Rattle.replay_trees.proofs.trees.Statement.{statement}

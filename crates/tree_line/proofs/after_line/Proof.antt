@@ -1,7 +1,7 @@
--- `tree_line::after_line`: each arm is an arm of `lineClosed` or of `lineParted`. Assumes nothing.
+-- `tree_line::after_line`: each arm is an arm of `lineClosed` or of `lineParted`.
 use mathlib.Core.Path.{_≡_, sym, ap, _∙_}
 use Rattle.written.specs.Bytes.{unbrace}
-use Rattle.base_spaces.specs.Spaces.{pastByte, closeAt}
+use Rattle.text_spaces.specs.Spaces.{pastByte, closeAt}
 use Rattle.tree_line.specs.Lines.{lineParted, lineClosed, afterLine}
 use borrow.Author.Needs.{needs}
 use Rattle.tree_line.proofs.after_line.Statement.{statement}

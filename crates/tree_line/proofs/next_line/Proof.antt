@@ -1,4 +1,4 @@
--- `tree_line::next_line`: each arm is an arm of `lineFound`. Assumes nothing.
+-- `tree_line::next_line`: each arm is an arm of `lineFound`.
 use mathlib.Core.Path.{sym, ap, _∙_}
 use Rattle.tree_line.specs.Lines.{lineFound, lineStepAt}
 use borrow.Author.Needs.{needs}

@@ -1,4 +1,4 @@
--- `tree_line::parse_branches`: each arm is an arm of `noRead`. Assumes nothing.
+-- `tree_line::parse_branches`: each arm is an arm of `noRead`.
 use mathlib.Core.Path.{sym, ap, _∙_}
 use Rattle.tree_line.specs.Lines.{noRead, branchesAt}
 use borrow.Author.Needs.{needs}

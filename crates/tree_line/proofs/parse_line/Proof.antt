@@ -1,4 +1,4 @@
--- `tree_line::parse_line`: each way out is an arm of `lineNumbered`, `lineNamed` or `lineBranched`. Assumes nothing.
+-- `tree_line::parse_line`: each way out is an arm of `lineNumbered`, `lineNamed` or `lineBranched`.
 use mathlib.Core.Path.{_≡_, sym, ap, _∙_}
 use Prim.Native.Nat.{ℕ}
 use lib.IntN.{ℤ}

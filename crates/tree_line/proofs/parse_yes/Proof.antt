@@ -1,4 +1,4 @@
--- `tree_line::parse_yes`: blanks, at least one, and each arm of `yesRead`. Assumes nothing.
+-- `tree_line::parse_yes`: blanks, at least one, and each arm of `yesRead`.
 use mathlib.Core.Path.{_≡_, sym, ap, _∙_}
 use mathlib.Core.List.{List}
 use Prim.Native.Nat.{ℕ, _≤_, _<_}

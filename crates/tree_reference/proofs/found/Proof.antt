@@ -1,4 +1,4 @@
--- `tree_reference::found`: by the two kinds. Assumes nothing.
+-- `tree_reference::found`: by the two kinds.
 use mathlib.Core.Path.{sym, ap, _∙_}
 use borrow.Author.Needs.{needs}
 use Rattle.laws.proofs.Signed.{back}

@@ -1,4 +1,4 @@
--- `tree_reference::parse_bare`: each arm is an arm of `bareRead`. Assumes nothing.
+-- `tree_reference::parse_bare`: each arm is an arm of `bareRead`.
 use mathlib.Core.Path.{refl, sym, ap, ap₂, _∙_}
 use Rattle.laws.proofs.Signed.{back}
 use Rattle.tree_reference.specs.References.{bareRead, bareAt}

@@ -1,4 +1,4 @@
--- `tree_reference::parse_pdf`. The invariant: the word ends where it did, and `start` is where the digits at the end of what was passed begin. Assumes nothing.
+-- `tree_reference::parse_pdf`. The invariant: the word ends where it did, and `start` is where the digits at the end of what was passed begin.
 use mathlib.Core.Path.{_≡_, refl, sym, ap, ap₂, _∙_}
 use mathlib.Core.Logic.{⊎-elim}
 use mathlib.Core.List.{List}

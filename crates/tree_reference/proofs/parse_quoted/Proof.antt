@@ -1,4 +1,4 @@
--- `tree_reference::parse_quoted`: each arm is an arm of `quotedRead` or of `closed`. Assumes nothing.
+-- `tree_reference::parse_quoted`: each arm is an arm of `quotedRead` or of `closed`.
 use mathlib.Core.Path.{sym, ap, _∙_}
 use Rattle.tree_reference.specs.References.{closed, quotedRead, quotedAt}
 use borrow.Author.Needs.{needs}

@@ -1,4 +1,4 @@
--- `tree_reference::parse_tree_index`: each arm is an arm of `opened`. Assumes nothing.
+-- `tree_reference::parse_tree_index`: each arm is an arm of `shown_open`.
 use mathlib.Core.Path.{sym, ap, _∙_}
 use borrow.Author.Needs.{needs}
 use Rattle.tree_reference.specs.References.{opened, referenceAt}

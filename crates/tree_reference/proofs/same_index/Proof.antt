@@ -1,4 +1,4 @@
--- `tree_reference::same_index`: each arm is an arm of `sameIndex`. Assumes nothing.
+-- `tree_reference::same_index`: each arm is an arm of `sameIndex`.
 use mathlib.Core.Path.{sym, ap₂, _∙_}
 use Rattle.laws.proofs.Wholes.{same-bits}
 use Rattle.tree_reference.specs.References.{sameIndex}

@@ -1,10 +1,10 @@
--- `tree_reference::some_pdf`: each way out is an arm of `pdfOf`. Assumes nothing.
+-- `tree_reference::some_pdf`: each way out is an arm of `pdfOf`.
 use mathlib.Core.Path.{_≡_, refl, sym, ap, ap₂, _∙_}
 use mathlib.Core.List.{List}
 use Prim.Native.Nat.{ℕ, _≤_, _<_}
 use borrow.Author.Tests.{lt-ltb, le-ltb}
 use Rattle.laws.proofs.Signed.{back}
-use Rattle.base_values.specs.Answers.{signedAt}
+use Rattle.text_numbers.specs.Answers.{signedAt}
 use Rattle.tree_reference.specs.References.{pdfRead, pdfOf}
 use Rattle.tree_reference.specs.declared.TreeIndex.the-variants.{Pdf}
 use Rattle.tree_reference.specs.declared.Reference.the-variants.{Found, NoReference}

@@ -1,4 +1,4 @@
--- `tree_survey::count_tree`: each arm is an arm of `headCounted` or of `linesCounted`. Assumes nothing.
+-- `tree_survey::count_tree`: each arm is an arm of `headCounted` or of `linesCounted`.
 use mathlib.Core.Path.{_≡_, sym, ap, _∙_}
 use mathlib.Core.Bool.{Bool}
 use Prim.Native.Nat.{ℕ}

@@ -1,4 +1,4 @@
--- `tree_survey::is_negative`: below 0, as the machine tests it. Assumes nothing.
+-- `tree_survey::is_negative`: below 0, as the machine tests it.
 use mathlib.Core.Path.{_≡_, refl, ap, _∙_}
 use native.Mathlib.Omega.{arith}
 use borrow.Author.Tests.{le-ltb}

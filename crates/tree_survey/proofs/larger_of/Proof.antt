@@ -1,4 +1,4 @@
--- `tree_survey::larger_of`: by which is larger. Assumes nothing.
+-- `tree_survey::larger_of`: by which is larger.
 use borrow.Author.Tests.{lt-ltb, le-ltb}
 use Rattle.laws.specs.Totals.{larger}
 use Rattle.tree_survey.proofs.larger_of.Statement.{statement}

@@ -1,4 +1,4 @@
--- `tree_survey::survey_text`: each way out is an arm of `surveyOf`. Assumes nothing.
+-- `tree_survey::survey_text`: each way out is an arm of `surveyOf`.
 use mathlib.Core.Path.{sym, _∙_}
 use Rattle.tree_survey.proofs.Whole.{no-questions, no-trees, a-negative, counted}
 use borrow.Author.Needs.{needs}

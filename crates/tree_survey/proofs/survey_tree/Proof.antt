@@ -1,4 +1,4 @@
--- `tree_survey::survey_tree`: each way out is a step of the tree. Assumes nothing.
+-- `tree_survey::survey_tree`: each way out is a step of the tree.
 use mathlib.Core.Path.{sym, _∙_}
 use Rattle.tree_survey.proofs.Counting.{followed-next, followed-end, followed-other, followed-none}
 use borrow.Author.Needs.{needs}

@@ -1,4 +1,4 @@
--- `tree_survey::survey_trees`: what is counted, and what is still to be read, come to the same. Assumes nothing.
+-- `tree_survey::survey_trees`: what is counted, and what is still to be read, come to the same.
 use mathlib.Core.Path.{refl, sym, _∙_}
 use Prim.Native.Nat.{_-_}
 use native.Mathlib.Omega.{arith}

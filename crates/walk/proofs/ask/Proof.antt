@@ -1,4 +1,4 @@
--- `walk::ask`: the byte is 0, is another, or there is none. Assumes nothing.
+-- `walk::ask`: the byte is 0, is another, or there is none.
 use borrow.Author.Needs.{needs}
 use Rattle.walk.proofs.Judged.{line-no, line-yes, line-wrong}
 use Rattle.walk.proofs.ask.Statement.{statement}

@@ -1,5 +1,5 @@
 -- `walk::follow`: what is left of the walk, with so many questions more, is the answer. A limit above what the tree can ask makes no
--- difference, so that the walk is one with the smaller of the two as its limit. Assumes nothing.
+-- difference, so that the walk is one with the smaller of the two as its limit.
 use mathlib.Core.Path.{sym, _∙_}
 use Prim.Native.Nat.{_-_}
 use native.Mathlib.Omega.{arith}

@@ -1,11 +1,11 @@
--- `walk::meet`: no record there, a line, a leaf, or another kind. Assumes nothing.
+-- `walk::meet`: no record there, a line, a leaf, or another kind.
 use mathlib.Core.Path.{_≡_, sym, _∙_}
 use mathlib.Core.Bool.{true}
 use native.Mathlib.Omega.{arith}
 use borrow.Author.Needs.{needs}
 use borrow.Author.Tests.{not-true, not-false}
-use Rattle.rows.specs.Rows.{recordThere}
-use Rattle.rows.proofs.Stand.{record-in}
+use Rattle.table_rows.specs.Rows.{recordThere}
+use Rattle.table_rows.proofs.Stand.{record-in}
 use Rattle.walk.proofs.Judged.{meet-outside, meet-line, meet-leaf, meet-other}
 use Rattle.walk.proofs.meet.Statement.{statement}
 use Rattle.walk.proofs.meet.Tie as tie

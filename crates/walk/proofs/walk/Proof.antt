@@ -1,9 +1,9 @@
--- `walk::walk`: no such tree, or the walk over its records. Assumes nothing.
+-- `walk::walk`: no such tree, or the walk over its records.
 use mathlib.Core.Path.{_≡_, sym, _∙_}
 use mathlib.Core.Bool.{true}
 use borrow.Author.Needs.{needs}
 use borrow.Author.Tests.{not-true, not-false, ltb-true}
-use Rattle.rows.specs.Rows.{treeThere}
+use Rattle.table_rows.specs.Rows.{treeThere}
 use Rattle.walk.proofs.Following.{walk-there, walk-missing}
 use Rattle.walk.proofs.walk.Statement.{statement}
 use Rattle.walk.proofs.walk.Tie as tie

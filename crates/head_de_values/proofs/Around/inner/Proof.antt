@@ -1,0 +1,24 @@
+-- `head_de_values::Around::inner` meets its contract.
+use Prim.Native.Nat.{ℕ}
+use Rattle.head_de_values.specs.Values.{aroundOf}
+use Rattle.written.specs.Bytes.{comma}
+use mathlib.Core.List.{List, _∷_}
+use mathlib.Core.Path.{_≡_, refl, sym, ap, ap₂, _∙_}
+use borrow.Author.Needs.{needs}
+use Rattle.head_de_values.proofs.Around.inner.Statement.{statement}
+use Rattle.head_de_values.proofs.Around.inner.Tie as tie
+
+enum-told : tie.Need-enum-told
+enum-told c = search needs
+
+enum-told-2 : tie.Need-enum-told-2
+enum-told-2 c = search needs
+
+returns : tie.Need-returns
+returns c = rw (c .enum-told .given .1)
+
+returns-2 : tie.Need-returns-2
+returns-2 c = rw (c .enum-told2 .given .1)
+
+pub inner-spec : {M : Type 1} → statement M
+inner-spec = tie.close (tie.spec enum-told enum-told-2 returns returns-2)

@@ -1,3 +1,0 @@
-pub mod Every
-pub mod Judged
-pub mod Conditions

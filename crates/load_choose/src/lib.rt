@@ -1,0 +1,249 @@
+// After parser/mod.rs, `parse_data_section` up to `parse_model`: which model is asked for, where its tree and PDF stand, and how wide it is, in 01's order
+// (16 for the record, 13, 14, 15, the width's limit). Groups are found last-wins, since a record that no opening made may name one twice; no number wraps.
+//
+use error::Refusal;
+use head_brackets::same_part;
+use head_record::Span;
+use head_words::DURATION_PDF;
+use head_words::DURATION_TREE;
+use head_words::GV_PDF;
+use head_words::GV_TREE;
+use head_words::HAS_GV_PDF;
+use head_words::HAS_GV_TREE;
+use head_words::IS_MSD;
+use head_words::NUM_STATES;
+use head_words::NUM_WINDOWS;
+use head_words::POSITION_COUNT;
+use head_words::POSITION_WORDS;
+use head_words::POSITIONS;
+use head_words::STREAM_COUNT;
+use head_words::STREAM_PDF;
+use head_words::STREAM_TREE;
+use head_words::STREAM_TYPE;
+use head_words::STREAM_TYPE_COUNT;
+use head_words::STREAM_WORDS;
+use head_words::STREAMS;
+use head_words::USE_GV;
+use head_words::VECTOR_LENGTH;
+use head_words_fit::record_fits;
+use link_search::Found;
+ghost use mathlib.Core.Path.{_≡_};
+ghost use mathlib.Core.Bool.{true};
+ghost use Prim.Native.Nat.{_+_, _*_, _≤_, min};
+ghost use lib.ListN.{length};
+ghost use Rattle.written.specs.Bytes.{same};
+ghost use Rattle.head_brackets.specs.Rows.{bytesOf};
+ghost use Rattle.head_record_fits.specs.Fits.{recordFits};
+ghost use Rattle.head_words.specs.Words.{spanAt, rangeAt, streamAt, positionAt, headerAt};
+ghost use Rattle.link_search.specs.Found.{lastBelow};
+ghost use Rattle.load_choose.specs.Chosen.{withinOf, bit, modelOf, streamModel, gvModel, made, numbered, chosenOf, NamesIn};
+
+// The model asked for; a stream by its number in STREAM_TYPE.
+pub enum Which {
+    Duration,
+    Stream(usize),
+    Gv(usize),
+}
+
+pub enum Chosen {
+    // ranges of the data, each end included, and the numbers in an entry
+    Model {
+        tree_from: u64,
+        tree_to: u64,
+        pdf_from: u64,
+        pdf_to: u64,
+        width: u64,
+    },
+    Refused(Refusal),
+}
+
+// Bytes of the data from `start` up to `end`.
+pub enum Bounds {
+    Inside { start: usize, end: usize },
+    Outside,
+}
+
+// A range, whose end belongs to it, in data of `len` bytes (16).
+pub fn within(from: u64, to: u64, len: usize) -> Bounds
+    ensures { λ r. ⌜ r ≡ withinOf from to len ⌝ }
+{
+    if len as u64 <= to {
+        return Bounds::Outside;
+    }
+    let end = to + 1;
+    if end < from {
+        return Bounds::Outside;
+    }
+    Bounds::Inside {
+        start: from as usize,
+        end: end as usize,
+    }
+}
+
+// The product, or 4097 where it is greater.
+fn product(a: u64, b: u64) -> u64
+    ensures { λ r. ⌜ r ≡ min (a * b) 4097 ⌝ }
+{
+    if a == 0 {
+        return 0;
+    }
+    if b == 0 {
+        return 0;
+    }
+    if 4096 < a {
+        return 4097;
+    }
+    if 4096 < b {
+        return 4097;
+    }
+    let p = a * b;
+    if 4096 < p {
+        return 4097;
+    }
+    p
+}
+
+// The model of width 2 × a × b, and one more for MSD, whose ranges stand at two places of the words.
+fn model(words: &[u64], tree: usize, pdf: usize, a: u64, b: u64, msd: bool) -> Chosen
+    requires { ⌜ (tree + 2 ≤ length (now words)) × (pdf + 2 ≤ length (now words)) ⌝ }
+    ensures { λ r. ⌜ r ≡ modelOf (rangeAt (now (words .entry)) tree) (rangeAt (now (words .entry)) pdf) (2 * (a * b) + bit msd) ⌝ }
+{
+    let width = 2 * product(a, b) + msd as u64;
+    if 4096 < width {
+        return Chosen::Refused(Refusal::Limit);
+    }
+    Chosen::Model {
+        tree_from: words[tree],
+        tree_to: words[tree + 1],
+        pdf_from: words[pdf],
+        pdf_to: words[pdf + 1],
+        width,
+    }
+}
+
+fn stream_model(words: &[u64], stream: usize, position: usize) -> Chosen
+    requires { ⌜ (stream + 39 ≤ length (now words)) × (position + 29 ≤ length (now words)) ⌝ }
+    ensures { λ r. ⌜ r ≡ streamModel (streamAt (now (words .entry)) stream) (positionAt (now (words .entry)) position) ⌝ }
+{
+    model(
+        words,
+        position + STREAM_TREE,
+        position + STREAM_PDF,
+        words[stream + VECTOR_LENGTH],
+        words[stream + NUM_WINDOWS],
+        words[stream + IS_MSD] != 0,
+    )
+}
+
+fn gv_model(words: &[u64], stream: usize, position: usize) -> Chosen
+    requires { ⌜ (stream + 39 ≤ length (now words)) × (position + 29 ≤ length (now words)) ⌝ }
+    ensures { λ r. ⌜ r ≡ gvModel (streamAt (now (words .entry)) stream) (positionAt (now (words .entry)) position) ⌝ }
+{
+    if words[stream + USE_GV] == 0 {
+        return Chosen::Refused(Refusal::UseGv);
+    }
+    if words[position + HAS_GV_TREE] == 0 {
+        return Chosen::Refused(Refusal::UseGv);
+    }
+    if words[position + HAS_GV_PDF] == 0 {
+        return Chosen::Refused(Refusal::UseGv);
+    }
+    model(
+        words,
+        position + GV_TREE,
+        position + GV_PDF,
+        words[stream + VECTOR_LENGTH],
+        1,
+        false,
+    )
+}
+
+fn span_at(words: &[u64], at: usize) -> Span
+    requires { ⌜ at + 2 ≤ length (now words) ⌝ }
+    ensures { λ r. ⌜ r ≡ spanAt (now (words .entry)) at ⌝ }
+{
+    Span {
+        start: words[at] as usize,
+        len: words[at + 1] as usize,
+    }
+}
+
+// The last of n groups whose name has the bytes of x. The first group begins at `at` in the words, each of the others `step` words behind the one before.
+fn find_group(file: &[u8], x: Span, words: &[u64], at: usize, step: usize, n: usize) -> Found
+    requires { ⌜ NamesIn at step n (now words) ⌝ }
+    ensures { λ r. ⌜ r ≡ lastBelow (λ k. same (bytesOf (now (file .entry)) (spanAt (now (words .entry)) (at + step * k))) (bytesOf (now (file .entry)) x)) n ⌝ }
+{
+    let mut k = n;
+    while 0 < k {
+        k = k - 1;
+        let name = span_at(words, at + step * k);
+        if same_part(file, name, x) {
+            return Found::At(k as u64);
+        }
+    }
+    Found::Nothing
+}
+
+// The model, or the GV model, of the i-th name in STREAM_TYPE.
+fn choose_stream(file: &[u8], words: &[u64], i: usize, gv: bool) -> Chosen
+    requires { ⌜ 647 ≤ length (now words) ⌝ }
+    requires { ⌜ recordFits (length (now file)) (headerAt (now words)) ≡ true ⌝ }
+    ensures { λ r. ⌜ r ≡ numbered (made gv) (now (file .entry)) (headerAt (now (words .entry))) i ⌝ }
+{
+    if words[STREAM_TYPE_COUNT] <= i as u64 {
+        return Chosen::Refused(Refusal::NoPosition);
+    }
+    let x = span_at(words, STREAM_TYPE + 2 * i);
+    match find_group(
+        file,
+        x,
+        words,
+        POSITIONS,
+        POSITION_WORDS,
+        words[POSITION_COUNT] as usize,
+    ) {
+        Found::Nothing => Chosen::Refused(Refusal::NoPosition),
+        Found::At(p) => {
+            match find_group(
+                file,
+                x,
+                words,
+                STREAMS,
+                STREAM_WORDS,
+                words[STREAM_COUNT] as usize,
+            ) {
+                Found::Nothing => Chosen::Refused(Refusal::NoStream),
+                Found::At(k) => {
+                    let position = POSITIONS + POSITION_WORDS * p as usize;
+                    let stream = STREAMS + STREAM_WORDS * k as usize;
+                    if gv {
+                        return gv_model(words, stream, position);
+                    }
+                    stream_model(words, stream, position)
+                }
+            }
+        }
+    }
+}
+
+// The model asked for, of a file and the words of any record.
+pub fn choose(file: &[u8], words: &[u64], which: Which) -> Chosen
+    requires { ⌜ 647 ≤ length (now words) ⌝ }
+    ensures { λ r. ⌜ r ≡ chosenOf (now (file .entry)) (headerAt (now (words .entry))) which ⌝ }
+{
+    if !record_fits(file.len(), words) {
+        return Chosen::Refused(Refusal::Range);
+    }
+    match which {
+        Which::Duration => model(
+            words,
+            DURATION_TREE,
+            DURATION_PDF,
+            words[NUM_STATES],
+            1,
+            false,
+        ),
+        Which::Stream(i) => choose_stream(file, words, i, false),
+        Which::Gv(i) => choose_stream(file, words, i, true),
+    }
+}

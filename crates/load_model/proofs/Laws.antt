@@ -1,0 +1,220 @@
+-- What a plan and the room for it give each stage that writes; and each way through a load.
+use mathlib.Core.Path.{_≡_, refl, sym, ap, ap₂, _∙_, subst}
+use mathlib.Core.Bool.{Bool, true, false, cond, _&&_}
+use mathlib.Core.List.{List, [], _∷_, _++_}
+use Prim.Native.Nat.{ℕ, zero, suc, _+_, _-_, _*_, _/_, _%_, _≤_, _<_}
+use native.Mathlib.Omega.{arith}
+use lib.Dec.{leb, eqb}
+use lib.IntN.{ℤ, pos}
+use lib.ListN.{length, take, drop, replicate, length-append}
+use borrow.Author.Tests.{leb-true, eqb-true}
+use Rattle.written.specs.Bytes.{part}
+use Rattle.written.specs.Blocks.{total}
+use Rattle.pdf_blocks.specs.Values.{wordsAt, blockAt, blockRows, entryAt, valuesAt}
+use Rattle.pdf_blocks.specs.declared.Block.{Block}
+use Rattle.pdf_blocks.specs.declared.Block.the-variants as block
+use Rattle.pdf_values.proofs.Laws.{entry-width}
+use Rattle.error.specs.declared.Refusal.{Refusal}
+use Rattle.error.specs.declared.Refusal.the-variants as refusal
+use Rattle.head_record.specs.declared.Header.{Header}
+use Rattle.load_choose.specs.declared.Which.{Which}
+use Rattle.tree_question.specs.Questions.{questionsAt}
+use Rattle.load_questions.specs.Words.{patternWords}
+use Rattle.load_trees.specs.declared.Linked.{Linked}
+use Rattle.load_text.specs.Text.{Fits, wordsAt as questionRows, endAt, treesStored, recordsStored, kept}
+use Rattle.load_plan.specs.Plans.{Sound, dataOf, planned}
+use Rattle.load_plan.specs.declared.Planned.{Planned}
+use Rattle.load_plan.specs.declared.Planned.the-variants as planned
+use Rattle.load_plan.specs.declared.Plan.{Plan}
+use Rattle.load_plan.proofs.Laws.{was}
+use Rattle.load_model.specs.declared.Loaded.{Loaded}
+use Rattle.load_model.specs.declared.Loaded.the-variants.{Refused}
+use Rattle.load_model.specs.Load.{After, roomFor, BlockRoom, answerFor, filled, untouched, loadFor, loadOf}
+
+-- ---- the size of a block
+
+pub length-values : (s : List ℕ) (i w n : ℕ) → length (valuesAt s i w n) ≡ n * w
+unfolding valuesAt
+length-values s i w zero = omega arith
+length-values s i w (suc n) =
+    length-append (entryAt s i (w / 2) (eqb (w % 2) 1)) (valuesAt s (i + 4 * w) w n) ∙ ap₂ (λ (a b : ℕ). a + b) (entry-width s i w) (length-values s (i + 4 * w) w n) ∙ omega arith
+
+pub block-size : (t w : ℕ) (s : List ℕ) (i e : ℕ) → blockAt t w s i ≡ block.Fits e → (length s - i ≡ 4 * (t + e * w)) × (total (wordsAt s i t) ≡ e)
+unfolding blockAt
+block-size t w s i e h = go (leb (4 * t) (length s - i)) (eqb (length s - i) (4 * (t + total (wordsAt s i t) * w))) refl (cond (eqb w 0) (eqb (total (wordsAt s i t)) 0) true) h
+  where
+    go : (x y : Bool) → eqb (length s - i) (4 * (t + total (wordsAt s i t) * w)) ≡ y → (z : Bool) → cond (x && (y && z)) (block.Fits (total (wordsAt s i t))) block.Wrong ≡ block.Fits e
+        → (length s - i ≡ 4 * (t + e * w)) × (total (wordsAt s i t) ≡ e)
+    go true true k true h =
+        let u : total (wordsAt s i t) ≡ e = cc in
+        (eqb-true (length s - i) (4 * (t + total (wordsAt s i t) * w)) k ∙ ap (λ (m : ℕ). 4 * (t + m * w)) u, u)
+    go true true k false h = let u : _≡_ {A = ℕ} 0 1 = cc in absurd (omega arith)
+    go true false k z h = let u : _≡_ {A = ℕ} 0 1 = cc in absurd (omega arith)
+    go false y k z h = let u : _≡_ {A = ℕ} 0 1 = cc in absurd (omega arith)
+
+-- what fill_block knows of a block's size
+module _ (s : List ℕ) (p : Plan) {b v : ℕ} (h : BlockRoom s p b v) where
+  size : (p .block + 4 * p .trees + 4 * (p .entries * p .width) ≤ length s) × (total (wordsAt s (p .block) (p .trees)) ≡ p .entries)
+  size =
+      let z = block-size (p .trees) (p .width) s (p .block) (p .entries) (h .fits) in
+      let m : 4 * (p .trees + p .entries * p .width) ≡ 4 * p .trees + 4 * (p .entries * p .width) = omega arith in
+      let k : length s - p .block ≡ 4 * p .trees + 4 * (p .entries * p .width) = z .0 ∙ m in
+      (within (p .entries * p .width) k, z .1)
+    where
+      within : (n : ℕ) → length s - p .block ≡ 4 * p .trees + 4 * n → p .block + 4 * p .trees + 4 * n ≤ length s
+      within n k = omega (arith, h .begins)
+
+  pub rows-fit : (p .block + 4 * p .trees ≤ length s) × (2 * p .trees ≤ b) × (p .block + 4 * p .trees + 4 * (total (wordsAt s (p .block) (p .trees)) * p .width) ≤ length s)
+  rows-fit = (
+    omega (arith, size .0),
+    h .rows,
+    subst (λ (m : ℕ). p .block + 4 * p .trees + 4 * (m * p .width) ≤ length s) (sym (size .1)) (size .0),
+  )
+
+  pub values-fit : (p .block + 4 * p .trees + 4 * length (valuesAt s (p .block + 4 * p .trees) (p .width) (p .entries)) ≤ length s) × (length (valuesAt s (p .block + 4 * p .trees) (p .width) (p .entries)) ≤ v)
+  values-fit =
+      let l = length-values s (p .block + 4 * p .trees) (p .width) (p .entries) in (
+        subst (λ (m : ℕ). p .block + 4 * p .trees + 4 * m ≤ length s) (sym l) (size .0),
+        subst (λ (m : ℕ). m ≤ v) (sym l) (h .room),
+      )
+
+-- ---- the room
+
+pub record Room (p : Plan) (q a t r b v w : ℕ) : Type 0 where
+  pub questions : p .questions ≤ q / 4
+  pub patterns : p .patterns ≤ a / 2
+  pub trees : p .trees ≤ t / 4
+  pub records : p .records ≤ r / 4
+  pub blocks : p .trees ≤ b / 2
+  pub values : p .entries * p .width ≤ v
+  pub work : p .lines ≤ w / 6
+
+module _ (p : Plan) (q a t r b v w : ℕ) where
+  pub room-is : roomFor p q a t r b v w ≡ true → Room p q a t r b v w
+  unfolding roomFor
+  room-is h =
+      go (leb (p .questions) (q / 4)) refl (leb (p .patterns) (a / 2)) refl (leb (p .trees) (t / 4)) refl (leb (p .records) (r / 4)) refl (leb (p .trees) (b / 2)) refl (leb (p .entries * p .width) v) refl
+      (leb (p .lines) (w / 6)) refl h
+    where
+      go : (x₁ : Bool) → leb (p .questions) (q / 4) ≡ x₁ → (x₂ : Bool) → leb (p .patterns) (a / 2) ≡ x₂ → (x₃ : Bool) → leb (p .trees) (t / 4) ≡ x₃
+          → (x₄ : Bool) → leb (p .records) (r / 4) ≡ x₄ → (x₅ : Bool) → leb (p .trees) (b / 2) ≡ x₅ → (x₆ : Bool) → leb (p .entries * p .width) v ≡ x₆
+          → (x₇ : Bool) → leb (p .lines) (w / 6) ≡ x₇ → (x₁ && x₂ && x₃ && x₄ && x₅ && x₆ && x₇) ≡ true → Room p q a t r b v w
+      go true e₁ true e₂ true e₃ true e₄ true e₅ true e₆ true e₇ h =
+          record {
+            questions = leb-true _ _ e₁;
+            patterns = leb-true _ _ e₂;
+            trees = leb-true _ _ e₃;
+            records = leb-true _ _ e₄;
+            blocks = leb-true _ _ e₅;
+            values = leb-true _ _ e₆;
+            work = leb-true _ _ e₇;
+          }
+      go false e₁ x₂ e₂ x₃ e₃ x₄ e₄ x₅ e₅ x₆ e₆ x₇ e₇ h = let u : _≡_ {A = ℕ} 0 1 = cc in absurd (omega arith)
+      go true e₁ false e₂ x₃ e₃ x₄ e₄ x₅ e₅ x₆ e₆ x₇ e₇ h = let u : _≡_ {A = ℕ} 0 1 = cc in absurd (omega arith)
+      go true e₁ true e₂ false e₃ x₄ e₄ x₅ e₅ x₆ e₆ x₇ e₇ h = let u : _≡_ {A = ℕ} 0 1 = cc in absurd (omega arith)
+      go true e₁ true e₂ true e₃ false e₄ x₅ e₅ x₆ e₆ x₇ e₇ h = let u : _≡_ {A = ℕ} 0 1 = cc in absurd (omega arith)
+      go true e₁ true e₂ true e₃ true e₄ false e₅ x₆ e₆ x₇ e₇ h = let u : _≡_ {A = ℕ} 0 1 = cc in absurd (omega arith)
+      go true e₁ true e₂ true e₃ true e₄ true e₅ false e₆ x₇ e₇ h = let u : _≡_ {A = ℕ} 0 1 = cc in absurd (omega arith)
+      go true e₁ true e₂ true e₃ true e₄ true e₅ true e₆ false e₇ h = let u : _≡_ {A = ℕ} 0 1 = cc in absurd (omega arith)
+
+-- ---- a plan with room for it
+
+module _ (d : List ℕ) (p : Plan) (s : Sound d p) (q a t r b v w : ℕ) (h : roomFor p q a t r b v w ≡ true) where
+  pub text-fits : Fits (take (p .«text_end») d) (p .text) (p .first) (p .questions) q a t r w
+  text-fits =
+      let k = was (take (p .«text_end») d) (p .text) (s .text) in
+      let m = room-is p q a t r b v w h in
+      record {
+        begins = k .begins;
+        through = record { end = k .ends; done = k .through };
+        asked = k .asked;
+        question-room = omega (arith, m .questions);
+        pattern-room = omega (arith, m .patterns, k .patterns);
+        tree-room = omega (arith, m .trees, k .trees);
+        record-room = omega (arith, m .records, k .records);
+        work-room = omega (arith, m .work, k .lines);
+      }
+
+  pub block-fits : BlockRoom (take (p .«block_end») d) p b v
+  block-fits =
+      let m = room-is p q a t r b v w h in
+      record { begins = s .begins; fits = s .block; rows = omega (arith, m .blocks); room = m .values }
+
+-- ---- no product wraps
+
+pub take-short : (n : ℕ) (l : List ℕ) → length (take n l) ≤ length l
+take-short zero l = omega arith
+take-short (suc n) [] = omega arith
+take-short (suc n) (x ∷ l) = omega (arith, take-short n l)
+
+drop-short : (n : ℕ) (l : List ℕ) → length (drop n l) ≤ length l
+drop-short zero l = omega arith
+drop-short (suc n) [] = omega arith
+drop-short (suc n) (x ∷ l) = omega (arith, drop-short n l)
+
+pub part-short : (s : List ℕ) (i n : ℕ) → length (part s i n) ≤ length s
+part-short s i n = omega (arith, take-short n (drop i s), drop-short i s)
+
+pub few-values : (d : List ℕ) (p : Plan) → Sound d p → 4 * (p .entries * p .width) ≤ length d
+few-values d p s =
+    let B = take (p .«block_end») d in
+    let z = block-size (p .trees) (p .width) B (p .block) (p .entries) (s .block) .0 in
+    let m : 4 * (p .trees + p .entries * p .width) ≡ 4 * p .trees + 4 * (p .entries * p .width) = omega arith in
+    below (p .entries * p .width) (z ∙ m)
+  where
+    below : (n : ℕ) → length (take (p .«block_end») d) - p .block ≡ 4 * p .trees + 4 * n → 4 * n ≤ length d
+    below n k = omega (arith, take-short (p .«block_end») d)
+
+pub small-values : (d : List ℕ) (p : Plan) → Sound d p → length d < 18446744073709551616 → p .entries * p .width < 9223372036854775808
+small-values d p s h = below (p .entries * p .width) (few-values d p s)
+  where
+    below : (n : ℕ) → 4 * n ≤ length d → n < 9223372036854775808
+    below n k = omega arith
+
+-- ---- each way through
+
+-- the answer and the slices are those of x
+abbrev pub Is : After → Loaded → List ℕ → List ℕ → List ℕ → List ℕ → List ℕ → List ℕ → List ℤ → Type 0
+Is x l q a t r b v w =
+    (l ≡ x .answer) × (q ≡ x .questions) × (a ≡ x .patterns) × (t ≡ x .trees) × (r ≡ x .records) × (b ≡ x .blocks) × (v ≡ x .values) × (w ≡ x .work)
+
+module _ (d : List ℕ) (p : Plan) (q a t r b v : List ℕ) (w : List ℤ) where
+  pub filled-is :
+      {S B : List ℕ} {o : Linked} {l : Loaded} {q₁ a₁ t₁ r₁ b₁ v₁ : List ℕ} {w₁ : List ℤ} → S ≡ take (p .«text_end») d → B ≡ take (p .«block_end») d
+      → (o ≡ endAt S (p .text) (p .first)) × (q₁ ≡ kept o q (questionRows S (p .text))) × (a₁ ≡ kept o a (patternWords (questionsAt S (p .text) .items)))
+      × (t₁ ≡ kept o t (treesStored S (p .text) (p .first))) × (r₁ ≡ kept o r (recordsStored S (p .text) (p .first))) × (w₁ ≡ replicate (length w) (pos 0))
+      → l ≡ answerFor p o → b₁ ≡ kept o b (blockRows (p .width) 0 (wordsAt B (p .block) (p .trees))) → v₁ ≡ kept o v (valuesAt B (p .block + 4 * p .trees) (p .width) (p .entries))
+      → Is (filled d p q a t r b v w) l q₁ a₁ t₁ r₁ b₁ v₁ w₁
+  unfolding filled
+  filled-is {S} {B} {o} x y e l f g =
+      let u : o ≡ endAt (take (p .«text_end») d) (p .text) (p .first) = e .0 ∙ ap (λ (S : List ℕ). endAt S (p .text) (p .first)) x in (
+        l ∙ ap (answerFor p) u,
+        e .1 ∙ ap₂ (λ (o : Linked) (S : List ℕ). kept o q (questionRows S (p .text))) u x,
+        e .2 ∙ ap₂ (λ (o : Linked) (S : List ℕ). kept o a (patternWords (questionsAt S (p .text) .items))) u x,
+        e .3 ∙ ap₂ (λ (o : Linked) (S : List ℕ). kept o t (treesStored S (p .text) (p .first))) u x,
+        e .4 ∙ ap₂ (λ (o : Linked) (S : List ℕ). kept o r (recordsStored S (p .text) (p .first))) u x,
+        f ∙ ap₂ (λ (o : Linked) (B : List ℕ). kept o b (blockRows (p .width) 0 (wordsAt B (p .block) (p .trees)))) u y,
+        g ∙ ap₂ (λ (o : Linked) (B : List ℕ). kept o v (valuesAt B (p .block + 4 * p .trees) (p .width) (p .entries))) u y,
+        e .5,
+      )
+
+module _ (s : List ℕ) (h : Header) (which : Which) (q a t r b v : List ℕ) (w : List ℤ) where
+  pub load-refused : {x : Refusal} → planned.Refused x ≡ planned s h which → Is (loadOf s h which q a t r b v w) (Refused x) q a t r b v w
+  unfolding loadOf
+  load-refused {x} e = subst (λ (o : Planned). Is (loadFor (dataOf s h) o q a t r b v w) (Refused x) q a t r b v w) e (refl, refl, refl, refl, refl, refl, refl, refl)
+
+  module _ (p : Plan) (e : planned.Model p ≡ planned s h which) where
+    by-room : (c : Bool) → roomFor p (length q) (length a) (length t) (length r) (length b) (length v) (length w) ≡ c → {l : Loaded} {q₁ a₁ t₁ r₁ b₁ v₁ : List ℕ} {w₁ : List ℤ}
+        → Is (cond c (filled (dataOf s h) p q a t r b v w) (untouched refusal.Room q a t r b v w)) l q₁ a₁ t₁ r₁ b₁ v₁ w₁ → Is (loadOf s h which q a t r b v w) l q₁ a₁ t₁ r₁ b₁ v₁ w₁
+    unfolding loadOf
+    by-room c k {l} {q₁} {a₁} {t₁} {r₁} {b₁} {v₁} {w₁} z =
+        subst (λ (o : Planned). Is (loadFor (dataOf s h) o q a t r b v w) l q₁ a₁ t₁ r₁ b₁ v₁ w₁) e
+        (subst (λ (c : Bool). Is (cond c (filled (dataOf s h) p q a t r b v w) (untouched refusal.Room q a t r b v w)) l q₁ a₁ t₁ r₁ b₁ v₁ w₁) (sym k) z)
+
+    pub load-room : {c : Bool} → c ≡ roomFor p (length q) (length a) (length t) (length r) (length b) (length v) (length w) → c ≡ false → Is (loadOf s h which q a t r b v w) (Refused refusal.Room) q a t r b v w
+    load-room k f = by-room false (sym k ∙ f) (refl, refl, refl, refl, refl, refl, refl, refl)
+
+    pub load-filled : {c : Bool} {d : List ℕ} {l : Loaded} {q₁ a₁ t₁ r₁ b₁ v₁ : List ℕ} {w₁ : List ℤ}
+        → c ≡ roomFor p (length q) (length a) (length t) (length r) (length b) (length v) (length w) → c ≡ true → d ≡ dataOf s h → Is (filled d p q a t r b v w) l q₁ a₁ t₁ r₁ b₁ v₁ w₁
+        → Is (loadOf s h which q a t r b v w) l q₁ a₁ t₁ r₁ b₁ v₁ w₁
+    load-filled {l = l} {q₁} {a₁} {t₁} {r₁} {b₁} {v₁} {w₁} k f y z = by-room true (sym k ∙ f) (subst (λ (d : List ℕ). Is (filled d p q a t r b v w) l q₁ a₁ t₁ r₁ b₁ v₁ w₁) y z)

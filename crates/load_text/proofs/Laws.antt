@@ -1,0 +1,86 @@
+-- A whole text: the question words and the index of names as parts of their tables; what each way through leaves in a table.
+use mathlib.Core.Path.{_≡_, refl, sym, ap, ap₂, _∙_}
+use mathlib.Core.List.{List, []}
+use Prim.Native.Nat.{ℕ, _+_, _-_, _*_, _≤_, _<_}
+use native.Mathlib.Omega.{arith}
+use lib.IntN.{ℤ, pos}
+use lib.ListN.{length, take, drop, replicate}
+use lib.Seq.{sets, length-sets}
+use Rattle.laws.proofs.Tables.{part-sets, sets-over}
+use Rattle.laws.specs.Totals.{total}
+use Rattle.link_order.specs.Keys.{keyOf, nameKey, nameAt}
+use Rattle.link_sort.specs.Sorted.{sorted}
+use Rattle.link_sort.proofs.Index.{length-sorted}
+use Rattle.link_search.specs.Found.{countFrom}
+use Rattle.link_search.specs.Index.{Index}
+use Rattle.link_search.proofs.Last.{length-count}
+use Rattle.tree_question.specs.Questions.{questionsAt}
+use Rattle.tree_survey_questions.specs.Counts.{patternCount}
+use Rattle.tree_survey_questions.proofs.Counting.{each-asked}
+use Rattle.tree_body.specs.Trees.{treesAt}
+use Rattle.load_questions.specs.Words.{patternWords, questionWords}
+use Rattle.load_questions.proofs.Rows.{patterns-length, questions-length}
+use Rattle.load_trees.specs.Trees.{treesEnd, treeWords, recordWords, workAfter}
+use Rattle.load_trees.specs.declared.Linked.{Linked}
+use Rattle.load_trees.specs.declared.Linked.the-variants.{Done, NodeRef, QuestionRef, LoneNode}
+use Rattle.load_text.specs.Text.{Fits, nameIndex, wordsAt, endAt, treesStored, recordsStored, kept}
+
+-- a front that was stored, lent
+front : (t₀ t₁ xs : List ℕ) (m : ℕ) → t₁ ≡ sets t₀ 0 xs → m ≡ length xs → m ≤ length t₀ → take (m - 0) (drop 0 t₁) ≡ xs
+front t₀ t₁ xs m e l h =
+    let z : m - 0 ≡ length xs = omega arith in
+    ap₂ (λ (k : ℕ) (t : List ℕ). take k (drop 0 t)) z e ∙ part-sets t₀ 0 xs (omega arith)
+
+index-length : (s x : List ℕ) (n : ℕ) → length (nameIndex s x n) ≡ n
+index-length s x n = length-sorted (keyOf (λ e. nameKey (nameAt s x e))) (countFrom 0 n) ∙ length-count 0 n
+
+module _ (s : List ℕ) (i f n : ℕ) {q p t r w : ℕ} (h : Fits s i f n q p t r w) where
+  -- the index has room where the patterns have
+  pub index-room : n ≤ p
+  index-room = omega (arith, h .pattern-room, h .asked, each-asked s i)
+
+  pub asked-words : (q₀ q₁ : List ℕ) → length q₀ ≡ q → q₁ ≡ sets q₀ 0 (wordsAt s i) → take (4 * n - 0) (drop 0 q₁) ≡ wordsAt s i
+  asked-words q₀ q₁ l e = front q₀ q₁ (wordsAt s i) (4 * n) e (omega (arith, h .asked, questions-length 0 (questionsAt s i .items))) (omega (arith, h .question-room))
+
+  module _ (p₀ p₁ x : List ℕ) (l : length p₀ ≡ p) (e : p₁ ≡ sets p₀ 0 (nameIndex s x n)) where
+    pub name-index : take (n - 0) (drop 0 p₁) ≡ nameIndex s x n
+    name-index = front p₀ p₁ (nameIndex s x n) n e (sym (index-length s x n)) (omega (arith, index-room))
+
+    pub index-count : length (take (n - 0) (drop 0 p₁)) ≡ n
+    index-count = ap length name-index ∙ index-length s x n
+
+    pub is-index : Index (λ e. nameKey (nameAt s x e)) (take (n - 0) (drop 0 p₁))
+    is-index = record { is = name-index ∙ ap (λ (m : ℕ). sorted (keyOf (λ e. nameKey (nameAt s x e))) (countFrom 0 m)) (sym index-count) }
+
+    -- what was linked by these was linked by the text's own
+    module _ (y : x ≡ wordsAt s i) where
+      c : length (take (n - 0) (drop 0 p₁)) ≡ length (questionsAt s i .items)
+      c = index-count ∙ h .asked
+
+      pub linked-as : {o : Linked} → o ≡ treesEnd s x (length (take (n - 0) (drop 0 p₁))) 0 (treesAt s f .items) → o ≡ endAt s i f
+      linked-as u = u ∙ ap₂ (λ (a : List ℕ) (m : ℕ). treesEnd s a m 0 (treesAt s f .items)) y c
+
+      pub rows-as : {t₁ : List ℕ} (t₀ : List ℕ) → t₁ ≡ sets t₀ 0 (treeWords s x (length (take (n - 0) (drop 0 p₁))) 0 (treesAt s f .items)) → t₁ ≡ sets t₀ 0 (treesStored s i f)
+      rows-as t₀ u = u ∙ ap₂ (λ (a : List ℕ) (m : ℕ). sets t₀ 0 (treeWords s a m 0 (treesAt s f .items))) y c
+
+      pub records-as : {t₁ : List ℕ} (t₀ : List ℕ) → t₁ ≡ sets t₀ 0 (recordWords s x (length (take (n - 0) (drop 0 p₁))) (treesAt s f .items)) → t₁ ≡ sets t₀ 0 (recordsStored s i f)
+      records-as t₀ u = u ∙ ap₂ (λ (a : List ℕ) (m : ℕ). sets t₀ 0 (recordWords s a m (treesAt s f .items))) y c
+
+      pub work-as : {w₁ : List ℤ} (w₀ : List ℤ) → w₁ ≡ workAfter s x (length (take (n - 0) (drop 0 p₁))) w₀ (treesAt s f .items) → w₁ ≡ workAfter s (wordsAt s i) n w₀ (treesAt s f .items)
+      work-as w₀ u = u ∙ ap₂ (λ (a : List ℕ) (m : ℕ). workAfter s a m w₀ (treesAt s f .items)) y index-count
+
+  -- ---- what is left in a table
+
+  -- the pattern rows stand over the index
+  pub patterns-over : {p₁ p₂ : List ℕ} (p₀ x : List ℕ) → p₁ ≡ sets p₀ 0 (nameIndex s x n) → p₂ ≡ sets p₁ 0 (patternWords (questionsAt s i .items)) → p₂ ≡ sets p₀ 0 (patternWords (questionsAt s i .items))
+  patterns-over p₀ x e u =
+      u ∙ ap (λ (t : List ℕ). sets t 0 (patternWords (questionsAt s i .items))) e
+      ∙ sets-over (nameIndex s x n) (patternWords (questionsAt s i .items)) p₀ 0 (omega (arith, index-length s x n, patterns-length (questionsAt s i .items), h .asked, each-asked s i))
+
+module _ {o : Linked} (t₀ words : List ℕ) where
+  pub kept-done : {t₁ : List ℕ} → o ≡ Done → t₁ ≡ sets t₀ 0 words → t₁ ≡ kept o t₀ words
+  kept-done e u = u ∙ sym (ap (λ (x : Linked). kept x t₀ words) e)
+
+  -- a refused link leaves zeros
+  pub kept-not : {u : Linked} {m : ℕ} {t₂ : List ℕ} → o ≡ u → kept u t₀ words ≡ replicate (length t₀) 0 → m ≡ length t₀ → t₂ ≡ replicate m 0 → t₂ ≡ kept o t₀ words
+  kept-not e z l v = v ∙ ap (λ (m : ℕ). replicate m 0) l ∙ sym z ∙ sym (ap (λ (x : Linked). kept x t₀ words) e)

@@ -1,0 +1,98 @@
+// After model/mod.rs, `parse_model`: the rows of a whole tree text, linked, into lent tables; all or nothing (01, 'Linking and tables').
+// An index of the question names stands in front of the pattern table until the pattern rows are written: a question has a pattern at least.
+//
+use link_sort::sort_names;
+use link_targets::number_lines;
+use load_questions::fill_all_patterns;
+use load_questions::fill_questions;
+use load_trees::Linked;
+use load_trees::fill_trees;
+use table_put::zero;
+use table_put::zero_work;
+ghost use mathlib.Core.Path.{_≡_};
+ghost use Prim.Native.Nat.{_+_, _*_, _≤_, _<_};
+ghost use lib.IntN.{pos};
+ghost use lib.ListN.{length, replicate};
+ghost use lib.Seq.{sets};
+ghost use Rattle.link_order.specs.Keys.{keyOf, nameKey, nameAt};
+ghost use Rattle.link_sort.specs.Sorted.{sorted};
+ghost use Rattle.link_search.specs.Found.{countFrom};
+ghost use Rattle.tree_question.specs.Questions.{questionsAt};
+ghost use Rattle.tree_body.specs.Trees.{treesAt};
+ghost use Rattle.load_questions.specs.Words.{patternWords, questionWords};
+ghost use Rattle.load_trees.specs.Trees.{workAfter};
+ghost use Rattle.load_text.specs.Text.{Fits, nameIndex, wordsAt, endAt, treesStored, recordsStored, kept};
+
+// The rows of n questions, by name and then by row, in front of the table.
+fn index_names(s: &[u8], questions: &[u64], n: usize, patterns: &mut [u64])
+    requires { ⌜ n ≤ length (now patterns) ⌝ }
+    ensures { λ r. ⌜ now (patterns .exit) ≡ sets (now (patterns .entry)) 0 (nameIndex (now (s .entry)) (now (questions .entry)) n) ⌝ }
+{
+    number_lines(patterns, n);
+    sort_names(s, questions, &mut patterns[0..n]);
+}
+
+// The question rows, the index of their names, and the trees linked by it.
+fn link_text(
+    s: &[u8],
+    at: usize,
+    first: usize,
+    n: usize,
+    questions: &mut [u64],
+    patterns: &mut [u64],
+    trees: &mut [u64],
+    records: &mut [u64],
+    work: &mut [i64],
+) -> Linked
+    requires { ⌜ Fits (now s) at first n (length (now questions)) (length (now patterns)) (length (now trees)) (length (now records)) (length (now work)) ⌝ }
+    ensures { λ r. ⌜ (r ≡ endAt (now (s .entry)) at first) × (now (questions .exit) ≡ sets (now (questions .entry)) 0 (wordsAt (now (s .entry)) at)) × (now (patterns .exit) ≡ sets (now (patterns .entry)) 0 (nameIndex (now (s .entry)) (wordsAt (now (s .entry)) at) n)) × (now (trees .exit) ≡ sets (now (trees .entry)) 0 (treesStored (now (s .entry)) at first)) × (now (records .exit) ≡ sets (now (records .entry)) 0 (recordsStored (now (s .entry)) at first)) × (now (work .exit) ≡ workAfter (now (s .entry)) (wordsAt (now (s .entry)) at) n (now (work .entry)) (treesAt (now (s .entry)) first .items)) ⌝ }
+{
+    fill_questions(s, at, questions);
+    let words = 4 * n;
+    index_names(s, &questions[0..words], n, patterns);
+    fill_trees(
+        s,
+        first,
+        &questions[0..words],
+        &patterns[0..n],
+        trees,
+        records,
+        work,
+    )
+}
+
+// What a refused link leaves.
+fn zero_text(questions: &mut [u64], patterns: &mut [u64], trees: &mut [u64], records: &mut [u64])
+    ensures { λ r. ⌜ (now (questions .exit) ≡ replicate (length (now (questions .entry))) 0) × (now (patterns .exit) ≡ replicate (length (now (patterns .entry))) 0) × (now (trees .exit) ≡ replicate (length (now (trees .entry))) 0) × (now (records .exit) ≡ replicate (length (now (records .entry))) 0) ⌝ }
+{
+    zero(questions);
+    zero(patterns);
+    zero(trees);
+    zero(records);
+}
+
+// The rows of n questions from `at` on and of the trees from `first` on; zeros where linking is refused. The work is zero in the end.
+pub fn fill_text(
+    s: &[u8],
+    at: usize,
+    first: usize,
+    n: usize,
+    questions: &mut [u64],
+    patterns: &mut [u64],
+    trees: &mut [u64],
+    records: &mut [u64],
+    work: &mut [i64],
+) -> Linked
+    requires { ⌜ Fits (now s) at first n (length (now questions)) (length (now patterns)) (length (now trees)) (length (now records)) (length (now work)) ⌝ }
+    ensures { λ r. ⌜ (r ≡ endAt (now (s .entry)) at first) × (now (questions .exit) ≡ kept r (now (questions .entry)) (wordsAt (now (s .entry)) at)) × (now (patterns .exit) ≡ kept r (now (patterns .entry)) (patternWords (questionsAt (now (s .entry)) at .items))) × (now (trees .exit) ≡ kept r (now (trees .entry)) (treesStored (now (s .entry)) at first)) × (now (records .exit) ≡ kept r (now (records .entry)) (recordsStored (now (s .entry)) at first)) × (now (work .exit) ≡ replicate (length (now (work .entry))) (pos 0)) ⌝ }
+{
+    let linked = link_text(s, at, first, n, questions, patterns, trees, records, work);
+    zero_work(work);
+    match linked {
+        Linked::Done => fill_all_patterns(s, at, patterns),
+        Linked::NodeRef { tree: _, line: _ } => zero_text(questions, patterns, trees, records),
+        Linked::QuestionRef { tree: _, line: _ } => zero_text(questions, patterns, trees, records),
+        Linked::LoneNode { tree: _ } => zero_text(questions, patterns, trees, records),
+    }
+    linked
+}

@@ -1,0 +1,45 @@
+-- `load_trees::ended`: each way that a tree ends.
+use mathlib.Core.Path.{sym, ap}
+use Rattle.load_trees.specs.Trees.{endedAt}
+use borrow.Author.Needs.{needs}
+use Rattle.load_trees.proofs.ended.Statement.{statement}
+use Rattle.load_trees.proofs.ended.Tie as tie
+use Rattle.load_trees.proofs.ended.Reads as reads
+use Rattle.load_trees.proofs.ended.Lts as lts
+
+enum-told : tie.Need-enum-told
+enum-told c = search needs
+
+enum-known-filled : tie.Need-enum-known-filled
+enum-known-filled c = search needs
+
+enum-known-filled-2 : tie.Need-enum-known-filled-2
+enum-known-filled-2 c = search needs
+
+enum-told-2 : tie.Need-enum-told-2
+enum-told-2 c = search needs
+
+returns : tie.Need-returns
+returns c = search needs
+
+returns-2 : tie.Need-returns-2
+returns-2 c = sym (ap (endedAt (c .before .before .before .args .row)) (c .before .filled .given .1))
+
+returns-3 : tie.Need-returns-3
+returns-3 c = sym (ap (endedAt (c .before .before .before .args .row)) (c .before .filled2 .given .1))
+
+returns-4 : tie.Need-returns-4
+returns-4 c = sym (ap (endedAt (c .before .before .args .row)) (c .enum-told2 .given .1))
+
+pub ended-spec : {M : Type 1} → statement M
+ended-spec =
+    tie.close
+    (tie.spec
+    enum-told
+    enum-known-filled
+    enum-known-filled-2
+    enum-told-2
+    returns
+    returns-2
+    returns-3
+    returns-4)

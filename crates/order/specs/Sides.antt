@@ -1,9 +1,0 @@
--- How one number stands to another. Assumes nothing.
-use mathlib.Core.Bool.{cond}
-use Prim.Native.Nat.{ℕ}
-use lib.Dec.{ltb}
-use Rattle.order.specs.declared.Side.{Side}
-use Rattle.order.specs.declared.Side.the-variants.{Below, Same, Above}
-
-unfoldable pub sideOf : ℕ → ℕ → Side
-sideOf a b = cond (ltb a b) Below (cond (ltb b a) Above Same)

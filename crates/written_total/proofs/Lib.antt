@@ -1,0 +1,3 @@
+pub mod Total
+pub mod Verdicts
+pub mod Eleven
