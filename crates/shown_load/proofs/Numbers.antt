@@ -119,9 +119,9 @@ text-before s i {r} e = go (questionsAt s i .ending) (surveyAt s i) e
   where
     go : (d : Ending) (x : Survey) → placed d x ≡ text.Refused r → numberOf r ≤ 19
     go (doneAt f) (survey.Counted q p t n l) e = let u : _≡_ {A = ℕ} 0 1 = cc in absurd (omega arith)
-    go (brokenAt f) (survey.Counted q p t n l) e = let u : refusal.Text ≡ r = cc in subst (λ (x : Refusal). numberOf x ≤ 19) u (omega arith)
-    go (doneAt f) (survey.Broken k) e = let u : refusal.Text ≡ r = cc in subst (λ (x : Refusal). numberOf x ≤ 19) u (omega arith)
-    go (brokenAt f) (survey.Broken k) e = let u : refusal.Text ≡ r = cc in subst (λ (x : Refusal). numberOf x ≤ 19) u (omega arith)
+    go (brokenAt f) (survey.Counted q p t n l) e = let u : refusal.Text f ≡ r = cc in subst (λ (x : Refusal). numberOf x ≤ 19) u (omega arith)
+    go (doneAt f) (survey.Broken k) e = let u : refusal.Text k ≡ r = cc in subst (λ (x : Refusal). numberOf x ≤ 19) u (omega arith)
+    go (brokenAt f) (survey.Broken k) e = let u : refusal.Text k ≡ r = cc in subst (λ (x : Refusal). numberOf x ≤ 19) u (omega arith)
     go (doneAt f) survey.Negative e = let u : refusal.State ≡ r = cc in subst (λ (x : Refusal). numberOf x ≤ 19) u (omega arith)
     go (brokenAt f) survey.Negative e = let u : refusal.State ≡ r = cc in subst (λ (x : Refusal). numberOf x ≤ 19) u (omega arith)
 
