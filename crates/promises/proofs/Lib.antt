@@ -1,3 +1,4 @@
 pub mod Moved
 pub mod Opening
 pub mod Linking
+pub mod Plans

@@ -57,7 +57,7 @@ use Rattle.shown_load.proofs.Says as says
 
 -- ---- a range
 
-within-is : (a b n : ℕ) {x y : ℕ} → withinOf a b n ≡ bounds.Inside x y → (a ≤ b + 1) × (b + 1 ≤ n) × (x ≡ a) × (y ≡ b + 1)
+pub within-is : (a b n : ℕ) {x y : ℕ} → withinOf a b n ≡ bounds.Inside x y → (a ≤ b + 1) × (b + 1 ≤ n) × (x ≡ a) × (y ≡ b + 1)
 unfolding withinOf
 within-is a b n {x} {y} e = go (leb a (b + 1)) refl (leb (b + 1) n) refl e
   where
