@@ -2,3 +2,4 @@ pub mod Moved
 pub mod Opening
 pub mod Linking
 pub mod Plans
+pub mod NoModel

@@ -189,4 +189,4 @@ module _ {s : List ℕ} (bytes : Bytes s) {h : record-of.Header} (says : record-
         go : (c : Chosen) → Placing s h m c → Model p ≡ plannedFor D c → PlanSaid s h m p
         go c (at {t = t} {b = b} {w = k} q n) e = made t b k q n (plan-where D (t .from) (t .to) (b .from) (b .to) k p e)
         go c (wide q n) e = clash (cc)
-        go c (nowhere u) e = clash (cc)
+        go c (nowhere u z) e = clash (cc)

@@ -109,7 +109,7 @@ chosen-early s h which = go (recordFits (length s) h) (asked s h which) (of whic
     go true x e = e
     go false x e = omega arith
 
-abbrev Before : Planned → Type 0
+abbrev pub Before : Planned → Type 0
 Before (Model p) = Unit {0}
 Before (Refused r) = numberOf r ≤ 19
 
@@ -149,7 +149,7 @@ plan-before d u v x y w = go (withinOf u v (length d))
     go (bounds.Inside a e) = in-text a e (textOf (take e d) a) refl
     go bounds.Outside = omega arith
 
-planned-before : (s : List ℕ) (h : Header) (which : Which) → Before (planned s h which)
+pub planned-before : (s : List ℕ) (h : Header) (which : Which) → Before (planned s h which)
 unfolding planned
 planned-before s h which = go (chosenOf s h which) (chosen-early s h which)
   where

@@ -14,7 +14,7 @@ use Rattle.written.specs.Record.{Says}
 use Rattle.written.specs.Record as record-of
 use Rattle.written.specs.Linking.{Nth, Last, here, there}
 use Rattle.laws.proofs.Nth.{nth-inside, nth-of}
-use Rattle.error.specs.Numbers.{numberOf}
+use Rattle.error.specs.Numbers.{numberOf, placeOf, lineOf}
 use Rattle.error.specs.declared.Refusal.{Refusal}
 use Rattle.error.specs.declared.Refusal.the-variants as refusal
 use Rattle.head_record.specs.Empty.{noSpan, emptyStream, emptyPosition}
@@ -100,7 +100,7 @@ whichOf (models.gv i) = Gv i
 pub data Placing (s : List ℕ) (h : record-of.Header) (m : Model) : Chosen → Type 0 where
   at : {t b : says.Range} {w : ℕ} → Placed s h m t b w → w ≤ 4096 → Placing s h m (chosen.Model (t .from) (t .to) (b .from) (b .to) w)
   wide : {t b : says.Range} {w : ℕ} → Placed s h m t b w → 4096 < w → Placing s h m (chosen.Refused refusal.Limit)
-  nowhere : {z : Refusal} → Unplaced s h m (numberOf z) → Placing s h m (chosen.Refused z)
+  nowhere : {z : Refusal} → Unplaced s h m (numberOf z) → (placeOf z ≡ 0) × (lineOf z ≡ 0) → Placing s h m (chosen.Refused z)
 
 module _ (s : List ℕ) (h : record-of.Header) (r : Says s h) where
   of-width : {m : Model} {t b : says.Range} {w : ℕ} → Placed s h m t b w → Placing s h m (modelOf (rangeOf t) (rangeOf b) w)
@@ -139,14 +139,14 @@ module _ (s : List ℕ) (h : record-of.Header) (r : Says s h) where
   module _ (make : StreamData → PositionData → Chosen) (m : Model) (i : ℕ) (of : OfName m i)
       (made : (d : record-of.Stream) (p : record-of.Position) → EntriesOf s h i d p → Placing s h m (make (streamRecord d) (positionRecord p))) where
     numbered : {c : Chosen} → Numbered make s (headerRecord h) i c → Placing s h m c
-    numbered (no-number l) = nowhere (Unplaced.no-name of (λ x n. let k = nth-inside n in omega (arith, types)))
+    numbered (no-number l) = nowhere (Unplaced.no-name of (λ x n. let k = nth-inside n in omega (arith, types))) (refl, refl)
     numbered (no-position l u) =
         let n = nth-of (h .global .stream-type) i (omega (arith, types)) in
-        nowhere (Unplaced.no-position of (n .1) (unnamed positionRecord (λ x. x .name) positionName position-name s (models.bytesOf s (n .0)) (rw (positions, type-is i (n .1)) at u)))
+        nowhere (Unplaced.no-position of (n .1) (unnamed positionRecord (λ x. x .name) positionName position-name s (models.bytesOf s (n .0)) (rw (positions, type-is i (n .1)) at u))) (refl, refl)
     numbered (no-stream {p = p} l q u) =
         let n = nth-of (h .global .stream-type) i (omega (arith, types)) in
         let a = named positionRecord (λ x. x .name) positionName position-name s (models.bytesOf s (n .0)) (rw (positions, type-is i (n .1)) at q) in
-        nowhere (Unplaced.no-stream of (n .1) (a .1) (unnamed streamRecord (λ x. x .name) streamName stream-name s (models.bytesOf s (n .0)) (rw (streams, type-is i (n .1)) at u)))
+        nowhere (Unplaced.no-stream of (n .1) (a .1) (unnamed streamRecord (λ x. x .name) streamName stream-name s (models.bytesOf s (n .0)) (rw (streams, type-is i (n .1)) at u))) (refl, refl)
     numbered (entries {p = x} l q t) =
         let n = nth-of (h .global .stream-type) i (omega (arith, types)) in
         let a = named positionRecord (λ x. x .name) positionName position-name s (models.bytesOf s (n .0)) (rw (positions, type-is i (n .1)) at q) in
@@ -160,9 +160,9 @@ module _ (s : List ℕ) (h : record-of.Header) (r : Says s h) where
     where
       go : (c : Bool) → d .use-gv ≡ c → (t : Option says.Range) → p .gv-tree ≡ t → (b : Option says.Range) → p .gv-pdf ≡ b
           → Placing s h (models.gv i) (cond (c && present t && present b) (modelOf (rangeOr t) (rangeOr b) (2 * d .vector-length)) (chosen.Refused refusal.UseGv))
-      go false u t k b j = nowhere (Unplaced.no-gv e (NoGv.unused u))
-      go true u none k b j = nowhere (Unplaced.no-gv e (NoGv.no-tree k))
-      go true u (some t) k none j = nowhere (Unplaced.no-gv e (NoGv.no-block j))
+      go false u t k b j = nowhere (Unplaced.no-gv e (NoGv.unused u)) (refl, refl)
+      go true u none k b j = nowhere (Unplaced.no-gv e (NoGv.no-tree k)) (refl, refl)
+      go true u (some t) k none j = nowhere (Unplaced.no-gv e (NoGv.no-block j)) (refl, refl)
       go true u (some t) k (some b) j = of-width (of-gv e u k j)
 
   a-stream-model : (i : ℕ) (d : record-of.Stream) (p : record-of.Position) → EntriesOf s h i d p → Placing s h (models.stream i) (streamModel (streamRecord d) (positionRecord p))

@@ -10,8 +10,7 @@ use Rattle.written.specs.Blocks as block
 use Rattle.written.specs.Said.{Text, Layout}
 use Rattle.written.specs.TreeText as tree
 use Rattle.written.specs.Breaks.{Breaks}
-use Rattle.written.specs.Linking.{Row}
-use Rattle.written.specs.Tables.{TreeRows, ModelRefused, Negative}
+use Rattle.written.specs.Tables.{ModelRefused, Negative}
 use Rattle.shown_models.specs.Models.{Model, dataOf, Within, Placed, Unplaced}
 
 -- what a model is: what its text says, its block's rows, its width, its values
@@ -22,19 +21,17 @@ pub record ModelSaid : Type 0 where
   pub values : List ℕ
 
 module _ (widen : ℕ → ℕ) (s : List ℕ) (h : Header) where
-  pub record SaysModel (m : Model) (x : ModelSaid) : Type 0 where
+  -- what its text and its block say: where they stand, the text laid out so, no state negative
+  pub record ReadsModel (m : Model) (x : ModelSaid) (l : Layout) : Type 0 where
     pub text-at : Range
     pub block-at : Range
-    pub layout : Layout
-    pub trees : List Row
-    pub records : List Row
     pub placed : Placed s h m text-at block-at (x .width)
     pub narrow : x .width ≤ 4096
     pub text-inside : Within text-at (dataOf s h)
-    pub text-says : tree.Says (take (text-at .to + 1) (dataOf s h)) (text-at .from) (x .text) layout
+    pub text-says : tree.Says (take (text-at .to + 1) (dataOf s h)) (text-at .from) (x .text) l
+    pub natural : ¬ Negative (x .text .trees)
     pub block-inside : Within block-at (dataOf s h)
     pub block-says : block.Block widen (length (x .text .trees)) (x .width) (drop (block-at .from) (take (block-at .to + 1) (dataOf s h))) (x .rows) (x .values)
-    pub linked : TreeRows (x .text .questions) 0 (x .text .trees) trees records
 
   -- why not, however much room there is: number, place, line. What its text says is no model: a negative state (18), its block's range (16), its block (19), linking (21 to 23)
   pub data Unloaded (x : Text) (at : Range) (w : ℕ) : ℕ → ℕ → ℕ → Type 0 where
