@@ -3,3 +3,4 @@ pub mod Opening
 pub mod Linking
 pub mod Plans
 pub mod NoModel
+pub mod Asked
