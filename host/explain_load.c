@@ -32,23 +32,67 @@ static void put_file_range(FILE *to, const struct voice *v, struct pair r) {
         fprintf(to, "(bytes %" PRIu64 " to %" PRIu64 " of the file)", start + r.first, start + r.second);
 }
 
-static void explain_text(FILE *to, const struct voice *v, uint64_t which) {
-    struct pair r = {0, 0};
-    tree_range(v, which, &r);
-    fputs("its tree text ", to);
-    put_file_range(to, v, r);
-    fputs(" is not in the grammar of questions and trees", to);
+/* A tree text, and the byte of the file where it begins. */
+struct tree_text {
+    struct bytes bytes;
+    uint64_t start;
+};
+
+static void put_text_place(FILE *to, struct tree_text text, uint64_t at) {
+    fprintf(to, "byte %" PRIu64 " of the file (line %" PRIu64 ", column %" PRIu64 " of the tree text)", text.start + at, line_of(text.bytes, at), column_of(text.bytes, at));
 }
 
-static uint64_t count_trees(struct bytes text) {
-    struct reader r = trees_of(text);
-    struct written_tree t;
-    struct written_line l;
-    uint64_t n = 0;
-    for (; next_tree(&r, &t); n++)
-        while (t.braced && next_line(&r, &l)) {
-        }
-    return n;
+/* What stands at a place, as much as fits a message. */
+static void put_beginning(FILE *to, struct bytes text, uint64_t at) {
+    enum { SHOWN = 40 };
+    uint64_t rest = text.len - at;
+    put_quoted(to, part(text, at, rest < SHOWN ? rest : SHOWN));
+    if (rest > SHOWN)
+        fputs("..", to);
+}
+
+static void explain_question(FILE *to, struct tree_text text, uint64_t at) {
+    uint64_t odd = odd_pattern_byte(text.bytes, at);
+    if (odd == text.bytes.len)
+        return;
+    fputs("; the byte ", to);
+    put_quoted(to, part(text.bytes, odd, 1));
+    fputs(" at ", to);
+    put_text_place(to, text, odd);
+    fputs(" can't stand in a pattern", to);
+}
+
+/* The question or tree that doesn't fit, at the place that the library gave. */
+static void put_broken(FILE *to, struct tree_text text, uint64_t at) {
+    struct bytes rest = part(text.bytes, at, text.bytes.len - at);
+    struct items before = items_before(text.bytes, at);
+    int question = starts_with(rest, "QS ") || starts_with(rest, "QS\n");
+    if (rest.len == 0) {
+        fprintf(to, "it ends at byte %" PRIu64 " of the file without a tree", text.start + at);
+        return;
+    }
+    if (question && before.trees == 0)
+        fprintf(to, "question %" PRIu64 " at ", before.questions);
+    else if (starts_with(rest, "{*}"))
+        fprintf(to, "tree %" PRIu64 " at ", before.trees);
+    else
+        fprintf(to, "what stands in place of tree %" PRIu64 " at ", before.trees);
+    put_text_place(to, text, at);
+    fputs(" doesn't fit: ", to);
+    put_beginning(to, text.bytes, at);
+    if (question && before.trees == 0)
+        explain_question(to, text, at);
+}
+
+static void explain_text(FILE *to, const struct voice *v, uint64_t which, uint64_t place) {
+    struct pair r = {0, 0};
+    struct tree_text text = {tree_text_of(v, which), number_of(v, LARSAVIM_DATA_START)};
+    tree_range(v, which, &r);
+    text.start += r.first;
+    fputs("its tree text ", to);
+    put_file_range(to, v, r);
+    fputs(" is not in the grammar of questions and trees: ", to);
+    put_broken(to, text, place - r.first);
 }
 
 static void explain_block(FILE *to, const struct voice *v, uint64_t which) {
@@ -57,7 +101,7 @@ static void explain_block(FILE *to, const struct voice *v, uint64_t which) {
     fputs("its PDF block ", to);
     put_file_range(to, v, r);
     fprintf(to, " has %" PRIu64 " bytes, which are not a count of 4 bytes for each of its %" PRIu64 " trees and the entries that these counts announce",
-            r.second + 1 - r.first, count_trees(tree_text_of(v, which)));
+            r.second + 1 - r.first, items_before(tree_text_of(v, which), UINT64_MAX).trees);
 }
 
 /* ---- GV and width ------------------------------------------------------------------------------------------------------------- */
@@ -164,7 +208,7 @@ void explain_load(FILE *to, const struct voice *v, uint64_t which, const uint64_
     case LARSAVIM_NOSTREAM: fputs("[STREAM] has nothing for this stream", to); break;
     case LARSAVIM_USEGV: explain_gv(to, v, which); break;
     case LARSAVIM_RANGE: explain_range(to, v, which); break;
-    case LARSAVIM_TEXT: explain_text(to, v, which); break;
+    case LARSAVIM_TEXT: explain_text(to, v, which, out[OUT_PLACE]); break;
     case LARSAVIM_STATE: explain_state(to, v, which); break;
     case LARSAVIM_BLOCK: explain_block(to, v, which); break;
     case LARSAVIM_NODEREF:

@@ -172,6 +172,13 @@ int find_line(struct bytes text, uint64_t tree, uint64_t line, struct written_li
 int node_id(struct bytes reference, int64_t *id); /* 1 where the reference is a node, and its id */
 int bears_id(struct bytes text, uint64_t tree, int64_t id);
 int has_question(struct bytes text, struct bytes name);
+
+struct items {
+    uint64_t questions, trees;
+};
+
+struct items items_before(struct bytes text, uint64_t at);                 /* of a text that is in the grammar up to there */
+uint64_t odd_pattern_byte(struct bytes text, uint64_t question);           /* the first byte of the question there that no pattern can have; the text's length if there is none */
 uint64_t line_of(struct bytes text, uint64_t at);   /* counted from 1 */
 uint64_t column_of(struct bytes text, uint64_t at); /* in bytes, counted from 1 */
 

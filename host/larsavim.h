@@ -40,7 +40,7 @@ extern "C" {
 #define LARSAVIM_NOSTREAM 14  /* a STREAM_TYPE name has no entry in [STREAM] */
 #define LARSAVIM_USEGV 15     /* GV is asked for, and USE_GV is 0 or GV_TREE or GV_PDF is absent */
 #define LARSAVIM_RANGE 16     /* a range isn't inside the data, or the record doesn't fit its limits or the file; or words that are no record */
-#define LARSAVIM_TEXT 17      /* tree text outside the grammar */
+#define LARSAVIM_TEXT 17      /* tree text outside the grammar; place: where it breaks, counted from the first data byte */
 #define LARSAVIM_STATE 18     /* tree text in the grammar, but a state is negative */
 #define LARSAVIM_BLOCK 19     /* the length of a PDF block is wrong */
 #define LARSAVIM_ROOM 20      /* a lent table, the work, the words or the answer's slice is smaller than needed */
@@ -50,8 +50,9 @@ extern "C" {
 #define LARSAVIM_WALKTABLE 24 /* no such tree or no record in it, a record met outside its tree, the tables or the kinds, or no answer for its question */
 #define LARSAVIM_STEPS 25     /* another question would pass the walk's limit */
 
-/* A place is a file offset, counted from 0, for 2 to 8 and 10; the tree, counted from 0, for 21 to 23; otherwise 0. A line is
- * counted from 0 within its tree, for 21 to 23; otherwise 0. */
+/* A place is a file offset, counted from 0, for 2 to 8 and 10; for 17 of a load an offset from the first data byte (LARSAVIM_DATA_START): the
+ * first byte of the question or tree that doesn't fit, of other text after a tree, or the end of the range where no tree stands; the tree,
+ * counted from 0, for 21 to 23; otherwise 0. A line is counted from 0 within its tree, for 21 to 23; otherwise 0. */
 
 /* ---- Limits ------------------------------------------------------------------------------------------------------------------- */
 

@@ -1,5 +1,7 @@
-/* treetext.c: reads tree text again, so that a message can show the line that the library counted. The library has found the text to be
- * in the grammar before anything here looks at it; so this reader checks nothing, and only never leaves the text. */
+/* treetext.c: reads tree text again, so that a message can show what the library counted. The library has found the text, or the part before
+ * the place that it gave, to be in the grammar before anything here looks at it; so this reader checks nothing, and only never leaves the text. */
+#include <string.h>
+
 #include "host.h"
 
 static int more(const struct reader *r) {
@@ -87,6 +89,38 @@ struct reader trees_of(struct bytes text) {
     while (next_question(&r, &name)) {
     }
     return r;
+}
+
+struct items items_before(struct bytes text, uint64_t at) {
+    struct items n = {0, 0};
+    struct reader r = {part(text, 0, at < text.len ? at : text.len), 0};
+    struct bytes name;
+    struct written_tree t;
+    struct written_line l;
+    while (next_question(&r, &name))
+        n.questions++;
+    for (; next_tree(&r, &t); n.trees++)
+        while (t.braced && next_line(&r, &l)) {
+        }
+    return n;
+}
+
+/* A byte that a pattern can have, or that can stand about patterns. */
+static int fits_patterns(uint8_t b) {
+    return in_reference(b) || (b != '\0' && strchr("*?!#%&+/:=@^|\", \n", b) != NULL);
+}
+
+uint64_t odd_pattern_byte(struct bytes text, uint64_t question) {
+    struct reader r = {text, question};
+    pass(&r, "QS");
+    pass_blanks(&r);
+    word(&r);
+    pass_blanks(&r);
+    if (!pass(&r, "{"))
+        return text.len;
+    while (more(&r) && fits_patterns(here(&r)))
+        r.at++;
+    return more(&r) && here(&r) != '}' ? r.at : text.len;
 }
 
 int has_question(struct bytes text, struct bytes name) {

@@ -33,6 +33,7 @@ import voices
 HERE = os.path.dirname(os.path.abspath(__file__))
 NAN = re.compile(r'\b[7f]ff(?!0000000000000)[0-9a-f]{13}\b')
 END_WRAPS = re.compile(r'-18446744073709551615\b')
+NO_PLACE = re.compile(r'^LOAD 17 \d+ ')  # the Rust says of a tree text that it doesn't fit, and not where
 
 
 def run(command, lines):
@@ -52,6 +53,8 @@ def as_oracle(lines):
             l = NAN.sub('nan', l)
         elif l == 'COMMENT absent':
             l = 'COMMENT ""'
+        elif l.startswith('LOAD 17 '):
+            l = NO_PLACE.sub('LOAD 17 0 ', l)
         elif l.startswith(('AFTER', 'LEAVES')):
             continue
         out.append(l)

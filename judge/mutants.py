@@ -24,6 +24,8 @@ MUTANTS = [
     ('trees', '2^63 fits', '-2 ** 63 <= n < 2 ** 63', '-2 ** 63 <= n <= 2 ** 63'),
     ('trees', '-2^63 doesn\'t', '-2 ** 63 <= n < 2 ** 63', '-2 ** 63 < n < 2 ** 63'),
     ('trees', 'a PDF of letters alone', "        if n is None:\n            raise Refused(17)\n        return 'P', n", "        return 'P', n or 0"),
+    ('trees', 'a text breaks where its range begins', "        raise Refused(17, at)\n", "        raise Refused(17, 0)\n"),
+    ('trees', 'a tab is skipped before other text', "    if not parting or parting.end() == len(c.s):\n", "    while c.i < len(c.s) and c.s[c.i] in b' \\t\\n':\n        c.i += 1\n    if not parting or parting.end() == len(c.s):\n"),
     ('trees', '18 before 17', "        state = self.whole_number()\n", "        state = self.whole_number()\n        if state < 0:\n            raise Refused(18)\n"),
     ('trees', '-0 is negative', "    if any(state < 0 for _, state, _, _ in trees):", "    if any(state < 0 or s[star + 3:].lstrip(b' \\n').startswith(b'[-') for star, state, _, _ in trees):"),
     ('trees', 'no quotes about references', "        if not self.at(b'\"'):\n            return self.bare_reference()", "        return self.bare_reference()"),

@@ -359,7 +359,7 @@ class Cursor:
         return star, state, None, ls
 
 
-LINE_BEGINS, QUESTION_BEGINS, TREE_BEGINS = re.compile(rb'[-0-9]'), re.compile(rb'QS'), re.compile(rb'\{')
+LINE_BEGINS, QUESTION_BEGINS = re.compile(rb'[-0-9]'), re.compile(rb'QS[ \n]')
 
 
 def signed64(digits):
@@ -372,21 +372,39 @@ def signed64(digits):
     return n if -2 ** 63 <= n < 2 ** 63 else None
 
 
+def item(c, read):
+    """What stands here; where it doesn't fit, 17 with its first byte (02, Wish 2)."""
+    at = c.i
+    try:
+        return read()
+    except Refused:
+        raise Refused(17, at)
+
+
+def next_tree(c):
+    """Whether a tree stands behind a parting; other text after a tree is 17 at its first byte that is no blank."""
+    parting = PARTING.match(c.s, c.i)
+    c.blanks()
+    if c.i == len(c.s):
+        return False
+    if not parting or parting.end() == len(c.s):
+        raise Refused(17, c.i)
+    c.i = parting.end()
+    return True
+
+
 def tree_text(s, i):
     """Questions (name, patterns) and trees (place of {*}, state, lone reference or None, lines (id, name, no, yes))."""
     c = Cursor(s, i)
     questions = []
-    if c.at(b'QS'):
-        questions.append(c.question())
+    if QUESTION_BEGINS.match(s, c.i):
+        questions.append(item(c, c.question))
         while c.parted(PARTING, QUESTION_BEGINS):
-            questions.append(c.question())
+            questions.append(item(c, c.question))
     c.blanks()
-    trees = [c.tree()]
-    while c.parted(PARTING, TREE_BEGINS):
-        trees.append(c.tree())
-    c.blanks()
-    if c.i != len(s):
-        raise Refused(17)
+    trees = [item(c, c.tree)]
+    while next_tree(c):
+        trees.append(item(c, c.tree))
     if any(state < 0 for _, state, _, _ in trees):
         raise Refused(18)
     return questions, trees

@@ -56,7 +56,7 @@ def tree_numbers(b):
     try:
         qs, trees = reading.tree_text(b, 0)
     except reading.Refused as r:
-        return [r.number]
+        return [r.number, r.place]
     out = [0] + [int(w) for w in next(iter(reading.tree_lines(b))).split(' ')[2:]]
     ref = lambda r: [1 if r[0] == 'P' else 0, r[1]]
     for name, patterns in qs:

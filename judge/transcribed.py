@@ -733,10 +733,47 @@ def Says(s, i):
             yield qs, ts
 
 
+# ---- Breaks: where a tree text breaks
+
+def Asks(s, i):
+    return any(blank(byte_at(s, past)) for past in Word(s, b'QS', i))
+
+
+def TreesBreak(s, i):
+    if not any(True for _ in TreeAt(s, i)):
+        yield i  # here
+    for e, _ in TreeAt(s, i):
+        for j in Parting(s, e):
+            if j < len(s):
+                yield from TreesBreak(s, j)  # later
+        if len(s) not in Run(s, blank, e) and not any(j < len(s) for j in Parting(s, e)):
+            yield from Run(s, blank, e)  # other
+
+
+def QuestionsBreak(s, i):
+    if not any(True for _ in QuestionAt(s, i)):
+        yield i  # here
+    for e, _ in QuestionAt(s, i):
+        for j in Parting(s, e):
+            if Asks(s, j):
+                yield from QuestionsBreak(s, j)  # later
+        if not any(Asks(s, k) for k in Parting(s, e)):
+            for j in Run(s, blank, e):
+                yield from TreesBreak(s, j)  # trees
+
+
+def Breaks(s, b):
+    if Asks(s, b):
+        yield from QuestionsBreak(s, b)
+    else:
+        for i in Run(s, blank, b):
+            yield from TreesBreak(s, i)
+
+
 def tree_numbers(text):
     qs, ts = text
     if any(x < 0 for _, x, _ in ts):  # Tables, Negative
-        return [18]
+        return [18, 0]
     ls = [t[2][1] if t[2][0] else () for t in ts]
     need = [1 if list(Single(t[2])) else sum(1 + l[2][0] + l[3][0] for l in t[2][1]) for t in ts]
     out = [0, len(qs), sum(len(p) for _, p in qs), len(ts), sum(need), max(map(len, ls))]
@@ -983,7 +1020,7 @@ class Held:
     def trees(self, inputs):
         inputs = list(inputs)
         for b in inputs:
-            answers = [tree_numbers(t) for t in Says(b, 0)] or [[17]]
+            answers = [tree_numbers(t) for t in Says(b, 0)] + [[17, p] for p in Breaks(b, 0)]
             self.one('tree texts', b, answers, store.tree_numbers(b))
         self.judge.all('tree', (b.hex() for b in inputs))
 

@@ -20,7 +20,7 @@ numberOf NoPosition = 13
 numberOf NoStream = 14
 numberOf UseGv = 15
 numberOf Range = 16
-numberOf Text = 17
+numberOf (Text p) = 17
 numberOf State = 18
 numberOf Block = 19
 numberOf Room = 20
@@ -30,7 +30,7 @@ numberOf (LoneNode t k) = 23
 numberOf WalkTable = 24
 numberOf Steps = 25
 
--- 2 to 8 and 10: a file offset; 21 to 23: the tree
+-- 2 to 8 and 10: a file offset; 17: an offset into the data (02, Wish 2); 21 to 23: the tree
 abbrev pub placeOf : Refusal → ℕ
 placeOf Split = 0
 placeOf (Utf8 p) = p
@@ -47,7 +47,7 @@ placeOf NoPosition = 0
 placeOf NoStream = 0
 placeOf UseGv = 0
 placeOf Range = 0
-placeOf Text = 0
+placeOf (Text p) = p
 placeOf State = 0
 placeOf Block = 0
 placeOf Room = 0
@@ -74,7 +74,7 @@ lineOf NoPosition = 0
 lineOf NoStream = 0
 lineOf UseGv = 0
 lineOf Range = 0
-lineOf Text = 0
+lineOf (Text p) = 0
 lineOf State = 0
 lineOf Block = 0
 lineOf Room = 0

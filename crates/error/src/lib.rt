@@ -4,7 +4,7 @@
 ghost use mathlib.Core.Path.{_≡_};
 ghost use Rattle.error.specs.Numbers.{toldOf, numberOf, placeOf, lineOf};
 
-// A place is a file offset; `tree` and `line` are counted from 0.
+// A place is a file offset, that of 17 an offset into the data (02, Wish 2); `tree` and `line` are counted from 0.
 pub enum Refusal {
     // 1: the file doesn't split into its four sections
     Split,
@@ -36,8 +36,8 @@ pub enum Refusal {
     UseGv,
     // 16: a range, or the header record itself, doesn't fit the file
     Range,
-    // 17: tree text outside the grammar
-    Text,
+    // 17: tree text outside the grammar; where it breaks, counted from the first data byte
+    Text(usize),
     // 18: a tree's state is negative
     State,
     // 19: the length of a PDF block is wrong
@@ -56,7 +56,7 @@ pub enum Refusal {
     Steps,
 }
 
-// What a refusal says in numbers: 01's number; the place, a file offset or the tree of 21 to 23, 0 where 01 gives none; the line of 21 to 23, else 0.
+// What a refusal says in numbers: 01's number; the place, an offset or the tree of 21 to 23, 0 where there is none; the line of 21 to 23, else 0.
 pub struct Told {
     pub number: u64,
     pub place: usize,
@@ -93,7 +93,7 @@ impl Refusal {
             Refusal::NoStream => says(14, 0, 0),
             Refusal::UseGv => says(15, 0, 0),
             Refusal::Range => says(16, 0, 0),
-            Refusal::Text => says(17, 0, 0),
+            Refusal::Text(at) => says(17, at, 0),
             Refusal::State => says(18, 0, 0),
             Refusal::Block => says(19, 0, 0),
             Refusal::Room => says(20, 0, 0),

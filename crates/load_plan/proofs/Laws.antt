@@ -52,11 +52,11 @@ module _ (s : List ℕ) (i : ℕ) where
     unfolding textOf
     text-state v = ap₂ placed (sym done) v
 
-    pub text-broken : {k : ℕ} → survey.Broken k ≡ surveyAt s i → text.Refused refusal.Text ≡ textOf s i
+    pub text-broken : {k : ℕ} → survey.Broken k ≡ surveyAt s i → text.Refused (refusal.Text k) ≡ textOf s i
     unfolding textOf
     text-broken v = ap₂ placed (sym done) v
 
-  pub text-none : {k : ℕ} → questions.Broken k ≡ questionsCounted 0 0 (questionsAt s i) → survey.Broken k ≡ surveyAt s i → text.Refused refusal.Text ≡ textOf s i
+  pub text-none : {k : ℕ} → questions.Broken k ≡ questionsCounted 0 0 (questionsAt s i) → survey.Broken k ≡ surveyAt s i → text.Refused (refusal.Text k) ≡ textOf s i
   unfolding textOf
   text-none {k} h v = ap₂ placed (sym (not-asked (questionsAt s i) k h)) v
 

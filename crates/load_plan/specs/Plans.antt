@@ -32,8 +32,8 @@ use Rattle.load_plan.specs.declared.Planned.the-variants.{Model, Refused
 -- the survey, and where the first tree stands
 abbrev pub placed : Ending → Survey → Text
 placed (doneAt f) (survey.Counted q p t r l) = text.Read f q p t r l
-placed (brokenAt f) (survey.Counted q p t r l) = text.Refused refusal.Text
-placed e (survey.Broken i) = text.Refused refusal.Text
+placed (brokenAt f) (survey.Counted q p t r l) = text.Refused (refusal.Text f)
+placed e (survey.Broken i) = text.Refused (refusal.Text i)
 placed e survey.Negative = text.Refused refusal.State
 
 unfoldable pub textOf : List ℕ → ℕ → Text

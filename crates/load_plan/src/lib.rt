@@ -58,7 +58,7 @@ pub enum Planned {
     Refused(Refusal),
 }
 
-// The tree text that begins at `at` and ends with the slice (17, 18).
+// The tree text that begins at `at` and ends with the slice: 17 with the place where it breaks, 18.
 fn read_text(s: &[u8], at: usize) -> Text
     ensures { λ r. ⌜ r ≡ textOf (now (s .entry)) at ⌝ }
 {
@@ -86,9 +86,9 @@ fn read_text(s: &[u8], at: usize) -> Text
                     lines,
                 }
             }
-            Trees::Broken(_) => Text::Refused(Refusal::Text),
+            Trees::Broken(at) => Text::Refused(Refusal::Text(at)),
         },
-        Questions::Broken(_) => Text::Refused(Refusal::Text),
+        Questions::Broken(at) => Text::Refused(Refusal::Text(at)),
     }
 }
 

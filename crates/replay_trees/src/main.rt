@@ -230,8 +230,8 @@ fn replay_text(s: &[u8], at: usize, text: &[u8]) -> bool {
             let last = end.stored;
             ended(last, s)
         }
-        Survey::Broken { at: _ } => ended(number(c, s, 17), s),
-        Survey::Negative => ended(number(c, s, 18), s),
+        Survey::Broken { at: place } => ended(pair(c, s, 17, place), s),
+        Survey::Negative => ended(pair(c, s, 18, 0), s),
     }
 }
 

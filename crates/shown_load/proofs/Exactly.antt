@@ -25,7 +25,6 @@ use Rattle.tree_question.specs.Questions.{questionsAt}
 use Rattle.tree_survey.specs.Survey.{surveyAt}
 use Rattle.tree_survey.specs.Said.{saidPatterns, saidNegative, saidTreeRecords, saidTreeLines, saidSurvey}
 use Rattle.tree_survey.specs.declared.Survey.the-variants as survey
-use Rattle.tree_survey.proofs.Joined.{silent-broken}
 use Rattle.tree_survey.proofs.Said.{survey-said, said-negative, negative-said}
 use Rattle.pdf_blocks.specs.Values.{blockAt}
 use Rattle.pdf_blocks.specs.declared.Block.{Block}
@@ -52,6 +51,7 @@ use Rattle.load_model.specs.Load.{After, roomFor, answerFor, filled, untouched,
 use Rattle.load_model.specs.declared.Loaded.the-variants as loaded
 use Rattle.shown_text.specs.Refusals.{RefusedAs, node, question, lone}
 use Rattle.shown_text.proofs.Text.{refused-ends}
+use Rattle.shown_breaks.proofs.Place.{breaks-broken}
 use Rattle.shown_load.specs.Stored.{Chose}
 use Rattle.shown_load.specs.Refused.{Within, NotLoaded, not-chosen, text-outside, no-text, negative-state, block-outside, no-block, no-room, not-linked}
 use Rattle.shown_load.proofs.Texts.{small-take, small-drop, counted-whole}
@@ -75,11 +75,11 @@ not-inside a b n k = go (leb a (b + 1)) refl (leb (b + 1) n) refl
 -- ---- the tree text
 
 module _ (S : List ℕ) (u : ℕ) where
-  text-broken : (k : ℕ) → surveyAt S u ≡ survey.Broken k → textOf S u ≡ text.Refused refusal.Text
+  text-broken : (k : ℕ) → surveyAt S u ≡ survey.Broken k → textOf S u ≡ text.Refused (refusal.Text k)
   unfolding textOf
   text-broken k e = ap (placed (questionsAt S u .ending)) e ∙ go (questionsAt S u .ending)
     where
-      go : (n : Ending) → placed n (survey.Broken k) ≡ text.Refused refusal.Text
+      go : (n : Ending) → placed n (survey.Broken k) ≡ text.Refused (refusal.Text k)
       go (doneAt f) = refl
       go (brokenAt f) = refl
 
@@ -211,7 +211,7 @@ module _ (s : List ℕ) (h : Header) (which : Which) (short : length s < 2 ^ 63)
   pub not-load : {z : Refusal} → NotLoaded s h which (length q) (length a) (length t) (length r) (length b) (length v) (length w) z → RefusedLike z
   not-load (not-chosen c) = by-plan (by-choice c)
   not-load (text-outside c n) = by-plan (outside c n)
-  not-load (no-text {u = u} {v = v} c i n) = let k = silent-broken (take (v + 1) (dataOf s h)) u n in by-plan (refused-text c i (text-broken (take (v + 1) (dataOf s h)) u (k .0) (k .1)))
+  not-load (no-text {u = u} {v = v} {p = p} c i n) = by-plan (refused-text c i (text-broken (take (v + 1) (dataOf s h)) u p (breaks-broken (take (v + 1) (dataOf s h)) n)))
   not-load (negative-state {u = u} {v = v} c i m n) = by-plan (refused-text c i (text-negative (take (v + 1) (dataOf s h)) u (said-negative m n)))
   not-load (block-outside {x = x} {y = y} c i m n o) = by-plan (to-block c i m n bounds.Outside (not-inside x y (length (dataOf s h)) o))
   not-load (no-block c i m n j e) = by-plan (unblocked c i m n j e)

@@ -109,7 +109,7 @@ chosen-early s h which = go (recordFits (length s) h) (asked s h which) (of whic
     go true x e = e
     go false x e = omega arith
 
-abbrev Before : Planned → Type 0
+abbrev pub Before : Planned → Type 0
 Before (Model p) = Unit {0}
 Before (Refused r) = numberOf r ≤ 19
 
@@ -119,9 +119,9 @@ text-before s i {r} e = go (questionsAt s i .ending) (surveyAt s i) e
   where
     go : (d : Ending) (x : Survey) → placed d x ≡ text.Refused r → numberOf r ≤ 19
     go (doneAt f) (survey.Counted q p t n l) e = let u : _≡_ {A = ℕ} 0 1 = cc in absurd (omega arith)
-    go (brokenAt f) (survey.Counted q p t n l) e = let u : refusal.Text ≡ r = cc in subst (λ (x : Refusal). numberOf x ≤ 19) u (omega arith)
-    go (doneAt f) (survey.Broken k) e = let u : refusal.Text ≡ r = cc in subst (λ (x : Refusal). numberOf x ≤ 19) u (omega arith)
-    go (brokenAt f) (survey.Broken k) e = let u : refusal.Text ≡ r = cc in subst (λ (x : Refusal). numberOf x ≤ 19) u (omega arith)
+    go (brokenAt f) (survey.Counted q p t n l) e = let u : refusal.Text f ≡ r = cc in subst (λ (x : Refusal). numberOf x ≤ 19) u (omega arith)
+    go (doneAt f) (survey.Broken k) e = let u : refusal.Text k ≡ r = cc in subst (λ (x : Refusal). numberOf x ≤ 19) u (omega arith)
+    go (brokenAt f) (survey.Broken k) e = let u : refusal.Text k ≡ r = cc in subst (λ (x : Refusal). numberOf x ≤ 19) u (omega arith)
     go (doneAt f) survey.Negative e = let u : refusal.State ≡ r = cc in subst (λ (x : Refusal). numberOf x ≤ 19) u (omega arith)
     go (brokenAt f) survey.Negative e = let u : refusal.State ≡ r = cc in subst (λ (x : Refusal). numberOf x ≤ 19) u (omega arith)
 
@@ -149,7 +149,7 @@ plan-before d u v x y w = go (withinOf u v (length d))
     go (bounds.Inside a e) = in-text a e (textOf (take e d) a) refl
     go bounds.Outside = omega arith
 
-planned-before : (s : List ℕ) (h : Header) (which : Which) → Before (planned s h which)
+pub planned-before : (s : List ℕ) (h : Header) (which : Which) → Before (planned s h which)
 unfolding planned
 planned-before s h which = go (chosenOf s h which) (chosen-early s h which)
   where

@@ -24,7 +24,6 @@ use Rattle.tree_question.specs.Questions.{questionsAt}
 use Rattle.tree_survey.specs.Survey.{surveyAt}
 use Rattle.tree_survey.specs.declared.Survey.{Survey}
 use Rattle.tree_survey.specs.declared.Survey.the-variants as survey
-use Rattle.tree_survey.proofs.Joined.{broken-silent}
 use Rattle.tree_survey.proofs.Said.{negative-said}
 use Rattle.pdf_blocks.specs.Values.{wordsAt, blockAt}
 use Rattle.pdf_blocks.specs.declared.Block.{Block}
@@ -51,13 +50,14 @@ use Rattle.load_plan.proofs.Laws.{Was, was}
 use Rattle.load_model.specs.Load.{After, roomFor, answerFor, filledBy, filled, untouched, loadFor, loadOf}
 use Rattle.load_model.specs.declared.Loaded.the-variants as loaded
 use Rattle.shown_load.specs.Stored.{Chose}
+use Rattle.shown_breaks.proofs.Place.{broken-breaks}
 use Rattle.shown_load.specs.Refused.{Within, NotLoaded, not-chosen, text-outside, no-text, negative-state, block-outside, no-block, no-room, not-linked}
 use Rattle.shown_load.proofs.Texts.{small-take, small-drop, counted-whole, spoken, natural, counted}
 use Rattle.shown_load.proofs.Says as says
 
 -- ---- a range
 
-within-is : (a b n : ℕ) {x y : ℕ} → withinOf a b n ≡ bounds.Inside x y → (a ≤ b + 1) × (b + 1 ≤ n) × (x ≡ a) × (y ≡ b + 1)
+pub within-is : (a b n : ℕ) {x y : ℕ} → withinOf a b n ≡ bounds.Inside x y → (a ≤ b + 1) × (b + 1 ≤ n) × (x ≡ a) × (y ≡ b + 1)
 unfolding withinOf
 within-is a b n {x} {y} e = go (leb a (b + 1)) refl (leb (b + 1) n) refl e
   where
@@ -86,8 +86,8 @@ module _ (s : List ℕ) (h : Header) (which : Which) (short : length s < 2 ^ 63)
       S : List ℕ
       S = take (v + 1) (dataOf s h)
 
-      silent : {k : ℕ} → surveyAt S u ≡ survey.Broken k → refusal.Text ≡ z → Not z
-      silent {k} m e = subst Not e (no-text asked inside (broken-silent S u k m))
+      silent : {k : ℕ} → surveyAt S u ≡ survey.Broken k → refusal.Text k ≡ z → Not z
+      silent {k} m e = subst Not e (no-text asked inside (broken-breaks S u k m))
 
       negative : surveyAt S u ≡ survey.Negative → refusal.State ≡ z → Not z
       negative m e = let k = negative-said u m in subst Not e (negative-state asked inside (k .2) (k .3))
@@ -95,8 +95,8 @@ module _ (s : List ℕ) (h : Header) (which : Which) (short : length s < 2 ^ 63)
       go : (n : Ending) → questionsAt S u .ending ≡ n → (o : Survey) → surveyAt S u ≡ o → placed n o ≡ text.Refused z → Not z
       go (doneAt f) n (survey.Counted a b c d l) m e = let u : _≡_ {A = ℕ} 0 1 = cc in absurd (omega arith)
       go (brokenAt f) n (survey.Counted a b c d l) m e = absurd (counted-whole S u m n)
-      go (doneAt f) n (survey.Broken k) m e = silent m (let u : refusal.Text ≡ z = cc in u)
-      go (brokenAt f) n (survey.Broken k) m e = silent m (let u : refusal.Text ≡ z = cc in u)
+      go (doneAt f) n (survey.Broken k) m e = silent m (let u : refusal.Text k ≡ z = cc in u)
+      go (brokenAt f) n (survey.Broken k) m e = silent m (let u : refusal.Text k ≡ z = cc in u)
       go (doneAt f) n survey.Negative m e = negative m (let u : refusal.State ≡ z = cc in u)
       go (brokenAt f) n survey.Negative m e = negative m (let u : refusal.State ≡ z = cc in u)
 

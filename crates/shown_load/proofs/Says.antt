@@ -91,7 +91,7 @@ module _ (s : List ℕ) (h : Header) (which : Which) (short : length s < 2 ^ 63)
     natural = text.natural S (p .text) read
 
     counted : (p .questions ≡ length (spoken .text .questions)) × (p .trees ≡ length (spoken .text .trees)) × (p .records ≡ total saidTreeRecords (spoken .text .trees))
-    counted = text.counted S (p .text) read
+    counted = let c = text.counted S (p .text) read in (c .0, c .1, c .2)
 
     pub chose : Chose s h which p (spoken .text) (spoken .layout)
     chose = record { plan = e; says = spoken .says; natural = natural; questions = counted .0; trees = counted .1 }

@@ -56,6 +56,7 @@ module _ (S : List ℕ) (i : ℕ) {f q p t r l : ℕ} (m : Was S i f q p t r l) 
       omega arith
 
   pub counted : (q ≡ length (spoken .text .questions)) × (t ≡ length (spoken .text .trees)) × (r ≡ total saidTreeRecords (spoken .text .trees))
+      × (p ≡ total saidPatterns (spoken .text .questions)) × (l ≡ largest saidTreeLines 0 (spoken .text .trees))
   unfolding saidSurvey
   counted = go (anyOf saidNegative false (spoken .text .trees)) (sym (m .survey) ∙ survey-said (spoken .says))
     where
@@ -65,10 +66,13 @@ module _ (S : List ℕ) (i : ℕ) {f q p t r l : ℕ} (m : Was S i f q p t r l) 
       C : Survey
       C = survey.Counted (length (T .questions)) (total saidPatterns (T .questions)) (length (T .trees)) (total saidTreeRecords (T .trees)) (largest saidTreeLines 0 (T .trees))
 
-      go : (b : Bool) → survey.Counted q p t r l ≡ cond b survey.Negative C → (q ≡ length (T .questions)) × (t ≡ length (T .trees)) × (r ≡ total saidTreeRecords (T .trees))
+      go : (b : Bool) → survey.Counted q p t r l ≡ cond b survey.Negative C
+          → (q ≡ length (T .questions)) × (t ≡ length (T .trees)) × (r ≡ total saidTreeRecords (T .trees)) × (p ≡ total saidPatterns (T .questions)) × (l ≡ largest saidTreeLines 0 (T .trees))
       go true k = let u : _≡_ {A = ℕ} 0 1 = cc in absurd (omega arith)
       go false k =
           let x : q ≡ length (T .questions) = cc in
           let y : t ≡ length (T .trees) = cc in
           let z : r ≡ total saidTreeRecords (T .trees) = cc in
-          (x, y, z)
+          let v : p ≡ total saidPatterns (T .questions) = cc in
+          let w : l ≡ largest saidTreeLines 0 (T .trees) = cc in
+          (x, y, z, v, w)

@@ -1,5 +1,5 @@
 -- Why a load is refused, number by number, in the words of `written`: no model is chosen (16, 13 to 15, 12); the range of the tree text is not inside the data (16), the
--- bytes there say no text (17) or one with a negative state (18); the range of the block is not inside the data (16), the bytes there are no block (19); a table is too short
+-- text there breaks (17, with the place where) or has a negative state (18); the range of the block is not inside the data (16), the bytes there are no block (19); a table is too short
 -- (20); linking refuses the text (21 to 23). Each holds only where those before it don't.
 use mathlib.Core.Path.{_≡_}
 use mathlib.Core.Bool.{true, false}
@@ -8,6 +8,7 @@ use Prim.Native.Nat.{ℕ, _+_, _≤_}
 use lib.ListN.{length, take, drop}
 use Rattle.written.specs.Said.{Text, Layout}
 use Rattle.written.specs.TreeText.{Says}
+use Rattle.written.specs.Breaks.{Breaks}
 use Rattle.written.specs.Tables.{ModelRefused, Negative}
 use Rattle.written.specs.Blocks as block
 use Rattle.pdf_widen.specs.Widening.{widenOf}
@@ -34,8 +35,8 @@ pub data NotLoaded (s : List ℕ) (h : Header) (which : Which) (questions patter
       {u v x y w : ℕ} → Choice s h which (Model u v x y w) → ¬ Within u v (dataOf s h)
       → NotLoaded s h which questions patterns trees records blocks values work refusal.Range
   no-text :
-      {u v x y w : ℕ} → Choice s h which (Model u v x y w) → Within u v (dataOf s h) → ((t : Text) (l : Layout) → ¬ Says (take (v + 1) (dataOf s h)) u t l)
-      → NotLoaded s h which questions patterns trees records blocks values work refusal.Text
+      {u v x y w p : ℕ} → Choice s h which (Model u v x y w) → Within u v (dataOf s h) → Breaks (take (v + 1) (dataOf s h)) u p
+      → NotLoaded s h which questions patterns trees records blocks values work (refusal.Text p)
   negative-state :
       {u v x y w : ℕ} {t : Text} {l : Layout} → Choice s h which (Model u v x y w) → Within u v (dataOf s h) → Says (take (v + 1) (dataOf s h)) u t l → Negative (t .trees)
       → NotLoaded s h which questions patterns trees records blocks values work refusal.State

@@ -178,7 +178,7 @@ module _ (s : List ℕ) where
         follows = ap (λ b. treeFollowed s (record { star = i; state = x; body = b }) (afterTree s e)) (sym q) ∙ h;
       }
 
-  pub read-tree : (i : ℕ) (z : Step Tree) → treeStepAt s i ≡ z → ((p : ℕ) → z ≡ broken p → ⊥) → Grown i z
+  pub read-tree : (i : ℕ) (z : Step Tree) → treeStepAt s i ≡ z → (z ≡ broken i → ⊥) → Grown i z
   unfolding treeStepAt headAt bodyAt zipWith
   read-tree i z h no-break = go (stateAt s i) refl h
     where
@@ -200,13 +200,13 @@ module _ (s : List ℕ) where
                       let k = read-lines s (stop blank s a) e u in
                       let c = k .closed in
                       grown z d (lines (past-byte brace f a s q) (run-is blank no-blank s a) (k .items) (c .blanks) (c .shut)) (ap braces (k .is)) h
-                  within (brokenAt e) u h = absurd (no-break i (sym h))
+                  within (brokenAt e) u h = absurd (no-break (sym h))
           body Nowhere q h = alone (referenceAt s f) refl h
             where
               alone : (t : Answer) → referenceAt s f ≡ t → treeHeaded s i (loneRead x t) ≡ z → Grown i z
               alone (reference.Found r e) u h = let k = found-reference s f e r u in grown {ws = []} z d (one (k .says)) (ap lone (k .is)) h
-              alone reference.NoReference u h = absurd (no-break i (sym h))
-      go signed.NoNumber p h = absurd (no-break i (sym h))
+              alone reference.NoReference u h = absurd (no-break (sym h))
+      go signed.NoNumber p h = absurd (no-break (sym h))
 
   -- ---- the trees of a text
 
@@ -264,7 +264,7 @@ module _ (s : List ℕ) where
       done {x = x} {y = y} t d = tree-read t ∙ ap (treeFollowed s (treeOf x y)) (ended-after d) ∙ ap (last (treeOf x y)) (sym (d .at-length))
 
       was-on : (i b : ℕ) (z : Tree) → treeStepAt s i ≡ next z b → Stood (TreeAt s) treeOf i z (λ a. Parting s a b)
-      was-on i b z h = let r = read-tree i (next z b) h (λ p q. clash (cc)) in go (r .ends) (r .said) (r .place) (r .item) (afterTree s (r .ends)) refl (r .follows)
+      was-on i b z h = let r = read-tree i (next z b) h (λ q. clash (cc)) in go (r .ends) (r .said) (r .place) (r .item) (afterTree s (r .ends)) refl (r .follows)
         where
           go : (e : ℕ) (x : says.Tree) (y : says.TreePlace) → TreeAt s i e x y → (t : TreeStep) → afterTree s e ≡ t → treeFollowed s (treeOf x y) (afterTree s e) ≡ next z b → Stood (TreeAt s) treeOf i z (λ a. Parting s a b)
           go e x y t (Next k) q h =
@@ -276,7 +276,7 @@ module _ (s : List ℕ) where
           go e x y t (Broken k) q h = let u : broken k ≡ next z b = ap (treeFollowed s (treeOf x y)) (sym q) ∙ h in clash (cc)
 
       was-done : (i e : ℕ) (z : Tree) → treeStepAt s i ≡ last z e → Stood (TreeAt s) treeOf i z (λ a. Ended a e)
-      was-done i f z h = let r = read-tree i (last z f) h (λ p q. clash (cc)) in go (r .ends) (r .said) (r .place) (r .item) (afterTree s (r .ends)) refl (r .follows)
+      was-done i f z h = let r = read-tree i (last z f) h (λ q. clash (cc)) in go (r .ends) (r .said) (r .place) (r .item) (afterTree s (r .ends)) refl (r .follows)
         where
           go : (e : ℕ) (x : says.Tree) (y : says.TreePlace) → TreeAt s i e x y → (t : TreeStep) → afterTree s e ≡ t → treeFollowed s (treeOf x y) (afterTree s e) ≡ last z f → Stood (TreeAt s) treeOf i z (λ a. Ended a f)
           go e x y t (Next k) q h = let u : next (treeOf x y) k ≡ last z f = ap (treeFollowed s (treeOf x y)) (sym q) ∙ h in clash (cc)

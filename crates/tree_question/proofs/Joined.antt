@@ -126,11 +126,11 @@ module _ (s : List ℕ) where
 
   -- ---- the head of a question
 
-  qs-past : {i a : ℕ} → Word s QS i a → pastQs s i ≡ At a
+  pub qs-past : {i a : ℕ} → Word s QS i a → pastQs s i ≡ At a
   unfolding pastQs
   qs-past (byte p t) = ap (thenByte 83 s) (byte-past (byte p end)) ∙ byte-past t
 
-  past-qs : (i a : ℕ) → pastQs s i ≡ At a → Word s QS i a
+  pub past-qs : (i a : ℕ) → pastQs s i ≡ At a → Word s QS i a
   unfolding pastQs
   past-qs i a e = go (pastByte 81 s i) refl e
     where
@@ -214,7 +214,7 @@ module _ (s : List ℕ) where
     pub item : QuestionAt s i ends said place
     pub follows : questionFollowed place (afterQuestion s ends) ≡ z
 
-  pub read-question : (i : ℕ) (z : Step QuestionPlace) → questionStepAt s i ≡ z → ((p : ℕ) → z ≡ broken p → ⊥) → Asked i z
+  pub read-question : (i : ℕ) (z : Step QuestionPlace) → questionStepAt s i ≡ z → (z ≡ broken i → ⊥) → Asked i z
   unfolding questionStepAt
   read-question i z h no-break = go (headAt s i) refl h
     where
@@ -235,8 +235,8 @@ module _ (s : List ℕ) where
                 item = question (d .qs) (m .before) (m .name) (m .behind) (d .opened) (d .blanks) (r .items) (c .blanks) (c .shut);
                 follows = ap₂ (λ l w. questionFollowed (record { name = record { start = b; len = l }; patterns = w }) (afterQuestion s e)) (m .long) k ∙ h;
               }
-          within (brokenAt e) q h = absurd (no-break i (sym h))
-      go NoQuestion p h = absurd (no-break i (sym h))
+          within (brokenAt e) q h = absurd (no-break (sym h))
+      go NoQuestion p h = absurd (no-break (sym h))
 
   -- what follows the last question: no other; blanks, up to where a tree is to stand
   pub record Over (a e : ℕ) : Type 0 where
@@ -251,7 +251,7 @@ module _ (s : List ℕ) where
           question-read t ∙ ap (λ c. questionFollowed y (itemParted s a c)) (parting-found s p) ∙ ap (λ c. questionFollowed y (cond c (item.Question b) (item.Tree (stop blank s a)))) (question-starts u)
 
       was-on : (i b : ℕ) (z : QuestionPlace) → questionStepAt s i ≡ next z b → Stood (QuestionAt s) laid i z (λ a. Parting s a b)
-      was-on i b z h = let r = read-question i (next z b) h (λ p q. clash (cc)) in go (r .ends) (r .said) (r .place) (r .item) (partingAt s (r .ends)) refl (r .follows)
+      was-on i b z h = let r = read-question i (next z b) h (λ q. clash (cc)) in go (r .ends) (r .said) (r .place) (r .item) (partingAt s (r .ends)) refl (r .follows)
         where
           go : (e : ℕ) (x : Question) (y : QuestionPlace) → QuestionAt s i e x y → (p : Place) → partingAt s e ≡ p → questionFollowed y (itemParted s e (partingAt s e)) ≡ next z b
               → Stood (QuestionAt s) laid i z (λ a. Parting s a b)
@@ -271,7 +271,7 @@ module _ (s : List ℕ) where
 
       was-done : (i e : ℕ) (z : QuestionPlace) → questionStepAt s i ≡ last z e → Stood (QuestionAt s) laid i z (λ a. Over a e)
       was-done i e z h =
-          let r = read-question i (last z e) h (λ p q. clash (cc)) in
+          let r = read-question i (last z e) h (λ q. clash (cc)) in
           let k = followed (r .place) z (afterQuestion s (r .ends)) e (r .follows) in
           record { ends = r .ends; said = r .said; laid = r .place; item = r .item; rest = record { after = k .0 }; is = sym (k .1) }
 

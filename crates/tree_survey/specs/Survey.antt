@@ -102,7 +102,3 @@ surveyOf t = surveyEnded t (t .ending)
 -- the survey of a whole text
 unfoldable pub surveyAt : List ℕ → ℕ → Survey
 surveyAt s i = surveyOf (textAt s i)
-
--- the place of 17, of where reading stopped: none, as 01 has it
-abbrev pub textPlace : ℕ → ℕ
-textPlace i = 0

@@ -68,7 +68,7 @@ module _ (s : List ℕ) where
   pub un-byte : {b i j : ℕ} {w : List ℕ} → Word s (b ∷ w) i j → (byteAt s i ≡ b) × Word s w (suc i) j
   un-byte (byte h t) = (h, t)
 
-  word? : (w : List ℕ) (i : ℕ) → Dec ((j : ℕ) × Word s w i j)
+  pub word? : (w : List ℕ) (i : ℕ) → Dec ((j : ℕ) × Word s w i j)
   word? [] i = yes (i, end)
   word? (b ∷ w) i = mapDec (λ r. (r .1 .0, byte (r .0) (r .1 .1))) (λ r. let u = un-byte (r .1) in (u .0, (r .0, u .1))) (both? (byte? i b) (word? w (suc i)))
 
@@ -84,7 +84,7 @@ module _ (s : List ℕ) where
       go true y r = (r .0, more y (r .1))
       go false y r = (i, stop y)
 
-  run : (p : ℕ → Bool) → p 256 ≡ false → (i : ℕ) → (j : ℕ) × Run s p i j
+  pub run : (p : ℕ → Bool) → p 256 ≡ false → (i : ℕ) → (j : ℕ) × Run s p i j
   run p e i = run! p e (length s) i (omega arith)
 
   un-some : {p : ℕ → Bool} {i j : ℕ} → Run₁ s p i j → (p (byteAt s i) ≡ true) × Run s p (suc i) j
@@ -210,7 +210,7 @@ module _ (s : List ℕ) where
       un : {i j : ℕ} → Comma s i j → (a : ℕ) × Byte s comma i a × ((j : ℕ) × Run s blank a j)
       un (parting w b) = (_, w, (_, b))
 
-  parting? : (i : ℕ) → Dec ((j : ℕ) × Parting s i j)
+  pub parting? : (i : ℕ) → Dec ((j : ℕ) × Parting s i j)
   unfolding blank spaceOrTab
   parting? i =
       mapDec (λ r. (r .2 .2 .0, parting (r .1) (r .2 .1) (r .2 .2 .1))) (λ r. un (r .1))
@@ -367,7 +367,7 @@ module _ (s : List ℕ) where
   unfolding QuestionParts Opened Patterns
   un-question (question q r n t o u ps v z) = (_, q, (_, r, (_, n, (_, t, (_, o, (_, u, (_, (_, _, ps), before v (word-first z))))))))
 
-  question? : (i : ℕ) → Dec ((j : ℕ) × ((x : Question) × (y : QuestionPlace) × QuestionAt s i j x y))
+  pub question? : (i : ℕ) → Dec ((j : ℕ) × ((x : Question) × (y : QuestionPlace) × QuestionAt s i j x y))
   unfolding QuestionParts Opened Patterns blank inName
   question? i =
       mapDec question-of (λ r. un-question (r .1 .2))
@@ -491,7 +491,7 @@ module _ (s : List ℕ) where
       (a : ℕ) × Word s star i a × ((b : ℕ) × Run s blank a b × ((c : ℕ) × Byte s bracket b c × ((d : ℕ) × ((x : ℤ) × Number s c d x)
       × ((e : ℕ) × Byte s unbracket d e × ((f : ℕ) × Run s blank e f × ((j : ℕ) × ((x : Body) × (y : List Span) × BodyAt s f j x y)))))))
 
-  tree? : (i : ℕ) → Dec ((j : ℕ) × ((x : Tree) × (y : TreePlace) × TreeAt s i j x y))
+  pub tree? : (i : ℕ) → Dec ((j : ℕ) × ((x : Tree) × (y : TreePlace) × TreeAt s i j x y))
   unfolding TreeParts blank
   tree? i =
       mapDec (λ r. to r) (λ r. un (r .1 .2))
@@ -519,7 +519,7 @@ module _ (s : List ℕ) where
 
   -- ---- a text
 
-  end? : (i : ℕ) → Dec (Run s blank i (length s))
+  pub end? : (i : ℕ) → Dec (Run s blank i (length s))
   unfolding blank
   end? i = let r = run s blank refl i in mapDec (λ e. subst (Run s blank i) e (r .1)) (λ q. run-once (r .1) q refl) (ℕ-discrete (r .0) (length s))
 

@@ -10,6 +10,7 @@ pub mod Faults
 pub mod Blocks
 pub mod Said
 pub mod TreeText
+pub mod Breaks
 pub mod Linking
 pub mod Tables
 pub mod Walks

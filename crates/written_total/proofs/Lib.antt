@@ -1,3 +1,5 @@
 pub mod Total
 pub mod Verdicts
 pub mod Eleven
+pub mod Broken
+pub mod BreaksAlways

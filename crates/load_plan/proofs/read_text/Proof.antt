@@ -25,20 +25,20 @@ enum-known-negative c = search needs
 returns : tie.Need-returns
 returns c = let q = (sym (c .before .before .before .before .before .before .questions .given .1) ∙ c .before .before .before .before .before .before .before .before .survey-questions .ensures) in text-state _ _ q (a-negative _ _ q (sym (c .before .before .negative .given .1) ∙ c .before .before .before .before .survey-trees .ensures) (c .if1 .taken))
 
-enum-told : tie.Need-enum-told
-enum-told c = search needs
+enum-known-at : tie.Need-enum-known-at
+enum-known-at c = search needs
 
-enum-told-2 : tie.Need-enum-told-2
-enum-told-2 c = search needs
+enum-known-at-2 : tie.Need-enum-known-at-2
+enum-known-at-2 c = search needs
 
 returns-2 : tie.Need-returns-2
 returns-2 c = let q = (sym (c .before .before .before .before .before .before .questions .given .1) ∙ c .before .before .before .before .before .before .before .before .survey-questions .ensures) in text-read _ _ q (counted _ _ q (sym (c .before .before .negative .given .1) ∙ c .before .before .before .before .survey-trees .ensures) (c .if1 .left))
 
 returns-3 : tie.Need-returns-3
-returns-3 c = let q = sym (c .before .before .before .before .questions .given .1) ∙ c .before .before .before .before .before .before .survey-questions .ensures in text-broken _ _ q (no-trees _ _ q (sym (c .enum-told .given .1) ∙ c .before .before .survey-trees .ensures))
+returns-3 c = let q = sym (c .before .before .before .before .before .questions .given .1) ∙ c .before .before .before .before .before .before .before .survey-questions .ensures in text-broken _ _ q (no-trees _ _ q (sym (c .before .at .given .1) ∙ c .before .before .before .survey-trees .ensures))
 
 returns-4 : tie.Need-returns-4
-returns-4 c = let q = sym (c .enum-told2 .given .1) ∙ c .before .before .survey-questions .ensures in text-none _ _ q (no-questions _ _ q)
+returns-4 c = let q = sym (c .before .at2 .given .1) ∙ c .before .before .before .survey-questions .ensures in text-none _ _ q (no-questions _ _ q)
 
 pub read-text-spec : {M : Type 1} → statement M
 read-text-spec =
@@ -49,8 +49,8 @@ read-text-spec =
     survey-trees-requires
     enum-known-negative
     returns
-    enum-told
-    enum-told-2
+    enum-known-at
+    enum-known-at-2
     returns-2
     returns-3
     returns-4)

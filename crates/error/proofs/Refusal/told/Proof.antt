@@ -95,56 +95,56 @@ enum-told-7 c = search needs
 says-requires-15 : tie.Need-says-requires-15
 says-requires-15 c κs = search needs
 
-enum-told-8 : tie.Need-enum-told-8
-enum-told-8 c = search needs
+enum-known-self-9 : tie.Need-enum-known-self-9
+enum-known-self-9 c = search needs
 
 says-requires-16 : tie.Need-says-requires-16
 says-requires-16 c κs = search needs
 
-enum-told-9 : tie.Need-enum-told-9
-enum-told-9 c = search needs
+enum-told-8 : tie.Need-enum-told-8
+enum-told-8 c = search needs
 
 says-requires-17 : tie.Need-says-requires-17
 says-requires-17 c κs = search needs
 
-enum-told-10 : tie.Need-enum-told-10
-enum-told-10 c = search needs
+enum-told-9 : tie.Need-enum-told-9
+enum-told-9 c = search needs
 
 says-requires-18 : tie.Need-says-requires-18
 says-requires-18 c κs = search needs
 
-enum-told-11 : tie.Need-enum-told-11
-enum-told-11 c = search needs
+enum-told-10 : tie.Need-enum-told-10
+enum-told-10 c = search needs
 
 says-requires-19 : tie.Need-says-requires-19
 says-requires-19 c κs = search needs
 
-enum-known-self-9 : tie.Need-enum-known-self-9
-enum-known-self-9 c = search needs
+enum-known-self-10 : tie.Need-enum-known-self-10
+enum-known-self-10 c = search needs
 
 says-requires-20 : tie.Need-says-requires-20
 says-requires-20 c κs = search needs
 
-enum-known-self-10 : tie.Need-enum-known-self-10
-enum-known-self-10 c = search needs
+enum-known-self-11 : tie.Need-enum-known-self-11
+enum-known-self-11 c = search needs
 
 says-requires-21 : tie.Need-says-requires-21
 says-requires-21 c κs = search needs
 
-enum-known-self-11 : tie.Need-enum-known-self-11
-enum-known-self-11 c = search needs
+enum-known-self-12 : tie.Need-enum-known-self-12
+enum-known-self-12 c = search needs
 
 says-requires-22 : tie.Need-says-requires-22
 says-requires-22 c κs = search needs
 
-enum-told-12 : tie.Need-enum-told-12
-enum-told-12 c = search needs
+enum-told-11 : tie.Need-enum-told-11
+enum-told-11 c = search needs
 
 says-requires-23 : tie.Need-says-requires-23
 says-requires-23 c κs = search needs
 
-enum-told-13 : tie.Need-enum-told-13
-enum-told-13 c = search needs
+enum-told-12 : tie.Need-enum-told-12
+enum-told-12 c = search needs
 
 says-requires-24 : tie.Need-says-requires-24
 says-requires-24 c κs = search needs
@@ -195,31 +195,31 @@ returns-15 : tie.Need-returns-15
 returns-15 c = c .says15 .ensures ∙ ap toldOf (sym (c .before .enum-told7 .given .1))
 
 returns-16 : tie.Need-returns-16
-returns-16 c = c .says16 .ensures ∙ ap toldOf (sym (c .before .enum-told8 .given .1))
+returns-16 c = c .says16 .ensures ∙ ap toldOf (sym (c .before .before .self9 .given .1))
 
 returns-17 : tie.Need-returns-17
-returns-17 c = c .says17 .ensures ∙ ap toldOf (sym (c .before .enum-told9 .given .1))
+returns-17 c = c .says17 .ensures ∙ ap toldOf (sym (c .before .enum-told8 .given .1))
 
 returns-18 : tie.Need-returns-18
-returns-18 c = c .says18 .ensures ∙ ap toldOf (sym (c .before .enum-told10 .given .1))
+returns-18 c = c .says18 .ensures ∙ ap toldOf (sym (c .before .enum-told9 .given .1))
 
 returns-19 : tie.Need-returns-19
-returns-19 c = c .says19 .ensures ∙ ap toldOf (sym (c .before .enum-told11 .given .1))
+returns-19 c = c .says19 .ensures ∙ ap toldOf (sym (c .before .enum-told10 .given .1))
 
 returns-20 : tie.Need-returns-20
-returns-20 c = c .says20 .ensures ∙ ap toldOf (sym (c .before .before .self9 .given .1))
+returns-20 c = c .says20 .ensures ∙ ap toldOf (sym (c .before .before .self10 .given .1))
 
 returns-21 : tie.Need-returns-21
-returns-21 c = c .says21 .ensures ∙ ap toldOf (sym (c .before .before .self10 .given .1))
+returns-21 c = c .says21 .ensures ∙ ap toldOf (sym (c .before .before .self11 .given .1))
 
 returns-22 : tie.Need-returns-22
-returns-22 c = c .says22 .ensures ∙ ap toldOf (sym (c .before .before .self11 .given .1))
+returns-22 c = c .says22 .ensures ∙ ap toldOf (sym (c .before .before .self12 .given .1))
 
 returns-23 : tie.Need-returns-23
-returns-23 c = c .says23 .ensures ∙ ap toldOf (sym (c .before .enum-told12 .given .1))
+returns-23 c = c .says23 .ensures ∙ ap toldOf (sym (c .before .enum-told11 .given .1))
 
 returns-24 : tie.Need-returns-24
-returns-24 c = c .says24 .ensures ∙ ap toldOf (sym (c .before .enum-told13 .given .1))
+returns-24 c = c .says24 .ensures ∙ ap toldOf (sym (c .before .enum-told12 .given .1))
 
 pub told-spec : {M : Type 1} → statement M
 told-spec =
@@ -255,23 +255,23 @@ told-spec =
     says-requires-14
     enum-told-7
     says-requires-15
-    enum-told-8
-    says-requires-16
-    enum-told-9
-    says-requires-17
-    enum-told-10
-    says-requires-18
-    enum-told-11
-    says-requires-19
     enum-known-self-9
-    says-requires-20
+    says-requires-16
+    enum-told-8
+    says-requires-17
+    enum-told-9
+    says-requires-18
+    enum-told-10
+    says-requires-19
     enum-known-self-10
-    says-requires-21
+    says-requires-20
     enum-known-self-11
+    says-requires-21
+    enum-known-self-12
     says-requires-22
-    enum-told-12
+    enum-told-11
     says-requires-23
-    enum-told-13
+    enum-told-12
     says-requires-24
     returns
     returns-2

@@ -1,0 +1,10 @@
+-- What holds of what things are equal to holds of the things.
+use mathlib.Core.Path.{_≡_, sym, subst}
+
+module _ {A B : Type 0} (P : A → B → Type 0) where
+  pub moved₂ : {a a′ : A} {b b′ : B} → a ≡ a′ → b ≡ b′ → P a′ b′ → P a b
+  moved₂ {a} {a′} {b} {b′} p q x = subst (λ (y : A). P y b) (sym p) (subst (P a′) (sym q) x)
+
+module _ {A B C : Type 0} (P : A → B → C → Type 0) where
+  pub moved₃ : {a a′ : A} {b b′ : B} {c c′ : C} → a ≡ a′ → b ≡ b′ → c ≡ c′ → P a′ b′ c′ → P a b c
+  moved₃ {a} {a′} {b} {b′} {c} {c′} p q r x = subst (λ (y : A). P y b c) (sym p) (moved₂ (P a′) q r x)
