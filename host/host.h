@@ -42,6 +42,7 @@ void stop(const char *sentence);
 /* Everything that a call of the library reads or writes is lent by these: LARSAVIM_GUARD in the environment puts guards beside it. */
 void *lend(uint64_t len); /* bytes */
 void give_back(const void *slice, uint64_t len);
+struct bytes lend_copy(struct bytes s); /* a copy of some bytes */
 
 /* The slice for answers of so many numbers: one for all calls, so that an answer stands there until the next call. */
 uint64_t *answer_slice(uint64_t numbers);
@@ -145,6 +146,9 @@ void walk_model(const struct model *m, uint64_t tree, struct bytes answers, uint
 /* The walks of a sentence, filled where they stand. */
 void walk_jobs_model(const struct model *m, struct bytes answers, struct larsavim_job *jobs, uint64_t count);
 
+/* The answer bytes of a loaded model's questions to a label, lent; the library's number. */
+uint64_t answer_model(const struct voice *v, const struct model *m, struct bytes label, struct bytes *answers);
+
 /* ---- tree text, read again for messages (treetext.c) -------------------------------------------------------------------------- */
 
 /* Only texts in the grammar are read: the library has said so before. Any other bytes give some answer, and harm nothing. */
@@ -223,5 +227,7 @@ int walk(char **words);             /* walk.c */
 int walks(const char *path);        /* walks.c */
 int sentence(char **words);         /* sentence.c */
 int demo(const char *path);         /* demo.c */
+int answers(char **words);          /* label.c */
+int say(char **words);              /* label.c */
 
 #endif

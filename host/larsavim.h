@@ -6,7 +6,8 @@
  *   1. each pointer is good for its length: that many bytes, 8-byte numbers or jobs can be read there (and written, where the parameter
  *      is not const), at an address that suits their type, and nobody else writes them until the call returns. A length of 0 asks
  *      nothing of its pointer, which may be null;
- *   2. nothing that is lent for writing (`words` of larsavim_open, the tables and the work of larsavim_load, the jobs, every `out`) overlaps
+ *   2. nothing that is lent for writing (`words` of larsavim_open, the tables and the work of larsavim_load, the answers of
+ *      larsavim_answers, the jobs, every `out`) overlaps
  *      another slice of the same call.
  *
  * Numbers are 64 bits wide; a slice is a pointer and, behind it, how many bytes, numbers or jobs it has. No call keeps a pointer.
@@ -47,7 +48,8 @@ extern "C" {
 #define LARSAVIM_NODEREF 21   /* a line refers to an id that no line bears; place: the tree; line: the line */
 #define LARSAVIM_QUESTREF 22  /* a line asks a question that isn't there; place and line as in 21 */
 #define LARSAVIM_LONENODE 23  /* a tree's one reference is a node; place and line as in 21 */
-#define LARSAVIM_WALKTABLE 24 /* no such tree or no record in it, a record met outside its tree, the tables or the kinds, or no answer for its question */
+#define LARSAVIM_WALKTABLE 24 /* no such tree or no record in it, a record met outside its tree, the tables or the kinds, or no answer for its question;
+                               * of larsavim_answers, a pattern outside its table or the data */
 #define LARSAVIM_STEPS 25     /* another question would pass the walk's limit */
 
 /* A place is a file offset, counted from 0, for 2 to 8 and 10; for 17 of a load an offset from the first data byte (LARSAVIM_DATA_START): the
@@ -193,6 +195,13 @@ uint64_t larsavim_load(const uint8_t *file, uint64_t file_len, const uint64_t *w
                        int64_t *work, uint64_t work_len, uint64_t *out, uint64_t out_len);
 
 /* ---- Loaded tables -------------------------------------------------------------------------------------------------------------- */
+
+/* The answers of all questions to one label: one byte a question row, 1 where any of its patterns matches the whole label, else 0; bytes beyond are
+ * unchanged. In a pattern `*` stands for any run of bytes, empty too, `?` for exactly one byte, everything else for itself. `data` is the file from DATA_START on,
+ * DATA_LEN bytes. Returns 0; 24 where a pattern of a row isn't in its table or its bytes aren't in the data; then 20 where `answers` has fewer bytes than there
+ * are question rows. Refused, nothing is written. */
+uint64_t larsavim_answers(const uint8_t *label, uint64_t label_len, const uint64_t *questions, uint64_t questions_len, const uint64_t *patterns,
+                          uint64_t patterns_len, const uint8_t *data, uint64_t data_len, uint8_t *answers, uint64_t answers_len);
 
 /* Walks one tree from its first record on, with one answer byte a question (0 is no, any other is yes) and a limit on the
  * questions asked. out: number (0, 20, 24, 25), PDF number, questions asked; both are 0 when refused. Only records met are judged:

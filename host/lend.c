@@ -66,6 +66,15 @@ void give_back(const void *slice, uint64_t len) {
         free(at.own);
 }
 
+struct bytes lend_copy(struct bytes s) {
+    struct bytes copy = {NULL, s.len};
+    uint8_t *own = lend(s.len);
+    if (s.len > 0)
+        memcpy(own, s.at, (size_t)s.len);
+    copy.at = own;
+    return copy;
+}
+
 uint64_t *answer_slice(uint64_t numbers) {
     static uint64_t *slice[LARSAVIM_NEEDS_OUT + 1]; /* the longest answer */
     if (slice[numbers] == NULL)

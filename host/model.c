@@ -90,3 +90,15 @@ void walk_model(const struct model *m, uint64_t tree, struct bytes answers, uint
 void walk_jobs_model(const struct model *m, struct bytes answers, struct larsavim_job *jobs, uint64_t count) {
     larsavim_walk_jobs(m->table[TREES], used(m, TREES), m->table[RECORDS], used(m, RECORDS), answers.at, answers.len, jobs, count);
 }
+
+/* Between guards the data is a copy: it ends with the file, but doesn't begin with it. */
+uint64_t answer_model(const struct voice *v, const struct model *m, struct bytes label, struct bytes *answers) {
+    struct bytes data = guarded() ? lend_copy(data_of(v)) : data_of(v);
+    uint8_t *given = lend(rows_of(m, QUESTIONS));
+    uint64_t number = larsavim_answers(label.at, label.len, m->table[QUESTIONS], used(m, QUESTIONS), m->table[PATTERNS], used(m, PATTERNS), data.at, data.len, given, rows_of(m, QUESTIONS));
+    if (guarded())
+        give_back(data.at, data.len);
+    answers->at = given;
+    answers->len = rows_of(m, QUESTIONS);
+    return number;
+}

@@ -28,6 +28,7 @@ __typeof__(larsavim_load) __real_larsavim_load, __wrap_larsavim_load;
 __typeof__(larsavim_walk) __real_larsavim_walk, __wrap_larsavim_walk;
 __typeof__(larsavim_walk_jobs) __real_larsavim_walk_jobs, __wrap_larsavim_walk_jobs;
 __typeof__(larsavim_leaves) __real_larsavim_leaves, __wrap_larsavim_leaves;
+__typeof__(larsavim_answers) __real_larsavim_answers, __wrap_larsavim_answers;
 
 uint64_t __wrap_larsavim_open(const uint8_t *file, uint64_t file_len, uint64_t *words, uint64_t words_len, uint64_t *out, uint64_t out_len) {
     uint64_t number = __real_larsavim_open(file, file_len, words, words_len, out, out_len);
@@ -112,4 +113,15 @@ uint64_t __wrap_larsavim_leaves(const uint64_t *questions, uint64_t questions_le
     touch("leaves.blocks", blocks, 8 * blocks_len);
     touch("leaves.values", values, 8 * values_len);
     return yes;
+}
+
+uint64_t __wrap_larsavim_answers(const uint8_t *label, uint64_t label_len, const uint64_t *questions, uint64_t questions_len, const uint64_t *patterns, uint64_t patterns_len,
+                                 const uint8_t *data, uint64_t data_len, uint8_t *answers, uint64_t answers_len) {
+    uint64_t number = __real_larsavim_answers(label, label_len, questions, questions_len, patterns, patterns_len, data, data_len, answers, answers_len);
+    touch("answers.label", label, label_len);
+    touch("answers.questions", questions, 8 * questions_len);
+    touch("answers.patterns", patterns, 8 * patterns_len);
+    touch("answers.data", data, data_len);
+    touch("answers.answers", answers, answers_len);
+    return number;
 }

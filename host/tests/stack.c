@@ -12,6 +12,8 @@
 #define STACK (1024 * 1024)
 #define PAINT 0xa5
 
+enum { CALLS = 6 };
+
 static uint8_t *stack;
 static ucontext_t here, there;
 static uint8_t *top; /* the frame from which the call is made */
@@ -33,6 +35,11 @@ static void call_load(void) {
 static void call_walk(void) { larsavim_walk(table[2], lent[2], table[3], lent[3], 0, answers, needs[3], lent[3], out, LARSAVIM_WALK_OUT); }
 static void call_leaves(void) {
     larsavim_leaves(table[0], lent[0], table[2], lent[2], table[3], lent[3], table[4], lent[4], table[5], lent[5], needs[10]);
+}
+
+static void call_answers(void) {
+    static const uint8_t label[] = "sh^i-ch+i=sil";
+    larsavim_answers(label, sizeof label - 1, table[0], lent[0], table[1], lent[1], file + words[LARSAVIM_DATA_START], words[LARSAVIM_DATA_LEN], answers, sizeof answers);
 }
 
 static void on_painted_stack(void) {
@@ -67,7 +74,7 @@ static void *room(uint64_t numbers) {
     return at;
 }
 
-static void measure_model(uint64_t most[5]) {
+static void measure_model(uint64_t most[CALLS]) {
     keep_most(&most[1], stack_of(call_needs));
     for (int t = 0; t < 6; t++) {
         lent[t] = needs[3 + t] * width[t];
@@ -78,13 +85,14 @@ static void measure_model(uint64_t most[5]) {
     if (out[0] == LARSAVIM_SUCCESS) {
         keep_most(&most[3], stack_of(call_walk));
         keep_most(&most[4], stack_of(call_leaves));
+        keep_most(&most[5], stack_of(call_answers));
     }
     for (int t = 0; t < 6; t++)
         free(table[t]);
     free(work);
 }
 
-static void measure_file(const char *path, uint64_t most[5]) {
+static void measure_file(const char *path, uint64_t most[CALLS]) {
     FILE *f = fopen(path, "rb");
     if (f == NULL)
         exit(2);
@@ -98,14 +106,14 @@ static void measure_file(const char *path, uint64_t most[5]) {
 }
 
 int main(int argc, char **argv) {
-    static const char *const name[5] = {"open", "needs", "load", "walk", "leaves"};
-    uint64_t most[5] = {0, 0, 0, 0, 0};
+    static const char *const name[CALLS] = {"open", "needs", "load", "walk", "leaves", "answers"};
+    uint64_t most[CALLS] = {0};
     stack = malloc(STACK);
     if (stack == NULL)
         return 2;
     for (int i = 1; i < argc; i++)
         measure_file(argv[i], most);
-    for (int i = 0; i < 5; i++)
+    for (int i = 0; i < CALLS; i++)
         printf("%-8s %llu\n", name[i], (unsigned long long)most[i]);
     return 0;
 }

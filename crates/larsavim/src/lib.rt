@@ -11,6 +11,7 @@ use face_open::comment_said;
 use face_open::get_said;
 use face_open::open_words;
 use face_open::pair_said;
+use label_answers::answers_said;
 use table_put::put2;
 use table_put::put4;
 use walk_leaves::leaves_fit;
@@ -21,6 +22,7 @@ ghost use lib.ListN.{length};
 ghost use lib.Seq.{sets};
 ghost use Rattle.head_words.specs.Words.{flagWord};
 ghost use Rattle.walk_leaves.specs.Checks.{leavesFit};
+ghost use Rattle.label_answers.specs.Answering.{Answering};
 ghost use Rattle.face_open.specs.Answers.{openSaid, openWords, commentSaid, getSaid, pairSaid};
 ghost use Rattle.face_model.specs.Answers.{neededOf, endedOf};
 ghost use Rattle.face_jobs.specs.Done.{jobsDone};
@@ -254,4 +256,18 @@ pub extern "C" fn larsavim_walk_jobs(
         jobs[i] = walk_job(trees, records, answers, job);
         i = i + 1;
     }
+}
+
+// The answers to all questions for one label: one byte a question row.
+#[no_mangle]
+pub extern "C" fn larsavim_answers(
+    label: &[u8],
+    questions: &[u64],
+    patterns: &[u64],
+    data: &[u8],
+    answers: &mut [u8],
+) -> u64
+    ensures { λ r. ⌜ Answering (now (label .entry)) (now (questions .entry)) (now (patterns .entry)) (now («data» .entry)) (now (answers .entry)) r (now (answers .exit)) ⌝ }
+{
+    answers_said(label, questions, patterns, data, answers)
 }

@@ -1,11 +1,11 @@
 -- A test at each number below n: the loop that tries them, and what the answer says.
 use mathlib.Core.Path.{_≡_, refl, sym, ap, ap₂, _∙_}
-use mathlib.Core.Bool.{Bool, true, false, _&&_}
+use mathlib.Core.Bool.{Bool, true, false, _&&_, _||_}
 use native.Mathlib.Decide.{ℕ-discrete}
 use Prim.Native.Nat.{ℕ, zero, suc, _+_, _-_, _≤_, _<_}
 use native.Mathlib.Numerals.{add-one}
 use native.Mathlib.Omega.{arith}
-use Rattle.laws.specs.Every.{all}
+use Rattle.laws.specs.Every.{all, some}
 
 -- ---- tests joined
 
@@ -80,3 +80,67 @@ module _ (p : ℕ → Bool) where
   unfolding all
   each-all k zero f = refl
   each-all k (suc n) f = both (f k (omega arith) (omega arith)) (each-all (suc k) n (λ i l h. f i (omega arith) (omega arith)))
+
+-- ---- the loop that looks for one
+
+module _ (p : ℕ → Bool) where
+  some-on : (k n : ℕ) → 0 < n → p k ≡ false → some p k n ≡ some p (k + 1) (n - 1)
+  unfolding some
+  some-on k zero h e = absurd (omega arith)
+  some-on k (suc n) h e = let q : suc n - 1 ≡ n = omega arith in ap (λ (b : Bool). b || some p (suc k) n) e ∙ ap₂ (some p) (sym (add-one k)) (sym q)
+
+  some-here : (k n : ℕ) → 0 < n → p k ≡ true → some p k n ≡ true
+  unfolding some
+  some-here k zero h e = absurd (omega arith)
+  some-here k (suc n) h e = ap (λ (b : Bool). b || some p (suc k) n) e
+
+  some-none : (k n : ℕ) → n ≡ 0 → some p k n ≡ false
+  unfolding some
+  some-none k zero h = refl
+  some-none k (suc n) h = absurd (omega arith)
+
+-- it is false below k
+pub record Seeking (p : ℕ → Bool) (n k : ℕ) : Type 0 where
+  pub within : k ≤ n
+  pub rest : some p k (n - k) ≡ some p 0 n
+
+module _ (p : ℕ → Bool) (n : ℕ) where
+  pub seeking-none : Seeking p n 0
+  seeking-none = let e : n - 0 ≡ n = omega arith in record { within = omega arith; rest = ap (some p 0) e }
+
+  module _ (k : ℕ) (s : Seeking p n k) where
+    pub seeking-on : k < n → p k ≡ false → Seeking p n (k + 1)
+    seeking-on h e =
+        let q : n - (k + 1) ≡ n - k - 1 = omega arith in record { within = omega arith; rest = ap (some p (k + 1)) q ∙ sym (some-on p k (n - k) (omega arith) e) ∙ s .rest }
+
+    pub seeking-here : k < n → p k ≡ true → true ≡ some p 0 n
+    seeking-here h e = sym (some-here p k (n - k) (omega arith) e) ∙ s .rest
+
+    pub seeking-end : n ≤ k → false ≡ some p 0 n
+    seeking-end h = sym (some-none p k (n - k) (omega arith)) ∙ s .rest
+
+-- ---- what it says
+
+module _ (p : ℕ → Bool) where
+  pub some-at : (k n : ℕ) → some p k n ≡ true → (i : ℕ) × (k ≤ i) × (i < k + n) × (p i ≡ true)
+  unfolding some
+  some-at k zero e = let u : _≡_ {A = ℕ} 0 1 = cc in absurd (omega arith)
+  some-at k (suc n) e = go (p k) refl e (some-at (suc k) n)
+    where
+      go : (b : Bool) → p k ≡ b → (b || some p (suc k) n) ≡ true → (some p (suc k) n ≡ true → (i : ℕ) × (suc k ≤ i) × (i < suc k + n) × (p i ≡ true))
+          → (i : ℕ) × (k ≤ i) × (i < k + suc n) × (p i ≡ true)
+      go true q e r = (k, omega arith, omega arith, q)
+      go false q e r = let f = r e in (f .0, omega (arith, f .1), omega (arith, f .2), f .3)
+
+  pub at-some : (k n i : ℕ) → k ≤ i → i < k + n → p i ≡ true → some p k n ≡ true
+  unfolding some
+  at-some k zero i l h e = absurd (omega arith)
+  at-some k (suc n) i l h e = go (ℕ-discrete k i) (λ m. at-some (suc k) n i m (omega arith) e)
+    where
+      either : (a b : Bool) → b ≡ true → (a || b) ≡ true
+      either true b e = refl
+      either false b e = e
+
+      go : Dec (k ≡ i) → (suc k ≤ i → some p (suc k) n ≡ true) → (p k || some p (suc k) n) ≡ true
+      go (yes q) r = ap (λ (b : Bool). b || some p (suc k) n) (ap p q ∙ e)
+      go (no d) r = either (p k) (some p (suc k) n) (r (omega (arith, d)))

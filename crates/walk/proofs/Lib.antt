@@ -1,4 +1,3 @@
-pub mod Pigeonhole
 pub mod Judged
 pub mod Round
 pub mod Following

@@ -15,3 +15,8 @@ pub mod Links
 pub mod Walk
 pub mod Model
 pub mod Examples
+-- Answers from a label: at most one (Answers). The depth of a tree: from its leaves up (Deepest, by Pigeonhole), one answer, and what it says of walks (Paths).
+pub mod Answers
+pub mod Pigeonhole
+pub mod Deepest
+pub mod Paths

@@ -14,3 +14,6 @@ pub mod Breaks
 pub mod Linking
 pub mod Tables
 pub mod Walks
+-- Document 02: answers from a label (Wish 1); how many questions a walk can ask (Wish 8).
+pub mod Matching
+pub mod Depths

@@ -1,0 +1,3 @@
+pub mod Matched
+pub mod Laws
+pub mod Examples
