@@ -16,8 +16,8 @@ use Rattle.face_open.proofs.Laws.{judged-fit}
 use Rattle.face_model.specs.Answers as face
 use Rattle.load_choose.specs.declared.Which.{Which}
 use Rattle.load_choose.specs.declared.Which.the-variants.{Duration, Stream, Gv}
-use Rattle.shown_models.specs.Models as models
-use Rattle.shown_models.specs.Models.{Model, modelNumber}
+use Rattle.written.specs.Models as models
+use Rattle.written.specs.Models.{Model, modelNumber}
 use Rattle.shown_models.proofs.Chosen.{whichOf}
 use Rattle.promises.specs.Opening.{recordWords}
 

@@ -19,9 +19,9 @@ use Rattle.load_plan.specs.Plans as plans
 use Rattle.load_plan.specs.Plans.{planned}
 use Rattle.load_plan.specs.declared.Planned.{Planned}
 use Rattle.load_plan.specs.declared.Planned.the-variants as planned
-use Rattle.shown_models.specs.Models as models
-use Rattle.shown_models.specs.Models.{dataOf, Within, Placed, Unplaced}
-use Rattle.shown_models.specs.Loading.{NoModel, Unread, Unloaded}
+use Rattle.written.specs.Models as models
+use Rattle.written.specs.Models.{dataOf, Within, Placed, Unplaced}
+use Rattle.written.specs.Loading.{NoModel, Unread, Unloaded}
 use Rattle.shown_models.proofs.Chosen.{whichOf, Placing, at, wide, nowhere, choice-placed}
 use Rattle.shown_load.specs.Refused as code
 use Rattle.shown_load.specs.Refused.{NotLoaded}

@@ -39,8 +39,8 @@ use Rattle.load_plan.specs.declared.Planned.the-variants.{Model, Refused}
 use Rattle.load_plan.proofs.Laws.{Was, was, needs-sound}
 use Rattle.load_model.proofs.Laws.{length-values}
 use Rattle.shown_words.proofs.Shaped.{record-shaped}
-use Rattle.shown_models.specs.Models as models
-use Rattle.shown_models.specs.Models.{dataOf, Within, Placed}
+use Rattle.written.specs.Models as models
+use Rattle.written.specs.Models.{dataOf, Within, Placed}
 use Rattle.shown_models.proofs.Chosen.{whichOf, Placing, at, wide, nowhere, choice-placed}
 use Rattle.shown_load.proofs.Refused.{within-is}
 use Rattle.shown_load.proofs.Texts as texts

@@ -33,8 +33,8 @@ use Rattle.load_choose.specs.declared.Which.{Which}
 use Rattle.load_choose.specs.declared.Which.the-variants.{Duration, Stream, Gv}
 use Rattle.load_choose.specs.declared.Chosen.{Chosen}
 use Rattle.load_choose.specs.declared.Chosen.the-variants as chosen
-use Rattle.shown_models.specs.Models as models
-use Rattle.shown_models.specs.Models.{Model, OfName, a-stream, a-gv, LastNamed, Unnamed, streamName, positionName, EntriesOf, Placed, of-duration, of-stream, of-gv, NoGv, Unplaced}
+use Rattle.written.specs.Models as models
+use Rattle.written.specs.Models.{Model, OfName, a-stream, a-gv, LastNamed, Unnamed, streamName, positionName, EntriesOf, Placed, of-duration, of-stream, of-gv, NoGv, Unplaced}
 
 -- ---- lists in arrays: what counts is the list
 

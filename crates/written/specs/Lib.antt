@@ -13,6 +13,8 @@ pub mod TreeText
 pub mod Breaks
 pub mod Linking
 pub mod Tables
+pub mod Models
+pub mod Loading
 pub mod Walks
 -- Document 02: answers from a label (Wish 1); how many questions a walk can ask (Wish 8).
 pub mod Matching

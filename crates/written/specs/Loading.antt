@@ -4,14 +4,14 @@ use mathlib.Core.Path.{_≡_}
 use mathlib.Core.List.{List}
 use Prim.Native.Nat.{ℕ, _+_, _≤_, _<_}
 use lib.ListN.{length, take, drop}
 use Rattle.written.specs.HeaderText.{Range}
 use Rattle.written.specs.Record.{Header}
 use Rattle.written.specs.Blocks as block
 use Rattle.written.specs.Said.{Text, Layout}
 use Rattle.written.specs.TreeText as tree
 use Rattle.written.specs.Breaks.{Breaks}
 use Rattle.written.specs.Tables.{ModelRefused, Negative}
-use Rattle.shown_models.specs.Models.{Model, dataOf, Within, Placed, Unplaced}
+use Rattle.written.specs.Models.{Model, dataOf, Within, Placed, Unplaced}
 
 -- what a model is: what its text says, its block's rows, its width, its values
 pub record ModelSaid : Type 0 where

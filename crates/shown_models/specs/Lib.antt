@@ -1,2 +1,0 @@
-pub mod Models
-pub mod Loading
