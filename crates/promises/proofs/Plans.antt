@@ -118,6 +118,9 @@ pub record PlanSaid (s : List ℕ) (h : record-of.Header) (m : models.Model) (p 
   pub records : p .records ≡ total saidTreeRecords (text .trees)
   pub lines : p .lines ≡ largest saidTreeLines 0 (text .trees)
   pub entries : p .entries * p .width ≡ length values
+  -- the same at the plan's own places
+  pub own-says : tree.Says (take (p .«text_end») (plans.dataOf s (headerRecord h))) (p .text) text layout
+  pub own-block : block.Block (widenOf 8 23 11 52) (p .trees) (p .width) (drop (p .block) (take (p .«block_end») (plans.dataOf s (headerRecord h)))) rows values
 
 pub record-arrays : (h : record-of.Header) → Arrays (headerRecord h)
 record-arrays h = let f = record-shaped h in record { streams = f .streams; positions = f .positions }
@@ -184,6 +187,8 @@ module _ {s : List ℕ} (bytes : Bytes s) {h : record-of.Header} (says : record-
               records = c .2;
               lines = c .4;
               entries = ap (λ (n : ℕ). n * p .width) (f .0) ∙ sym (length-values B (p .block + 4 * p .trees) (p .width) (total-of (wordsAt B (p .block) (p .trees))));
+              own-says = spoken .says;
+              own-block = f .1;
             }
 
         go : (c : Chosen) → Placing s h m c → Model p ≡ plannedFor D c → PlanSaid s h m p

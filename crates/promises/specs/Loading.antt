@@ -1,7 +1,7 @@
 -- What `larsavim_load` promises of words that an opening of the file wrote: what it returns, every lent slice and `out` after it, by what the file says; and what
 -- `larsavim_needs` tells before it.
 use mathlib.Core.List.{List, [], _∷_, flatten}
-use Prim.Native.Nat.{ℕ, _*_, _/_, _≤_, _<_}
+use Prim.Native.Nat.{ℕ, _/_, _≤_, _<_}
 use lib.IntN.{ℤ, pos}
 use lib.ListN.{length, getD, replicate}
 use lib.Seq.{sets}
@@ -15,6 +15,7 @@ use Rattle.laws.specs.Totals.{total, largest}
 use Rattle.tree_survey.specs.Said.{saidPatterns, saidTreeRecords, saidTreeLines}
 use Rattle.pdf_widen.specs.Widening.{widenOf}
 use Rattle.load_model.specs.Load.{Tables, lent}
+use Rattle.face_model.specs.Answers.{workFor}
 
 -- binary32 to binary64 (`pdf_widen` Keeps: value, sign, infinities and NaN are kept)
 abbrev pub widening : ℕ → ℕ
@@ -81,11 +82,12 @@ pub data AfterLoad (s : List ℕ) (h : Header) (m : Model) (t : Tables) (out : L
   short-out : length out < 8 → AfterLoad s h m t out 20 t out
   ended : {l : List ℕ} {u : Tables} → 8 ≤ length out → LoadEnds s h m t l u → AfterLoad s h m t out (getD l 0 0) u (sets out 0 l)
 
--- ---- larsavim_needs: number, place, line, rows of questions, patterns, trees, records, values, numbers of work, width
+-- ---- larsavim_needs: number, place, line, rows of questions, patterns, trees, records, values, numbers of work (six a line; where that is no number of 64 bits, the
+-- greatest), width
 
 abbrev pub needsNumbers : ModelSaid → List ℕ
 needsNumbers x =
-    0 ∷ 0 ∷ 0 ∷ length (x .text .questions) ∷ patternsOf x ∷ length (x .text .trees) ∷ recordsOf x ∷ length (x .values) ∷ 6 * linesOf x ∷ x .width ∷ []
+    0 ∷ 0 ∷ 0 ∷ length (x .text .questions) ∷ patternsOf x ∷ length (x .text .trees) ∷ recordsOf x ∷ length (x .values) ∷ workFor (linesOf x) ∷ x .width ∷ []
 
 pub data AfterNeeds (s : List ℕ) (h : Header) (m : Model) (out : List ℕ) : ℕ → List ℕ → Type 0 where
   short-out : length out < 10 → AfterNeeds s h m out 20 out
