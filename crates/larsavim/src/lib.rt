@@ -24,8 +24,8 @@ ghost use Rattle.walk_leaves.specs.Checks.{leavesFit};
 ghost use Rattle.face_open.specs.Answers.{openSaid, openWords, commentSaid, getSaid, pairSaid};
 ghost use Rattle.face_model.specs.Answers.{neededOf, endedOf};
 ghost use Rattle.face_jobs.specs.Done.{jobsDone};
-ghost use Rattle.face_load.specs.Answers.{filledOf};
-ghost use Rattle.larsavim.specs.Face.{answered, written, left, saidNumbers, partNumbers, pairNumbers, neededNumbers, rowsNumbers, endedNumbers};
+ghost use Rattle.load_model.specs.Load.{lent};
+ghost use Rattle.larsavim.specs.Face.{answered, written, left, saidNumbers, partNumbers, pairNumbers, neededNumbers, rowsNumbers, endedNumbers, Loads};
 
 // 20: a lent slice is too short.
 const ROOM: u64 = 20;
@@ -39,9 +39,9 @@ const GET_OUT: usize = 2;
 
 const PAIR_OUT: usize = 3;
 
-const NEEDS_OUT: usize = 11;
+const NEEDS_OUT: usize = 10;
 
-const LOAD_OUT: usize = 9;
+const LOAD_OUT: usize = 8;
 
 const WALK_OUT: usize = 3;
 
@@ -57,43 +57,42 @@ fn put3(out: &mut [u64], a: u64, b: u64, c: u64)
 
 // Why a load is refused, or its rows, to the front.
 fn put_rows(out: &mut [u64], rows: Rows)
-    requires { ⌜ 9 ≤ length (now out) ⌝ }
+    requires { ⌜ 8 ≤ length (now out) ⌝ }
     ensures { λ r. ⌜ now (out .exit) ≡ sets (now (out .entry)) 0 (rowsNumbers rows) ⌝ }
 {
-    put3(out, rows.number, rows.place, rows.line);
+    put4(out, 0, rows.number, rows.place, rows.line, rows.questions);
     put4(
         out,
-        3,
-        rows.questions,
+        4,
         rows.patterns,
         rows.trees,
         rows.records,
+        rows.values,
     );
-    put2(out, 7, rows.blocks, rows.values);
 }
 
 // What a model needs, to the front.
 fn put_needed(out: &mut [u64], needed: Needed)
-    requires { ⌜ 11 ≤ length (now out) ⌝ }
+    requires { ⌜ 10 ≤ length (now out) ⌝ }
     ensures { λ r. ⌜ now (out .exit) ≡ sets (now (out .entry)) 0 (neededNumbers needed) ⌝ }
 {
-    put3(out, needed.number, needed.place, needed.line);
     put4(
         out,
-        3,
+        0,
+        needed.number,
+        needed.place,
+        needed.line,
         needed.questions,
+    );
+    put4(
+        out,
+        4,
         needed.patterns,
         needed.trees,
         needed.records,
-    );
-    put4(
-        out,
-        7,
-        needed.blocks,
         needed.values,
-        needed.work,
-        needed.width,
     );
+    put2(out, 8, needed.work, needed.width);
 }
 
 // Opens a file, with the record into the words.
@@ -156,7 +155,7 @@ pub extern "C" fn larsavim_pair(words: &[u64], field: u64, out: &mut [u64]) -> u
 // What a model needs, without tables.
 #[no_mangle]
 pub extern "C" fn larsavim_needs(file: &[u8], words: &[u64], which: u64, out: &mut [u64]) -> u64
-    ensures { λ r. ⌜ (r ≡ answered (length (now (out .entry))) 11 (neededOf (now (file .entry)) (now (words .entry)) which .number)) × (now (out .exit) ≡ written (now (out .entry)) 11 (neededNumbers (neededOf (now (file .entry)) (now (words .entry)) which))) ⌝ }
+    ensures { λ r. ⌜ (r ≡ answered (length (now (out .entry))) 10 (neededOf (now (file .entry)) (now (words .entry)) which .number)) × (now (out .exit) ≡ written (now (out .entry)) 10 (neededNumbers (neededOf (now (file .entry)) (now (words .entry)) which))) ⌝ }
 {
     if out.len() < NEEDS_OUT {
         return ROOM;
@@ -176,12 +175,11 @@ pub extern "C" fn larsavim_load(
     patterns: &mut [u64],
     trees: &mut [u64],
     records: &mut [u64],
-    blocks: &mut [u64],
     values: &mut [u64],
     work: &mut [i64],
     out: &mut [u64],
 ) -> u64
-    ensures { λ r. ⌜ (r ≡ answered (length (now (out .entry))) 9 (filledOf (now (file .entry)) (now (words .entry)) which (now (questions .entry)) (now (patterns .entry)) (now (trees .entry)) (now (records .entry)) (now (blocks .entry)) (now (values .entry)) (now (work .entry)) .rows .number)) × (now (questions .exit) ≡ left (now (out .entry)) 9 (now (questions .entry)) (filledOf (now (file .entry)) (now (words .entry)) which (now (questions .entry)) (now (patterns .entry)) (now (trees .entry)) (now (records .entry)) (now (blocks .entry)) (now (values .entry)) (now (work .entry)) .questions)) × (now (patterns .exit) ≡ left (now (out .entry)) 9 (now (patterns .entry)) (filledOf (now (file .entry)) (now (words .entry)) which (now (questions .entry)) (now (patterns .entry)) (now (trees .entry)) (now (records .entry)) (now (blocks .entry)) (now (values .entry)) (now (work .entry)) .patterns)) × (now (trees .exit) ≡ left (now (out .entry)) 9 (now (trees .entry)) (filledOf (now (file .entry)) (now (words .entry)) which (now (questions .entry)) (now (patterns .entry)) (now (trees .entry)) (now (records .entry)) (now (blocks .entry)) (now (values .entry)) (now (work .entry)) .trees)) × (now (records .exit) ≡ left (now (out .entry)) 9 (now (records .entry)) (filledOf (now (file .entry)) (now (words .entry)) which (now (questions .entry)) (now (patterns .entry)) (now (trees .entry)) (now (records .entry)) (now (blocks .entry)) (now (values .entry)) (now (work .entry)) .records)) × (now (blocks .exit) ≡ left (now (out .entry)) 9 (now (blocks .entry)) (filledOf (now (file .entry)) (now (words .entry)) which (now (questions .entry)) (now (patterns .entry)) (now (trees .entry)) (now (records .entry)) (now (blocks .entry)) (now (values .entry)) (now (work .entry)) .blocks)) × (now (values .exit) ≡ left (now (out .entry)) 9 (now (values .entry)) (filledOf (now (file .entry)) (now (words .entry)) which (now (questions .entry)) (now (patterns .entry)) (now (trees .entry)) (now (records .entry)) (now (blocks .entry)) (now (values .entry)) (now (work .entry)) .values)) × (now (work .exit) ≡ left (now (out .entry)) 9 (now (work .entry)) (filledOf (now (file .entry)) (now (words .entry)) which (now (questions .entry)) (now (patterns .entry)) (now (trees .entry)) (now (records .entry)) (now (blocks .entry)) (now (values .entry)) (now (work .entry)) .work)) × (now (out .exit) ≡ written (now (out .entry)) 9 (rowsNumbers (filledOf (now (file .entry)) (now (words .entry)) which (now (questions .entry)) (now (patterns .entry)) (now (trees .entry)) (now (records .entry)) (now (blocks .entry)) (now (values .entry)) (now (work .entry)) .rows))) ⌝ }
+    ensures { λ r. ⌜ Loads (now (file .entry)) (now (words .entry)) which (lent (now (questions .entry)) (now (patterns .entry)) (now (trees .entry)) (now (records .entry)) (now (values .entry)) (now (work .entry))) (now (out .entry)) r (lent (now (questions .exit)) (now (patterns .exit)) (now (trees .exit)) (now (records .exit)) (now (values .exit)) (now (work .exit))) (now (out .exit)) ⌝ }
 {
     if out.len() < LOAD_OUT {
         return ROOM;
@@ -194,7 +192,6 @@ pub extern "C" fn larsavim_load(
         patterns,
         trees,
         records,
-        blocks,
         values,
         work,
     );
@@ -228,13 +225,12 @@ pub extern "C" fn larsavim_leaves(
     questions: &[u64],
     trees: &[u64],
     records: &[u64],
-    blocks: &[u64],
     values: &[u64],
     width: u64,
 ) -> u64
-    ensures { λ r. ⌜ r ≡ flagWord (leavesFit (now (questions .entry)) (now (trees .entry)) (now (records .entry)) (now (blocks .entry)) (now (values .entry)) width) ⌝ }
+    ensures { λ r. ⌜ r ≡ flagWord (leavesFit (now (questions .entry)) (now (trees .entry)) (now (records .entry)) (now (values .entry)) width) ⌝ }
 {
-    leaves_fit(questions, trees, records, blocks, values, width) as u64
+    leaves_fit(questions, trees, records, values, width) as u64
 }
 
 // Walks for each job of a lent slice, and writes how each ended where the job stands. The borrow checker covers no function over a slice of structs, so this loop is proved
