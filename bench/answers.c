@@ -15,7 +15,7 @@ static const char *const labels[] = {
     "ih^s-t+eh=r@3_3/A:1_1_3/B:0-0-3@2-1&4-8#2-5$1-4!1-1;1-2|eh/C:1+0+4/D:content_2/E:content+1@3+6&2+4#1+2/F:in_1/G:11_9/H:11=9@2=2|L-H%/I:0=0/J:17+14-2",
     "n^iy-pau+x=x@x_x/A:1_0_2/B:x-x-x@x-x&x-x#x-x$x-x!x-x;x-x|x/C:0+0+0/D:content_1/E:x+x@x+x&x+x#x+x/F:0_0/G:11_9/H:x=x@2=2|0/I:0=0/J:17+14-2",
 };
-enum { LABELS = sizeof labels / sizeof labels[0], MODELS = 2 * LARSAVIM_STREAM_LIMIT + 1, MOST_WORST = 4096 };
+enum { LABELS = sizeof labels / sizeof labels[0], TABLES = 5, MODELS = 2 * LARSAVIM_STREAM_LIMIT + 1, MOST_WORST = 4096 };
 
 struct model {
     uint64_t *questions, *patterns, question_count, pattern_count;
@@ -47,17 +47,17 @@ static void *room(uint64_t bytes) {
 }
 
 static void load(uint64_t which) {
-    uint64_t needs[LARSAVIM_NEEDS_OUT], out[LARSAVIM_LOAD_OUT], *table[6];
-    static const uint64_t width[6] = {LARSAVIM_QUESTION_ROW, LARSAVIM_PATTERN_ROW, LARSAVIM_TREE_ROW, LARSAVIM_RECORD_ROW, LARSAVIM_BLOCK_ROW, 1};
+    uint64_t needs[LARSAVIM_NEEDS_OUT], out[LARSAVIM_LOAD_OUT], *table[TABLES];
+    static const uint64_t width[TABLES] = {LARSAVIM_QUESTION_ROW, LARSAVIM_PATTERN_ROW, LARSAVIM_TREE_ROW, LARSAVIM_RECORD_ROW, 1};
     struct model *m = &model[models];
     int64_t *work;
     if (larsavim_needs(file, file_len, words, LARSAVIM_WORDS, which, needs, LARSAVIM_NEEDS_OUT) != LARSAVIM_SUCCESS)
         return;
-    for (int t = 0; t < 6; t++)
+    for (int t = 0; t < TABLES; t++)
         table[t] = room(8 * width[t] * needs[3 + t]);
-    work = room(8 * needs[9]);
+    work = room(8 * needs[3 + TABLES]);
     if (larsavim_load(file, file_len, words, LARSAVIM_WORDS, which, table[0], width[0] * needs[3], table[1], width[1] * needs[4], table[2], width[2] * needs[5], table[3], width[3] * needs[6],
-                      table[4], width[4] * needs[7], table[5], needs[8], work, needs[9], out, LARSAVIM_LOAD_OUT) != LARSAVIM_SUCCESS)
+                      table[4], needs[7], work, needs[3 + TABLES], out, LARSAVIM_LOAD_OUT) != LARSAVIM_SUCCESS)
         exit(2);
     m->questions = table[0];
     m->patterns = table[1];

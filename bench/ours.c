@@ -9,8 +9,8 @@
 
 #include "larsavim.h"
 
-enum { TABLES = 6, MODELS = 2 * LARSAVIM_STREAM_LIMIT + 1, SETS = 64 };
-static const uint64_t width[TABLES] = {LARSAVIM_QUESTION_ROW, LARSAVIM_PATTERN_ROW, LARSAVIM_TREE_ROW, LARSAVIM_RECORD_ROW, LARSAVIM_BLOCK_ROW, 1};
+enum { TABLES = 5, WORK = 3 + TABLES, MODELS = 2 * LARSAVIM_STREAM_LIMIT + 1, SETS = 64 };
+static const uint64_t width[TABLES] = {LARSAVIM_QUESTION_ROW, LARSAVIM_PATTERN_ROW, LARSAVIM_TREE_ROW, LARSAVIM_RECORD_ROW, 1};
 
 struct model {
     uint64_t which, needs[LARSAVIM_NEEDS_OUT], *table[TABLES], lent[TABLES];
@@ -53,8 +53,8 @@ static uint64_t needs_of(struct model *m) {
 
 static uint64_t load(struct model *m) {
     uint64_t out[LARSAVIM_LOAD_OUT], *const *t = m->table, *n = m->lent;
-    return larsavim_load(file, file_len, words, LARSAVIM_WORDS, m->which, t[0], n[0], t[1], n[1], t[2], n[2], t[3], n[3], t[4], n[4], t[5], n[5], work, work_len,
-                         out, LARSAVIM_LOAD_OUT);
+    return larsavim_load(file, file_len, words, LARSAVIM_WORDS, m->which, t[0], n[0], t[1], n[1], t[2], n[2], t[3], n[3], t[4], n[4], work, work_len, out,
+                         LARSAVIM_LOAD_OUT);
 }
 
 /* Tables for every model of the voice but a GV that it doesn't have. */
@@ -70,8 +70,8 @@ static void lend(void) {
             m->table[t] = room(m->lent[t] * 8);
             tables_len += m->lent[t] * 8;
         }
-        if (m->needs[9] > work_len)
-            work_len = m->needs[9];
+        if (m->needs[WORK] > work_len)
+            work_len = m->needs[WORK];
     }
     work = room(work_len * 8);
 }

@@ -185,7 +185,6 @@ static void put_tables(const struct voice *v, const struct model *m) {
         put_question(m, data, i);
     put_rows(m, 'T', TREES);
     put_rows(m, 'R', RECORDS);
-    put_rows(m, 'B', BLOCKS);
     put_values(m);
     printf("LEAVES %s\n", leaves_fit(m) ? "yes" : "no");
 }

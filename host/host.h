@@ -107,7 +107,7 @@ int is_unasked_gv(const struct voice *v, uint64_t which);
 
 /* ---- models (model.c) --------------------------------------------------------------------------------------------------------- */
 
-enum { QUESTIONS, PATTERNS, TREES, RECORDS, BLOCKS, VALUES, TABLES };
+enum { QUESTIONS, PATTERNS, TREES, RECORDS, VALUES, TABLES };
 
 /* Where the answers of larsavim_needs and larsavim_load have what. */
 enum { OUT_NUMBER, OUT_PLACE, OUT_LINE, OUT_ROWS, OUT_WORK = OUT_ROWS + TABLES, OUT_WIDTH };

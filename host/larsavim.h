@@ -74,8 +74,8 @@ extern "C" {
 #define LARSAVIM_COMMENT_OUT 4  /* number, slice, start, length */
 #define LARSAVIM_GET_OUT 2      /* number, value */
 #define LARSAVIM_PAIR_OUT 3     /* number, first, second */
-#define LARSAVIM_NEEDS_OUT 11   /* number, place, line, questions, patterns, trees, records, blocks, values, work, width */
-#define LARSAVIM_LOAD_OUT 9     /* number, place, line, questions, patterns, trees, records, blocks, values */
+#define LARSAVIM_NEEDS_OUT 10   /* number, place, line, questions, patterns, trees, records, values, work, width */
+#define LARSAVIM_LOAD_OUT 8     /* number, place, line, questions, patterns, trees, records, values */
 #define LARSAVIM_WALK_OUT 3     /* number, PDF number, questions asked */
 
 /* ---- Opening -------------------------------------------------------------------------------------------------------------------
@@ -165,25 +165,24 @@ uint64_t larsavim_pair(const uint64_t *words, uint64_t words_len, uint64_t field
 /* Tables are rows of so many numbers, row i from the (width * i)-th on. A table has length div width rows; a rest is never read.
  *   question  name start, name length, first pattern, patterns
  *   pattern   start, length
- *   tree      state, first record, records, lines
+ *   tree      state, first record, records, lines, first value, entries
  *   record    0, question, yes, no   (a line: yes and no count from the tree's first record)
  *             1, PDF number, 0, 0    (a leaf)
- *   block     first value, entries
  * String starts count from the first data byte. Values are binary64 bit patterns: each entry of a tree as mean, variance, mean,
- * variance, .., and msd where the width is odd. */
+ * variance, .., and msd where the width is odd. Entries count from 1: entry n of tree t has the width's number of values, from
+ * trees[LARSAVIM_TREE_ROW * t + 4] + (n - 1) * width on. */
 #define LARSAVIM_QUESTION_ROW 4
 #define LARSAVIM_PATTERN_ROW 2
-#define LARSAVIM_TREE_ROW 4
+#define LARSAVIM_TREE_ROW 6
 #define LARSAVIM_RECORD_ROW 4
-#define LARSAVIM_BLOCK_ROW 2
 #define LARSAVIM_WORK_A_LINE 6  /* numbers of work for each line of the longest tree */
 
-/* What a model needs, without tables. out: number (0, 12 to 19, 20), place, line, then rows of questions, patterns, trees, records
- * and blocks, values, numbers of work, and the width (values in an entry). Refused: all but the number are 0. */
+/* What a model needs, without tables. out: number (0, 12 to 19, 20), place, line, then rows of questions, patterns, trees and
+ * records, values, numbers of work, and the width (values in an entry). Refused: all but the number are 0. */
 uint64_t larsavim_needs(const uint8_t *file, uint64_t file_len, const uint64_t *words, uint64_t words_len, uint64_t which, uint64_t *out, uint64_t out_len);
 
-/* Loads a model into the lent tables. out: number (0, 12 to 23), place, line, then rows needed of questions, patterns, trees,
- * records and blocks, and values; these six are 0 when refused. Order: 20 for `out` and words, 16 for the record, 13, 14, 15, the
+/* Loads a model into the lent tables. out: number (0, 12 to 23), place, line, then rows needed of questions, patterns, trees and
+ * records, and values; these five are 0 when refused. Order: 20 for `out` and words, 16 for the record, 13, 14, 15, the
  * width's limit (12), tree 16, 17, 18, PDF 16, 19, room 20, then linking, 21 to 23.
  * Success: the rows stand at the front of each table, what is beyond them is unchanged, the work is zero over its whole length.
  * Refused up to 20: everything lent but `out` is unchanged. 21 to 23: every table and the work are zero over their whole length.
@@ -191,8 +190,7 @@ uint64_t larsavim_needs(const uint8_t *file, uint64_t file_len, const uint64_t *
 uint64_t larsavim_load(const uint8_t *file, uint64_t file_len, const uint64_t *words, uint64_t words_len, uint64_t which,
                        uint64_t *questions, uint64_t questions_len, uint64_t *patterns, uint64_t patterns_len,
                        uint64_t *trees, uint64_t trees_len, uint64_t *records, uint64_t records_len,
-                       uint64_t *blocks, uint64_t blocks_len, uint64_t *values, uint64_t values_len,
-                       int64_t *work, uint64_t work_len, uint64_t *out, uint64_t out_len);
+                       uint64_t *values, uint64_t values_len, int64_t *work, uint64_t work_len, uint64_t *out, uint64_t out_len);
 
 /* ---- Loaded tables -------------------------------------------------------------------------------------------------------------- */
 
@@ -224,12 +222,11 @@ struct larsavim_job {
 void larsavim_walk_jobs(const uint64_t *trees, uint64_t trees_len, const uint64_t *records, uint64_t records_len, const uint8_t *answers,
                         uint64_t answers_len, struct larsavim_job *jobs, uint64_t jobs_len);
 
-/* The leaf check: 1 where, for each tree, there is a block row, its records, their questions and its values at the width given stand
- * inside their tables, each yes and no inside its records, kinds are 0 or 1, and every leaf's number is one of its tree's entries,
- * from 1 to their count; otherwise 0. */
+/* The leaf check: 1 where, for each tree, its records, their questions and its values at the width given stand inside their tables,
+ * each yes and no inside its records, kinds are 0 or 1, and every leaf's number is one of its tree's entries, from 1 to their count;
+ * otherwise 0. */
 uint64_t larsavim_leaves(const uint64_t *questions, uint64_t questions_len, const uint64_t *trees, uint64_t trees_len,
-                         const uint64_t *records, uint64_t records_len, const uint64_t *blocks, uint64_t blocks_len,
-                         const uint64_t *values, uint64_t values_len, uint64_t width);
+                         const uint64_t *records, uint64_t records_len, const uint64_t *values, uint64_t values_len, uint64_t width);
 
 #ifdef __cplusplus
 }

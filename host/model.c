@@ -3,8 +3,8 @@
 
 #include "host.h"
 
-const uint64_t row_width[TABLES] = {LARSAVIM_QUESTION_ROW, LARSAVIM_PATTERN_ROW, LARSAVIM_TREE_ROW, LARSAVIM_RECORD_ROW, LARSAVIM_BLOCK_ROW, 1};
-const char *const table_name[TABLES] = {"questions", "patterns", "trees", "records", "blocks", "values"};
+const uint64_t row_width[TABLES] = {LARSAVIM_QUESTION_ROW, LARSAVIM_PATTERN_ROW, LARSAVIM_TREE_ROW, LARSAVIM_RECORD_ROW, 1};
+const char *const table_name[TABLES] = {"questions", "patterns", "trees", "records", "values"};
 
 /* Memory for `rows` rows of `width` numbers; every number as UNTOUCHED. */
 static void *lend_rows(uint64_t rows, uint64_t width, uint64_t *numbers) {
@@ -36,8 +36,7 @@ void load_model(const struct voice *v, uint64_t which, uint64_t spare, struct mo
         m->table[t] = lend_rows(m->needs[OUT_ROWS + t] + spare, row_width[t], &m->lent[t]);
     m->work = lend_rows(m->needs[OUT_WORK] + spare * LARSAVIM_WORK_A_LINE, 1, &m->work_lent);
     larsavim_load(v->file.at, v->file.len, v->words, LARSAVIM_WORDS, which, m->table[QUESTIONS], m->lent[QUESTIONS], m->table[PATTERNS], m->lent[PATTERNS],
-                  m->table[TREES], m->lent[TREES], m->table[RECORDS], m->lent[RECORDS], m->table[BLOCKS], m->lent[BLOCKS], m->table[VALUES], m->lent[VALUES],
-                  m->work, m->work_lent, loaded, LARSAVIM_LOAD_OUT);
+                  m->table[TREES], m->lent[TREES], m->table[RECORDS], m->lent[RECORDS], m->table[VALUES], m->lent[VALUES], m->work, m->work_lent, loaded, LARSAVIM_LOAD_OUT);
     memcpy(m->loaded, loaded, sizeof m->loaded);
     if (!agree(m))
         stop("larsavim_needs and larsavim_load contradict each other");
@@ -77,8 +76,8 @@ void cut_tables(struct model *m) {
 }
 
 int leaves_fit(const struct model *m) {
-    return larsavim_leaves(m->table[QUESTIONS], used(m, QUESTIONS), m->table[TREES], used(m, TREES), m->table[RECORDS], used(m, RECORDS), m->table[BLOCKS],
-                           used(m, BLOCKS), m->table[VALUES], used(m, VALUES), width_of(m)) == 1;
+    return larsavim_leaves(m->table[QUESTIONS], used(m, QUESTIONS), m->table[TREES], used(m, TREES), m->table[RECORDS], used(m, RECORDS), m->table[VALUES],
+                           used(m, VALUES), width_of(m)) == 1;
 }
 
 void walk_model(const struct model *m, uint64_t tree, struct bytes answers, uint64_t limit, uint64_t out[LARSAVIM_WALK_OUT]) {

@@ -96,22 +96,22 @@ def header_lines(b, n):
 
 # ---- models
 
-ROW_WIDTH = 4, 2, 4, 4, 2, 1
+ROW_WIDTH = 4, 2, 6, 4, 1
 
 
 def model_lines(data, which, n):
     """The lines of one model."""
-    outcome, rows = n.some(3), n.some(6)
+    outcome, rows = n.some(3), n.some(5)
     lines = ['MODEL %d' % which, 'LOAD ' + ' '.join(map(str, outcome + rows))]
     if outcome[0]:
         return lines + ['AFTER ' + ('zero' if outcome[0] > 20 else 'kept')]
     tables = [[n.some(width) for _ in range(count)] for width, count in zip(ROW_WIDTH, rows)]
     _work, width, fits = n.some(3)
-    questions, patterns, trees, records, blocks, values = tables
+    questions, patterns, trees, records, values = tables
     lines.append('AFTER filled')
     for i, (start, length, first, count) in enumerate(questions):
         lines.append('Q %d %s [%s]' % (i, quoted(data, start, length), ','.join(quoted(data, *p) for p in patterns[first:first + count])))
-    for letter, table in ('T', trees), ('R', records), ('B', blocks):
+    for letter, table in ('T', trees), ('R', records):
         lines += ['%s %d %s' % (letter, i, ' '.join(map(str, row))) for i, row in enumerate(table)]
     for i in range(len(values) // (width or 1)):
         lines.append('V %d %s' % (i, ' '.join('%016x' % v for v, in values[width * i:width * i + width])))
@@ -133,7 +133,7 @@ def needs(n):
     """Of each model: number, and where it is 0, work and width."""
     number, _ = n.some(2)
     for which in range(n.one() if number == 0 else 0):
-        outcome, rows = n.some(3), n.some(6)
+        outcome, rows = n.some(3), n.some(5)
         for width, count in zip(ROW_WIDTH, rows):
             n.some(width * count)
         yield [which, outcome[0]] + (n.some(3)[:2] if outcome[0] == 0 else [])

@@ -61,6 +61,23 @@ def as_oracle(lines):
     return out
 
 
+def one_row_a_tree(lines):
+    """The oracle's lines of a model, which has a row for a tree and one for its block, as one row a tree (02, Wish 10): first value and entries stand behind the tree's other
+    numbers, and block rows are not counted. A block without its tree stays a line, and a count of blocks that is not that of the trees stays too."""
+    rows = {l.split(' ')[1] for l in lines if l.startswith('T ')}
+    blocks = dict(l[2:].split(' ', 1) for l in lines if l.startswith('B '))
+    out = []
+    for l in lines:
+        letter, *words = l.split(' ')
+        if letter == 'T':
+            l += ' ' + blocks.get(words[0], 'no block')
+        elif letter == 'LOAD' and words[0].isdigit() and words[5] == words[7]:
+            l = ' '.join([letter] + words[:7] + words[8:])
+        if letter != 'B' or words[0] not in rows:
+            out.append(l)
+    return out
+
+
 def by_model(lines):
     """Opening, and then the lines of each model."""
     parts = [[]]
@@ -129,7 +146,7 @@ class Judge:
 
     def dump(self, line, m, o):
         whole = o.pop().split(' ')[1]
-        mine, other = by_model(as_oracle(m)), by_model(o)
+        mine, other = by_model(as_oracle(m)), [one_row_a_tree(part) for part in by_model(o)]
         number = m[0].split(' ')[1]
         if number in ('10', '12'):
             self.counts['outside the domain (%s)' % number] += 1

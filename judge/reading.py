@@ -441,7 +441,7 @@ def widen(b):
 
 
 def block(data, start, end, trees, width):
-    """Block rows and values."""
+    """Of each tree its first value and entries; and the values."""
     size = end - start
     if size < 4 * trees:
         raise Refused(19)
@@ -451,7 +451,7 @@ def block(data, start, end, trees, width):
         raise Refused(19)
     rows, first = [], 0
     for c in counts:
-        rows += first, c
+        rows.append((first, c))
         first += c * width
     numbers = struct.unpack_from('<%dI' % (entries * width), data, start + 4 * trees)
     half, values = width // 2, []
@@ -507,7 +507,7 @@ class Model:
         self.data = s = data[:end]
         self.text = qs, trees = tree_text(s, start)
         start, end = inside(pdf_range, len(data))
-        self.blocks, self.values = block(data, start, end, len(trees), self.width)
+        blocks, self.values = block(data, start, end, len(trees), self.width)
         self.questions, self.patterns, self.trees, self.records = [], [], [], []
         rows_by_name = {}
         for i, ((a, b), patterns) in enumerate(qs):
@@ -517,11 +517,11 @@ class Model:
             rows_by_name[s[a:b]] = i
         for t, tree in enumerate(trees):
             records = link(tree, t, rows_by_name, s)
-            self.trees += tree[1], len(self.records) // 4, len(records) // 4, 0 if single(tree) else len(tree[3])
+            self.trees += tree[1], len(self.records) // 4, len(records) // 4, 0 if single(tree) else len(tree[3]), *blocks[t]
             self.records += records
 
     def needed(self):
-        return [len(self.questions) // 4, len(self.patterns) // 2, len(self.trees) // 4, len(self.records) // 4, len(self.blocks) // 2, len(self.values)]
+        return [len(self.questions) // 4, len(self.patterns) // 2, len(self.trees) // 6, len(self.records) // 4, len(self.values)]
 
 
 def inside(r, length):
@@ -558,9 +558,9 @@ def group_named(file, groups, name, otherwise):
 
 def walk(trees, records, tree, answers, limit):
     """PDF number and questions asked."""
-    if tree >= len(trees) // 4:
+    if tree >= len(trees) // 6:
         raise Refused(24)
-    _, first, count, _ = trees[4 * tree:4 * tree + 4]
+    _, first, count, _, _, _ = trees[6 * tree:6 * tree + 6]
     k, asked = 0, 0
     seen = {}
     while True:
@@ -608,15 +608,12 @@ class WrittenTree:
             k = self.line[n]
 
 
-def leaves_fit(questions, trees, records, blocks, values, width):
+def leaves_fit(questions, trees, records, values, width):
     def within(first, count, rows):
         return count == 0 or first + count <= rows
-    for t in range(len(trees) // 4):
-        _, first, count, _ = trees[4 * t:4 * t + 4]
-        if t >= len(blocks) // 2 or not within(first, count, len(records) // 4):
-            return False
-        first_value, entries = blocks[2 * t:2 * t + 2]
-        if not within(first_value, entries * width, len(values)):
+    for t in range(len(trees) // 6):
+        _, first, count, _, first_value, entries = trees[6 * t:6 * t + 6]
+        if not within(first, count, len(records) // 4) or not within(first_value, entries * width, len(values)):
             return False
         for r in range(first, first + count):
             kind, number, yes, no = records[4 * r:4 * r + 4]
@@ -673,12 +670,12 @@ def model_lines(m):
     qs, _ = m.text
     for i, (name, patterns) in enumerate(qs):
         yield 'Q %d %s %s' % (i, quoted(m.data, name), quoted_list(m.data, patterns))
-    for letter, width, table in ('T', 4, m.trees), ('R', 4, m.records), ('B', 2, m.blocks):
+    for letter, width, table in ('T', 6, m.trees), ('R', 4, m.records):
         for i in range(len(table) // width):
             yield '%s %d %s' % (letter, i, ' '.join(map(str, table[width * i:width * i + width])))
     for i in range(len(m.values) // (m.width or 1)):
         yield 'V %d %s' % (i, ' '.join('%016x' % v for v in m.values[m.width * i:m.width * i + m.width]))
-    yield 'LEAVES ' + ('yes' if leaves_fit(m.questions, m.trees, m.records, m.blocks, m.values, m.width) else 'no')
+    yield 'LEAVES ' + ('yes' if leaves_fit(m.questions, m.trees, m.records, m.values, m.width) else 'no')
 
 
 def dump(file, models=True):
@@ -694,7 +691,7 @@ def dump(file, models=True):
         try:
             m = Model(file, h, which)
         except Refused as r:
-            yield 'LOAD %d %d %d 0 0 0 0 0 0' % (r.number, r.place, r.line)
+            yield 'LOAD %d %d %d 0 0 0 0 0' % (r.number, r.place, r.line)
             yield 'AFTER ' + ('zero' if r.number > 20 else 'kept')
             continue
         yield from model_lines(m)

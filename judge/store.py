@@ -83,11 +83,11 @@ def voice_numbers(b):
         try:
             m = reading.Model(b, h, k)
         except reading.Refused as r:
-            out += [r.number, r.place, r.line] + [0] * 6
+            out += [r.number, r.place, r.line] + [0] * 5
             continue
-        fits = reading.leaves_fit(m.questions, m.trees, m.records, m.blocks, m.values, m.width)
+        fits = reading.leaves_fit(m.questions, m.trees, m.records, m.values, m.width)
         longest = max(len(t[3]) for t in m.text[1])
-        out += [0, 0, 0] + m.needed() + m.questions + m.patterns + m.trees + m.records + m.blocks + m.values + [6 * longest, m.width, int(fits)]
+        out += [0, 0, 0] + m.needed() + m.questions + m.patterns + m.trees + m.records + m.values + [6 * longest, m.width, int(fits)]
     return out
 
 
@@ -175,7 +175,7 @@ def walk_inputs():
                 continue
             if len(m.records) <= 4 and r.random() < .9:
                 continue
-            trees, questions, walks = len(m.trees) // 4, len(m.questions) // 4, []
+            trees, questions, walks = len(m.trees) // 6, len(m.questions) // 4, []
             for tree in list(range(trees)) * 6 + [trees]:
                 count = questions + r.choice((0, 0, 0, 0, 0, 1, -1))
                 answers = bytes(r.choice((0, 0, 1, 1, 255)) for _ in range(max(0, count)))

@@ -889,6 +889,11 @@ def Linkings(qs, ts):
         yield 0, rows, records
 
 
+def folded(trees, blocks):
+    """A tree's row: what its text says, and what its block says."""
+    return [tuple(r) + tuple(b) for r, b in zip(trees, blocks)]
+
+
 # ---- Walks: the written walk, and the loaded one
 
 def Written(qs, body, answer, m):
@@ -947,7 +952,7 @@ def LoadedTree(answers, trees, records, t, m):
     if not t < len(trees):
         yield (24,)
     else:
-        _, first, count, _ = trees[t]
+        _, first, count, _, _, _ = trees[t]
         yield from Loaded(answers, records[first:first + count], 0, m)
 
 
@@ -1056,13 +1061,13 @@ class Held:
         names = [s[x:y] for (x, y), _ in texts[0][0]]
         ts = [(star, x, (kind, tuple((i, s[p:q], no, yes) for i, (p, q), no, yes in body) if kind else body)) for star, x, (kind, body) in texts[0][1]]
         flat = lambda rows: [v for row in rows for v in row]
-        linkings = [(a[0], flat(a[1]), flat(a[2])) if a[0] == 0 else a for a in Linkings(names, ts)]
+        rows, values = blocks[0]
+        linkings = [(a[0], flat(folded(a[1], rows)), flat(a[2])) if a[0] == 0 else a for a in Linkings(names, ts)]
         self.one('models: linking', b, linkings, (0, m.trees, m.records) if m else stopped)
         self.one('models: broken', b, [any(broken(names, t[2]) for t in ts)], m is None)
         if m is None:
             return
-        rows, values = blocks[0]
-        self.one('models: rows and values', b, [(flat(rows), all(kept(v, w) for v, w in zip(values, m.values)), len(values))], (m.blocks, True, len(m.values)))
+        self.one('models: values', b, [(all(kept(v, w) for v, w in zip(values, m.values)), len(values))], (True, len(m.values)))
         source = random.Random(n)
         for t, (_, _, body) in enumerate(ts):
             records = list(Records(names, body))[0]
@@ -1085,7 +1090,7 @@ class Held:
         for n in range(first, last):
             r = random.Random('tables %d' % n)
             number = lambda: r.choice((0, 0, 1, 1, 2, 3, 4, 5, 2 ** 32, 2 ** 64 - 1)) if r.random() < .2 else r.randrange(4)
-            trees = [[number() for _ in range(4)] for _ in range(r.randrange(3))]
+            trees = [[number() for _ in range(6)] for _ in range(r.randrange(3))]
             if trees and r.random() < .8:
                 trees[0][1], trees[0][2] = r.randrange(2), r.choice((3, 5, 6, 8, 2 ** 64 - 1))
             records = [[r.choice((0, 0, 0, 1, 1, 2 if r.random() < .2 else 0)), number(), number(), number()] for _ in range(r.randrange(9))]
@@ -1093,7 +1098,7 @@ class Held:
             flat = lambda rows: [v for row in rows for v in row]
             t = r.choice((0, 0, 0, 1, 2))
             try:
-                want = reading.walk(flat(trees) + [7] * r.randrange(4), flat(records) + [7] * r.randrange(4), t, answers, limit)
+                want = reading.walk(flat(trees) + [7] * r.randrange(6), flat(records) + [7] * r.randrange(4), t, answers, limit)
             except reading.Refused as refused:
                 want = (refused.number,)
             self.one('walks over any tables', (trees, records, t, answers, limit), list(LoadedTree(answers, trees, records, t, limit)), want)

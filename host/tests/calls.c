@@ -7,14 +7,17 @@
 
 #include "larsavim.h"
 
-enum { ROOM = 4096, TABLES = 6, STREAM_MCP = 1 };
+enum { ROOM = 4096, QUESTIONS = 0, PATTERNS, TREES, RECORDS, VALUES, TABLES, STREAM_MCP = 1 };
+
+/* Where the answer of larsavim_needs has the rows, the work and the width. */
+enum { ROWS = 3, WORK = ROWS + TABLES, WIDTH };
 
 #define PAINT UINT64_C(0x5a5a5a5a5a5a5a5a)
 
 static uint8_t file[65536];
 static uint64_t file_len, good[LARSAVIM_WORDS], words[LARSAVIM_WORDS + 8], out[16], table[TABLES][ROOM], needs[LARSAVIM_NEEDS_OUT];
 static int64_t work[ROOM];
-static const uint64_t width[TABLES] = {LARSAVIM_QUESTION_ROW, LARSAVIM_PATTERN_ROW, LARSAVIM_TREE_ROW, LARSAVIM_RECORD_ROW, LARSAVIM_BLOCK_ROW, 1};
+static const uint64_t width[TABLES] = {LARSAVIM_QUESTION_ROW, LARSAVIM_PATTERN_ROW, LARSAVIM_TREE_ROW, LARSAVIM_RECORD_ROW, 1};
 static unsigned passed, failed;
 
 static void expect(int holds, const char *name) {
@@ -67,10 +70,18 @@ static int refused(uint64_t got, uint64_t number, uint64_t n) {
     return got == number && out[0] == number && all_zero(out, 1, n) && painted(out, n, 16);
 }
 
+/* A load into tables of so many numbers each. */
+static uint64_t load_into(const uint64_t *w, uint64_t w_len, const uint64_t len[TABLES], uint64_t work_len, uint64_t out_len) {
+    return larsavim_load(file, file_len, w, w_len, STREAM_MCP, table[QUESTIONS], len[QUESTIONS], table[PATTERNS], len[PATTERNS], table[TREES], len[TREES], table[RECORDS],
+                         len[RECORDS], table[VALUES], len[VALUES], work, work_len, out, out_len);
+}
+
 /* A load into tables of so many rows each. */
 static uint64_t load(const uint64_t *w, uint64_t w_len, const uint64_t rows[TABLES], uint64_t work_len, uint64_t out_len) {
-    return larsavim_load(file, file_len, w, w_len, STREAM_MCP, table[0], rows[0] * width[0], table[1], rows[1] * width[1], table[2], rows[2] * width[2], table[3],
-                         rows[3] * width[3], table[4], rows[4] * width[4], table[5], rows[5], work, work_len, out, out_len);
+    uint64_t len[TABLES];
+    for (int t = 0; t < TABLES; t++)
+        len[t] = rows[t] * width[t];
+    return load_into(w, w_len, len, work_len, out_len);
 }
 
 /* ---- answers too short: 20 before all else, and nothing written -------------------------------------------------------------------- */
@@ -84,7 +95,7 @@ static void short_answers(void) {
     expect(larsavim_get(good, LARSAVIM_WORDS, LARSAVIM_NUM_STATES, out, LARSAVIM_GET_OUT - 1) == LARSAVIM_ROOM, "get, short out");
     expect(larsavim_pair(good, LARSAVIM_WORDS, LARSAVIM_DURATION_PDF, out, LARSAVIM_PAIR_OUT - 1) == LARSAVIM_ROOM, "pair, short out");
     expect(larsavim_needs(file, file_len, good, LARSAVIM_WORDS, STREAM_MCP, out, LARSAVIM_NEEDS_OUT - 1) == LARSAVIM_ROOM, "needs, short out");
-    expect(load(good, LARSAVIM_WORDS, needs + 3, needs[9], LARSAVIM_LOAD_OUT - 1) == LARSAVIM_ROOM, "load, short out");
+    expect(load(good, LARSAVIM_WORDS, needs + ROWS, needs[WORK], LARSAVIM_LOAD_OUT - 1) == LARSAVIM_ROOM, "load, short out");
     expect(larsavim_walk(NULL, 0, NULL, 0, 0, NULL, 0, 0, out, LARSAVIM_WALK_OUT - 1) == LARSAVIM_ROOM, "walk, short out");
     expect(larsavim_open(file, file_len, words, LARSAVIM_WORDS, NULL, 0) == LARSAVIM_ROOM, "open, no out at all");
     expect(painted(out, 0, 16) && painted(words, 0, LARSAVIM_WORDS + 8) && lent_is_painted(), "a short out: something was written");
@@ -117,7 +128,7 @@ static void words_refused(const uint64_t *w, uint64_t w_len, uint64_t number, co
     paint_all();
     expect(refused(larsavim_needs(file, file_len, w, w_len, STREAM_MCP, out, 16), number, LARSAVIM_NEEDS_OUT), name);
     paint_all();
-    expect(refused(load(w, w_len, needs + 3, needs[9], 16), number, LARSAVIM_LOAD_OUT) && lent_is_painted(), name);
+    expect(refused(load(w, w_len, needs + ROWS, needs[WORK], 16), number, LARSAVIM_LOAD_OUT) && lent_is_painted(), name);
 }
 
 /* A load by words with one changed; comment, get and pair don't judge what it says. */
@@ -127,7 +138,7 @@ static void load_refused(uint64_t field, uint64_t value, uint64_t number, const 
     paint_all();
     expect(refused(larsavim_needs(file, file_len, words, LARSAVIM_WORDS, STREAM_MCP, out, 16), number, LARSAVIM_NEEDS_OUT), name);
     paint_all();
-    expect(refused(load(words, LARSAVIM_WORDS, needs + 3, needs[9], 16), number, LARSAVIM_LOAD_OUT) && lent_is_painted(), name);
+    expect(refused(load(words, LARSAVIM_WORDS, needs + ROWS, needs[WORK], 16), number, LARSAVIM_LOAD_OUT) && lent_is_painted(), name);
 }
 
 static void foreign_words(void) {
@@ -178,36 +189,77 @@ static void fields(void) {
 static void short_tables(void) {
     uint64_t rows[TABLES];
     for (int t = 0; t < TABLES; t++) {
-        memcpy(rows, needs + 3, sizeof rows);
+        memcpy(rows, needs + ROWS, sizeof rows);
         rows[t]--;
         paint_all();
-        expect(refused(load(good, LARSAVIM_WORDS, rows, needs[9], 16), LARSAVIM_ROOM, LARSAVIM_LOAD_OUT) && lent_is_painted(), "a table a row short");
+        expect(refused(load(good, LARSAVIM_WORDS, rows, needs[WORK], 16), LARSAVIM_ROOM, LARSAVIM_LOAD_OUT) && lent_is_painted(), "a table a row short");
     }
     paint_all();
-    expect(refused(load(good, LARSAVIM_WORDS, needs + 3, needs[9] - 1, 16), LARSAVIM_ROOM, LARSAVIM_LOAD_OUT) && lent_is_painted(), "work a number short");
+    expect(refused(load(good, LARSAVIM_WORDS, needs + ROWS, needs[WORK] - 1, 16), LARSAVIM_ROOM, LARSAVIM_LOAD_OUT) && lent_is_painted(), "work a number short");
     paint_all();
-    expect(load(good, LARSAVIM_WORDS, needs + 3, needs[9], 16) == LARSAVIM_SUCCESS && memcmp(out, needs, LARSAVIM_LOAD_OUT * 8) == 0 && painted(out, LARSAVIM_LOAD_OUT, 16),
+    expect(load(good, LARSAVIM_WORDS, needs + ROWS, needs[WORK], 16) == LARSAVIM_SUCCESS && memcmp(out, needs, LARSAVIM_LOAD_OUT * 8) == 0 && painted(out, LARSAVIM_LOAD_OUT, 16),
            "tables of just the rows needed");
+}
+
+/* A tree table of so many numbers; the others as needed. */
+static uint64_t load_trees(uint64_t numbers) {
+    uint64_t len[TABLES];
+    for (int t = 0; t < TABLES; t++)
+        len[t] = needs[ROWS + t] * width[t];
+    len[TREES] = numbers;
+    paint_all();
+    return load_into(good, LARSAVIM_WORDS, len, needs[WORK], 16);
+}
+
+/* A tree's row has six numbers: four of them are room for no tree, and what is left over is not written. */
+static void tree_rows(void) {
+    uint64_t trees = needs[ROWS + TREES];
+    expect(refused(load_trees(4 * trees), LARSAVIM_ROOM, LARSAVIM_LOAD_OUT) && lent_is_painted(), "four numbers a tree");
+    expect(refused(load_trees(6 * trees - 1), LARSAVIM_ROOM, LARSAVIM_LOAD_OUT) && lent_is_painted(), "all numbers of the trees but one");
+    expect(load_trees(6 * trees + 5) == LARSAVIM_SUCCESS && out[ROWS + TREES] == trees && painted(table[TREES], 6 * trees, ROOM), "five numbers left over");
+    for (uint64_t t = 0, value = 0; t < trees; t++) {
+        expect(table[TREES][6 * t + 4] == value, "a tree's first value stands behind those of the trees before it");
+        value += table[TREES][6 * t + 5] * needs[WIDTH];
+    }
 }
 
 /* Over the tables of the load before. */
 static void walks(void) {
     static const uint8_t answers[] = {0, 0, 1, 0, 0, 1, 1};
-    uint64_t trees = needs[5] * LARSAVIM_TREE_ROW, records = needs[6] * LARSAVIM_RECORD_ROW;
+    const uint64_t *trees = table[TREES], *records = table[RECORDS];
+    uint64_t trees_len = needs[ROWS + TREES] * LARSAVIM_TREE_ROW, records_len = needs[ROWS + RECORDS] * LARSAVIM_RECORD_ROW;
     paint(out, 16);
-    expect(larsavim_walk(table[2], trees, table[3], records, 0, answers, 7, 3, out, 16) == 0 && out[0] == 0 && out[1] == 5 && out[2] == 3 && painted(out, 3, 16), "walk");
+    expect(larsavim_walk(trees, trees_len, records, records_len, 0, answers, 7, 3, out, 16) == 0 && out[0] == 0 && out[1] == 5 && out[2] == 3 && painted(out, 3, 16), "walk");
     paint(out, 16);
-    expect(refused(larsavim_walk(table[2], trees, table[3], records, 0, answers, 7, 2, out, 16), LARSAVIM_STEPS, LARSAVIM_WALK_OUT), "walk, limit");
+    expect(refused(larsavim_walk(trees, trees_len, records, records_len, 0, answers, 7, 2, out, 16), LARSAVIM_STEPS, LARSAVIM_WALK_OUT), "walk, limit");
     paint(out, 16);
-    expect(refused(larsavim_walk(table[2], trees, table[3], records, needs[5], answers, 7, 9, out, 16), LARSAVIM_WALKTABLE, LARSAVIM_WALK_OUT), "walk, no such tree");
+    expect(refused(larsavim_walk(trees, trees_len, records, records_len, needs[ROWS + TREES], answers, 7, 9, out, 16), LARSAVIM_WALKTABLE, LARSAVIM_WALK_OUT), "walk, no such tree");
     paint(out, 16);
-    expect(refused(larsavim_walk(table[2], trees, NULL, 0, 0, answers, 7, 9, out, 16), LARSAVIM_WALKTABLE, LARSAVIM_WALK_OUT), "walk, no records");
+    expect(refused(larsavim_walk(trees, trees_len - 1, records, records_len, needs[ROWS + TREES] - 1, answers, 7, 9, out, 16), LARSAVIM_WALKTABLE, LARSAVIM_WALK_OUT),
+           "walk, a tree without its last number");
     paint(out, 16);
-    expect(refused(larsavim_walk(table[2], trees, table[3], records, UINT64_MAX, NULL, 0, 9, out, 16), LARSAVIM_WALKTABLE, LARSAVIM_WALK_OUT), "walk, tree 2^64 - 1");
-    expect(larsavim_leaves(NULL, 0, NULL, 0, NULL, 0, NULL, 0, NULL, 0, 0) == 1, "leaf check of nothing");
-    expect(larsavim_leaves(table[0], needs[3] * 4, table[2], trees, table[3], records, table[4], needs[7] * 2, table[5], needs[8], needs[10]) == 1, "leaf check");
-    expect(larsavim_leaves(table[0], needs[3] * 4, table[2], trees, table[3], records, table[4], needs[7] * 2, table[5], needs[8], UINT64_MAX) == 0, "leaf check, width 2^64 - 1");
-    expect(larsavim_leaves(table[0], 0, table[2], trees, table[3], records, table[4], needs[7] * 2, table[5], needs[8], needs[10]) == 0, "leaf check, no questions");
+    expect(refused(larsavim_walk(trees, trees_len, NULL, 0, 0, answers, 7, 9, out, 16), LARSAVIM_WALKTABLE, LARSAVIM_WALK_OUT), "walk, no records");
+    paint(out, 16);
+    expect(refused(larsavim_walk(trees, trees_len, records, records_len, UINT64_MAX, NULL, 0, 9, out, 16), LARSAVIM_WALKTABLE, LARSAVIM_WALK_OUT), "walk, tree 2^64 - 1");
+}
+
+/* The leaf check of these tables, with so many questions and values at this width. */
+static uint64_t leaves(uint64_t questions, uint64_t values, uint64_t of_width) {
+    return larsavim_leaves(table[QUESTIONS], questions * LARSAVIM_QUESTION_ROW, table[TREES], needs[ROWS + TREES] * LARSAVIM_TREE_ROW, table[RECORDS],
+                           needs[ROWS + RECORDS] * LARSAVIM_RECORD_ROW, table[VALUES], values, of_width);
+}
+
+static void leaf_checks(void) {
+    static const uint64_t tree[LARSAVIM_TREE_ROW] = {2, 0, 0, 0, 5, 2}, none[LARSAVIM_TREE_ROW] = {2, 0, 0, 0, UINT64_MAX, 0};
+    uint64_t questions = needs[ROWS + QUESTIONS], values = needs[ROWS + VALUES];
+    expect(larsavim_leaves(NULL, 0, NULL, 0, NULL, 0, NULL, 0, 0) == 1, "leaf check of nothing");
+    expect(leaves(questions, values, needs[WIDTH]) == 1, "leaf check");
+    expect(leaves(questions, values, UINT64_MAX) == 0, "leaf check, width 2^64 - 1");
+    expect(leaves(0, values, needs[WIDTH]) == 0, "leaf check, no questions");
+    expect(leaves(questions, values - 1, needs[WIDTH]) == 0, "leaf check, a value short");
+    expect(larsavim_leaves(NULL, 0, tree, LARSAVIM_TREE_ROW, NULL, 0, table[VALUES], 11, 3) == 1, "leaf check, two entries of three values from the fifth on");
+    expect(larsavim_leaves(NULL, 0, tree, LARSAVIM_TREE_ROW, NULL, 0, table[VALUES], 10, 3) == 0, "leaf check, one value less");
+    expect(larsavim_leaves(NULL, 0, none, LARSAVIM_TREE_ROW, NULL, 0, NULL, 0, 3) == 1, "leaf check, no entries");
 }
 
 int main(int argc, char **argv) {
@@ -223,7 +275,9 @@ int main(int argc, char **argv) {
     foreign_words();
     fields();
     short_tables();
+    tree_rows();
     walks();
+    leaf_checks();
     printf("calls: %u passed, %u failed\n", passed, failed);
     return failed == 0 ? 0 : 1;
 }

@@ -68,17 +68,16 @@ uint64_t __wrap_larsavim_needs(const uint8_t *file, uint64_t file_len, const uin
 }
 
 uint64_t __wrap_larsavim_load(const uint8_t *file, uint64_t file_len, const uint64_t *words, uint64_t words_len, uint64_t which, uint64_t *questions, uint64_t questions_len,
-                              uint64_t *patterns, uint64_t patterns_len, uint64_t *trees, uint64_t trees_len, uint64_t *records, uint64_t records_len, uint64_t *blocks,
-                              uint64_t blocks_len, uint64_t *values, uint64_t values_len, int64_t *work, uint64_t work_len, uint64_t *out, uint64_t out_len) {
+                              uint64_t *patterns, uint64_t patterns_len, uint64_t *trees, uint64_t trees_len, uint64_t *records, uint64_t records_len,
+                              uint64_t *values, uint64_t values_len, int64_t *work, uint64_t work_len, uint64_t *out, uint64_t out_len) {
     uint64_t number = __real_larsavim_load(file, file_len, words, words_len, which, questions, questions_len, patterns, patterns_len, trees, trees_len, records, records_len,
-                                           blocks, blocks_len, values, values_len, work, work_len, out, out_len);
+                                           values, values_len, work, work_len, out, out_len);
     touch("load.file", file, file_len);
     touch("load.words", words, 8 * words_len);
     touch("load.questions", questions, 8 * questions_len);
     touch("load.patterns", patterns, 8 * patterns_len);
     touch("load.trees", trees, 8 * trees_len);
     touch("load.records", records, 8 * records_len);
-    touch("load.blocks", blocks, 8 * blocks_len);
     touch("load.values", values, 8 * values_len);
     touch("load.work", work, 8 * work_len);
     touch("load.out", out, 8 * out_len);
@@ -105,12 +104,11 @@ void __wrap_larsavim_walk_jobs(const uint64_t *trees, uint64_t trees_len, const 
 }
 
 uint64_t __wrap_larsavim_leaves(const uint64_t *questions, uint64_t questions_len, const uint64_t *trees, uint64_t trees_len, const uint64_t *records, uint64_t records_len,
-                                const uint64_t *blocks, uint64_t blocks_len, const uint64_t *values, uint64_t values_len, uint64_t width) {
-    uint64_t yes = __real_larsavim_leaves(questions, questions_len, trees, trees_len, records, records_len, blocks, blocks_len, values, values_len, width);
+                                const uint64_t *values, uint64_t values_len, uint64_t width) {
+    uint64_t yes = __real_larsavim_leaves(questions, questions_len, trees, trees_len, records, records_len, values, values_len, width);
     touch("leaves.questions", questions, 8 * questions_len);
     touch("leaves.trees", trees, 8 * trees_len);
     touch("leaves.records", records, 8 * records_len);
-    touch("leaves.blocks", blocks, 8 * blocks_len);
     touch("leaves.values", values, 8 * values_len);
     return yes;
 }

@@ -13,6 +13,8 @@
 #define PAINT 0xa5
 
 enum { CALLS = 6 };
+/* The tables, and where the answer of larsavim_needs has their rows, the work and the width. */
+enum { TABLES = 5, ROWS = 3, WORK = ROWS + TABLES, WIDTH };
 
 static uint8_t *stack;
 static ucontext_t here, there;
@@ -21,20 +23,20 @@ static uint8_t *top; /* the frame from which the call is made */
 /* The call and what it works on: static, so that only the library's own use is measured. */
 static void (*measured)(void);
 static uint8_t file[LARSAVIM_FILE_LIMIT];
-static uint64_t file_len, words[LARSAVIM_WORDS], which, out[LARSAVIM_NEEDS_OUT], needs[LARSAVIM_NEEDS_OUT], *table[6], lent[6];
+static uint64_t file_len, words[LARSAVIM_WORDS], which, out[LARSAVIM_NEEDS_OUT], needs[LARSAVIM_NEEDS_OUT], *table[TABLES], lent[TABLES];
 static int64_t *work;
-static const uint64_t width[6] = {LARSAVIM_QUESTION_ROW, LARSAVIM_PATTERN_ROW, LARSAVIM_TREE_ROW, LARSAVIM_RECORD_ROW, LARSAVIM_BLOCK_ROW, 1};
+static const uint64_t width[TABLES] = {LARSAVIM_QUESTION_ROW, LARSAVIM_PATTERN_ROW, LARSAVIM_TREE_ROW, LARSAVIM_RECORD_ROW, 1};
 static uint8_t answers[LARSAVIM_FILE_LIMIT];
 
 static void call_open(void) { larsavim_open(file, file_len, words, LARSAVIM_WORDS, out, LARSAVIM_OPEN_OUT); }
 static void call_needs(void) { larsavim_needs(file, file_len, words, LARSAVIM_WORDS, which, needs, LARSAVIM_NEEDS_OUT); }
 static void call_load(void) {
     larsavim_load(file, file_len, words, LARSAVIM_WORDS, which, table[0], lent[0], table[1], lent[1], table[2], lent[2], table[3], lent[3], table[4], lent[4],
-                  table[5], lent[5], work, needs[9], out, LARSAVIM_LOAD_OUT);
+                  work, needs[WORK], out, LARSAVIM_LOAD_OUT);
 }
 static void call_walk(void) { larsavim_walk(table[2], lent[2], table[3], lent[3], 0, answers, needs[3], lent[3], out, LARSAVIM_WALK_OUT); }
 static void call_leaves(void) {
-    larsavim_leaves(table[0], lent[0], table[2], lent[2], table[3], lent[3], table[4], lent[4], table[5], lent[5], needs[10]);
+    larsavim_leaves(table[0], lent[0], table[2], lent[2], table[3], lent[3], table[4], lent[4], needs[WIDTH]);
 }
 
 static void call_answers(void) {
@@ -76,18 +78,18 @@ static void *room(uint64_t numbers) {
 
 static void measure_model(uint64_t most[CALLS]) {
     keep_most(&most[1], stack_of(call_needs));
-    for (int t = 0; t < 6; t++) {
-        lent[t] = needs[3 + t] * width[t];
+    for (int t = 0; t < TABLES; t++) {
+        lent[t] = needs[ROWS + t] * width[t];
         table[t] = room(lent[t]);
     }
-    work = room(needs[9]);
+    work = room(needs[WORK]);
     keep_most(&most[2], stack_of(call_load));
     if (out[0] == LARSAVIM_SUCCESS) {
         keep_most(&most[3], stack_of(call_walk));
         keep_most(&most[4], stack_of(call_leaves));
         keep_most(&most[5], stack_of(call_answers));
     }
-    for (int t = 0; t < 6; t++)
+    for (int t = 0; t < TABLES; t++)
         free(table[t]);
     free(work);
 }

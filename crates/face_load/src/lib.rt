@@ -5,8 +5,9 @@ use face_open::judged;
 use load_model::Loaded;
 use load_model::load;
 ghost use mathlib.Core.Path.{_≡_};
+ghost use Rattle.load_model.specs.Load.{lent};
 ghost use Rattle.face_model.specs.Answers.{noRows, rowsBy};
-ghost use Rattle.face_load.specs.Answers.{filledOf};
+ghost use Rattle.face_load.specs.Answers.{LoadSaid};
 
 fn no_rows(number: u64, place: u64, line: u64) -> Rows
     ensures { λ r. ⌜ r ≡ noRows number place line ⌝ }
@@ -19,7 +20,6 @@ fn no_rows(number: u64, place: u64, line: u64) -> Rows
         patterns: 0,
         trees: 0,
         records: 0,
-        blocks: 0,
         values: 0,
     }
 }
@@ -34,7 +34,6 @@ fn rows_of(loaded: Loaded) -> Rows
             patterns,
             trees,
             records,
-            blocks,
             values,
         } => Rows {
             number: 0,
@@ -44,7 +43,6 @@ fn rows_of(loaded: Loaded) -> Rows
             patterns: patterns as u64,
             trees: trees as u64,
             records: records as u64,
-            blocks: blocks as u64,
             values,
         },
         Loaded::Refused(refusal) => no_rows(
@@ -64,11 +62,10 @@ pub fn load_said(
     patterns: &mut [u64],
     trees: &mut [u64],
     records: &mut [u64],
-    blocks: &mut [u64],
     values: &mut [u64],
     work: &mut [i64],
 ) -> Rows
-    ensures { λ r. ⌜ (r ≡ filledOf (now (file .entry)) (now (words .entry)) which (now (questions .entry)) (now (patterns .entry)) (now (trees .entry)) (now (records .entry)) (now (blocks .entry)) (now (values .entry)) (now (work .entry)) .rows) × (now (questions .exit) ≡ filledOf (now (file .entry)) (now (words .entry)) which (now (questions .entry)) (now (patterns .entry)) (now (trees .entry)) (now (records .entry)) (now (blocks .entry)) (now (values .entry)) (now (work .entry)) .questions) × (now (patterns .exit) ≡ filledOf (now (file .entry)) (now (words .entry)) which (now (questions .entry)) (now (patterns .entry)) (now (trees .entry)) (now (records .entry)) (now (blocks .entry)) (now (values .entry)) (now (work .entry)) .patterns) × (now (trees .exit) ≡ filledOf (now (file .entry)) (now (words .entry)) which (now (questions .entry)) (now (patterns .entry)) (now (trees .entry)) (now (records .entry)) (now (blocks .entry)) (now (values .entry)) (now (work .entry)) .trees) × (now (records .exit) ≡ filledOf (now (file .entry)) (now (words .entry)) which (now (questions .entry)) (now (patterns .entry)) (now (trees .entry)) (now (records .entry)) (now (blocks .entry)) (now (values .entry)) (now (work .entry)) .records) × (now (blocks .exit) ≡ filledOf (now (file .entry)) (now (words .entry)) which (now (questions .entry)) (now (patterns .entry)) (now (trees .entry)) (now (records .entry)) (now (blocks .entry)) (now (values .entry)) (now (work .entry)) .blocks) × (now (values .exit) ≡ filledOf (now (file .entry)) (now (words .entry)) which (now (questions .entry)) (now (patterns .entry)) (now (trees .entry)) (now (records .entry)) (now (blocks .entry)) (now (values .entry)) (now (work .entry)) .values) × (now (work .exit) ≡ filledOf (now (file .entry)) (now (words .entry)) which (now (questions .entry)) (now (patterns .entry)) (now (trees .entry)) (now (records .entry)) (now (blocks .entry)) (now (values .entry)) (now (work .entry)) .work) ⌝ }
+    ensures { λ r. ⌜ LoadSaid (now (file .entry)) (now (words .entry)) which (lent (now (questions .entry)) (now (patterns .entry)) (now (trees .entry)) (now (records .entry)) (now (values .entry)) (now (work .entry))) r (lent (now (questions .exit)) (now (patterns .exit)) (now (trees .exit)) (now (records .exit)) (now (values .exit)) (now (work .exit))) ⌝ }
 {
     let number = judged(words);
     if number == 0 {
@@ -80,7 +77,6 @@ pub fn load_said(
             patterns,
             trees,
             records,
-            blocks,
             values,
             work,
         );

@@ -13,7 +13,6 @@ use Rattle.load_plan.specs.Plans.{planned}
 use Rattle.load_plan.specs.declared.Plan.{Plan}
 use Rattle.load_plan.specs.declared.Planned.{Planned}
 use Rattle.load_plan.specs.declared.Planned.the-variants as planned
-use Rattle.load_model.specs.Load.{After, loadOf}
 use Rattle.load_model.specs.declared.Loaded.{Loaded}
 use Rattle.load_model.specs.declared.Loaded.the-variants as loaded
 use Rattle.walk.specs.Walking.{walkOf}
@@ -35,7 +34,7 @@ workFor l = cond (ltb 3074457345618258602 l) 18446744073709551615 (6 * l)
 
 abbrev pub notNeeded : ℕ → ℕ → ℕ → Needed
 notNeeded n p l =
-    record { number = n; place = p; line = l; questions = 0; patterns = 0; trees = 0; records = 0; blocks = 0; values = 0; work = 0; width = 0 }
+    record { number = n; place = p; line = l; questions = 0; patterns = 0; trees = 0; records = 0; values = 0; work = 0; width = 0 }
 
 abbrev pub neededFor : Plan → Needed
 neededFor p =
@@ -47,7 +46,6 @@ neededFor p =
       patterns = p .patterns;
       trees = p .trees;
       records = p .records;
-      blocks = p .trees;
       values = p .entries * p .width;
       work = workFor (p .lines);
       width = p .width;
@@ -67,10 +65,10 @@ neededOf s w n = neededIn s w n (judgedOf w)
 -- ---- a load
 
 abbrev pub noRows : ℕ → ℕ → ℕ → Rows
-noRows n p l = record { number = n; place = p; line = l; questions = 0; patterns = 0; trees = 0; records = 0; blocks = 0; values = 0 }
+noRows n p l = record { number = n; place = p; line = l; questions = 0; patterns = 0; trees = 0; records = 0; values = 0 }
 
 abbrev pub rowsBy : Loaded → Rows
-rowsBy (loaded.Done q p t r b v) = record { number = 0; place = 0; line = 0; questions = q; patterns = p; trees = t; records = r; blocks = b; values = v }
+rowsBy (loaded.Done q p t r v) = record { number = 0; place = 0; line = 0; questions = q; patterns = p; trees = t; records = r; values = v }
 rowsBy (loaded.Refused r) = noRows (numberOf r) (placeOf r) (lineOf r)
 
 -- ---- a walk

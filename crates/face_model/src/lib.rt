@@ -21,7 +21,6 @@ pub struct Needed {
     pub patterns: u64,
     pub trees: u64,
     pub records: u64,
-    pub blocks: u64,
     pub values: u64,
     pub work: u64,
     pub width: u64,
@@ -37,7 +36,6 @@ pub struct Rows {
     pub patterns: u64,
     pub trees: u64,
     pub records: u64,
-    pub blocks: u64,
     pub values: u64,
 }
 
@@ -83,7 +81,6 @@ fn not_needed(number: u64, place: u64, line: u64) -> Needed
         patterns: 0,
         trees: 0,
         records: 0,
-        blocks: 0,
         values: 0,
         work: 0,
         width: 0,
@@ -102,7 +99,6 @@ fn needed_for(p: Plan) -> Needed
         patterns: p.patterns as u64,
         trees: p.trees as u64,
         records: p.records as u64,
-        blocks: p.trees as u64,
         values: p.entries * p.width,
         work: work_for(p.lines),
         width: p.width,

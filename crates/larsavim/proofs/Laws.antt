@@ -29,12 +29,12 @@ module _ (out : List ℕ) (n : ℕ) where
   unfolding written
   out-full o l h e = e ∙ sym (ap (λ (b : Bool). cond b out (sets out 0 l)) (le-ltb (length out) n h))
 
-  module _ {A : Type 0} (t u : List A) where
+  module _ {A : Type 0} (t u : A) where
     pub left-short : length out < n → t ≡ left out n t u
     unfolding left
     left-short h = sym (ap (λ (b : Bool). cond b t u) (lt-ltb (length out) n h))
 
-    pub left-full : (v : List A) → n ≤ length out → v ≡ u → v ≡ left out n t u
+    pub left-full : (v : A) → n ≤ length out → v ≡ u → v ≡ left out n t u
     unfolding left
     left-full v h e = e ∙ sym (ap (λ (b : Bool). cond b t u) (le-ltb (length out) n h))
 
@@ -49,15 +49,11 @@ module _ (out : List ℕ) (n : ℕ) where
 
 -- ---- answers written part by part
 
-pub rows-written : (x : Rows) (t t₁ t₂ t₃ : List ℕ) → t₁ ≡ sets t 0 (x .number ∷ x .place ∷ x .line ∷ []) → t₂ ≡ sets t₁ 3 (x .questions ∷ x .patterns ∷ x .trees ∷ x .records ∷ [])
-    → t₃ ≡ sets t₂ 7 (x .blocks ∷ x .values ∷ []) → t₃ ≡ sets t 0 (rowsNumbers x)
-rows-written x t t₁ t₂ t₃ e₁ e₂ e₃ =
-    e₃
-    ∙ ap (λ (u : List ℕ). sets u 7 (x .blocks ∷ x .values ∷ [])) (e₂ ∙ ap (λ (u : List ℕ). sets u 3 (x .questions ∷ x .patterns ∷ x .trees ∷ x .records ∷ [])) e₁)
+pub rows-written : (x : Rows) (t t₁ t₂ : List ℕ) → t₁ ≡ sets t 0 (x .number ∷ x .place ∷ x .line ∷ x .questions ∷ []) → t₂ ≡ sets t₁ 4 (x .patterns ∷ x .trees ∷ x .records ∷ x .values ∷ [])
+    → t₂ ≡ sets t 0 (rowsNumbers x)
+rows-written x t t₁ t₂ e₁ e₂ = e₂ ∙ ap (λ (u : List ℕ). sets u 4 (x .patterns ∷ x .trees ∷ x .records ∷ x .values ∷ [])) e₁
 
-pub needed-written : (x : Needed) (t t₁ t₂ t₃ : List ℕ) → t₁ ≡ sets t 0 (x .number ∷ x .place ∷ x .line ∷ []) → t₂ ≡ sets t₁ 3 (x .questions ∷ x .patterns ∷ x .trees ∷ x .records ∷ [])
-    → t₃ ≡ sets t₂ 7 (x .blocks ∷ x .values ∷ x .work ∷ x .width ∷ []) → t₃ ≡ sets t 0 (neededNumbers x)
+pub needed-written : (x : Needed) (t t₁ t₂ t₃ : List ℕ) → t₁ ≡ sets t 0 (x .number ∷ x .place ∷ x .line ∷ x .questions ∷ []) → t₂ ≡ sets t₁ 4 (x .patterns ∷ x .trees ∷ x .records ∷ x .values ∷ [])
+    → t₃ ≡ sets t₂ 8 (x .work ∷ x .width ∷ []) → t₃ ≡ sets t 0 (neededNumbers x)
 needed-written x t t₁ t₂ t₃ e₁ e₂ e₃ =
-    e₃
-    ∙ ap (λ (u : List ℕ). sets u 7 (x .blocks ∷ x .values ∷ x .work ∷ x .width ∷ []))
-    (e₂ ∙ ap (λ (u : List ℕ). sets u 3 (x .questions ∷ x .patterns ∷ x .trees ∷ x .records ∷ [])) e₁)
+    e₃ ∙ ap (λ (u : List ℕ). sets u 8 (x .work ∷ x .width ∷ [])) (e₂ ∙ ap (λ (u : List ℕ). sets u 4 (x .patterns ∷ x .trees ∷ x .records ∷ x .values ∷ [])) e₁)

@@ -20,14 +20,10 @@ ghost use mathlib.Core.List.{[], _∷_};
 ghost use Prim.Native.Nat.{_≤_};
 ghost use lib.ListN.{length};
 ghost use lib.Seq.{sets};
-ghost use Rattle.head_words.specs.Words.{flagWord};
-ghost use Rattle.walk_leaves.specs.Checks.{leavesFit};
 ghost use Rattle.label_answers.specs.Answering.{Answering};
-ghost use Rattle.face_open.specs.Answers.{openSaid, openWords, commentSaid, getSaid, pairSaid};
-ghost use Rattle.face_model.specs.Answers.{neededOf, endedOf};
 ghost use Rattle.face_jobs.specs.Done.{jobsDone};
-ghost use Rattle.face_load.specs.Answers.{filledOf};
-ghost use Rattle.larsavim.specs.Face.{answered, written, left, saidNumbers, partNumbers, pairNumbers, neededNumbers, rowsNumbers, endedNumbers};
+ghost use Rattle.load_model.specs.Load.{lent};
+ghost use Rattle.larsavim.specs.Face.{rowsNumbers, neededNumbers, Opens, Comments, Gets, Pairs, Needs, Loads, Walks, Leaves};
 
 // 20: a lent slice is too short.
 const ROOM: u64 = 20;
@@ -41,9 +37,9 @@ const GET_OUT: usize = 2;
 
 const PAIR_OUT: usize = 3;
 
-const NEEDS_OUT: usize = 11;
+const NEEDS_OUT: usize = 10;
 
-const LOAD_OUT: usize = 9;
+const LOAD_OUT: usize = 8;
 
 const WALK_OUT: usize = 3;
 
@@ -59,49 +55,48 @@ fn put3(out: &mut [u64], a: u64, b: u64, c: u64)
 
 // Why a load is refused, or its rows, to the front.
 fn put_rows(out: &mut [u64], rows: Rows)
-    requires { ⌜ 9 ≤ length (now out) ⌝ }
+    requires { ⌜ 8 ≤ length (now out) ⌝ }
     ensures { λ r. ⌜ now (out .exit) ≡ sets (now (out .entry)) 0 (rowsNumbers rows) ⌝ }
 {
-    put3(out, rows.number, rows.place, rows.line);
+    put4(out, 0, rows.number, rows.place, rows.line, rows.questions);
     put4(
         out,
-        3,
-        rows.questions,
+        4,
         rows.patterns,
         rows.trees,
         rows.records,
+        rows.values,
     );
-    put2(out, 7, rows.blocks, rows.values);
 }
 
 // What a model needs, to the front.
 fn put_needed(out: &mut [u64], needed: Needed)
-    requires { ⌜ 11 ≤ length (now out) ⌝ }
+    requires { ⌜ 10 ≤ length (now out) ⌝ }
     ensures { λ r. ⌜ now (out .exit) ≡ sets (now (out .entry)) 0 (neededNumbers needed) ⌝ }
 {
-    put3(out, needed.number, needed.place, needed.line);
     put4(
         out,
-        3,
+        0,
+        needed.number,
+        needed.place,
+        needed.line,
         needed.questions,
+    );
+    put4(
+        out,
+        4,
         needed.patterns,
         needed.trees,
         needed.records,
-    );
-    put4(
-        out,
-        7,
-        needed.blocks,
         needed.values,
-        needed.work,
-        needed.width,
     );
+    put2(out, 8, needed.work, needed.width);
 }
 
 // Opens a file, with the record into the words.
 #[no_mangle]
 pub extern "C" fn larsavim_open(file: &[u8], words: &mut [u64], out: &mut [u64]) -> u64
-    ensures { λ r. ⌜ (r ≡ answered (length (now (out .entry))) 2 (openSaid (now (file .entry)) (length (now (words .entry))) .number)) × (now (words .exit) ≡ left (now (out .entry)) 2 (now (words .entry)) (openWords (now (file .entry)) (now (words .entry)))) × (now (out .exit) ≡ written (now (out .entry)) 2 (saidNumbers (openSaid (now (file .entry)) (length (now (words .entry)))))) ⌝ }
+    ensures { λ r. ⌜ Opens (now (file .entry)) (now (words .entry)) (now (out .entry)) r (now (words .exit)) (now (out .exit)) ⌝ }
 {
     if out.len() < OPEN_OUT {
         return ROOM;
@@ -119,7 +114,7 @@ pub extern "C" fn larsavim_comment(
     fallback_len: u64,
     out: &mut [u64],
 ) -> u64
-    ensures { λ r. ⌜ (r ≡ answered (length (now (out .entry))) 4 (commentSaid «file_len» (now (words .entry)) «fallback_len» .number)) × (now (out .exit) ≡ written (now (out .entry)) 4 (partNumbers (commentSaid «file_len» (now (words .entry)) «fallback_len»))) ⌝ }
+    ensures { λ r. ⌜ Comments «file_len» (now (words .entry)) «fallback_len» (now (out .entry)) r (now (out .exit)) ⌝ }
 {
     if out.len() < COMMENT_OUT {
         return ROOM;
@@ -132,7 +127,7 @@ pub extern "C" fn larsavim_comment(
 // A number, a count or a flag of the record.
 #[no_mangle]
 pub extern "C" fn larsavim_get(words: &[u64], field: u64, out: &mut [u64]) -> u64
-    ensures { λ r. ⌜ (r ≡ answered (length (now (out .entry))) 2 (getSaid (now (words .entry)) field .number)) × (now (out .exit) ≡ written (now (out .entry)) 2 (saidNumbers (getSaid (now (words .entry)) field))) ⌝ }
+    ensures { λ r. ⌜ Gets (now (words .entry)) field (now (out .entry)) r (now (out .exit)) ⌝ }
 {
     if out.len() < GET_OUT {
         return ROOM;
@@ -145,7 +140,7 @@ pub extern "C" fn larsavim_get(words: &[u64], field: u64, out: &mut [u64]) -> u6
 // A string or a range of the record.
 #[no_mangle]
 pub extern "C" fn larsavim_pair(words: &[u64], field: u64, out: &mut [u64]) -> u64
-    ensures { λ r. ⌜ (r ≡ answered (length (now (out .entry))) 3 (pairSaid (now (words .entry)) field .number)) × (now (out .exit) ≡ written (now (out .entry)) 3 (pairNumbers (pairSaid (now (words .entry)) field))) ⌝ }
+    ensures { λ r. ⌜ Pairs (now (words .entry)) field (now (out .entry)) r (now (out .exit)) ⌝ }
 {
     if out.len() < PAIR_OUT {
         return ROOM;
@@ -158,7 +153,7 @@ pub extern "C" fn larsavim_pair(words: &[u64], field: u64, out: &mut [u64]) -> u
 // What a model needs, without tables.
 #[no_mangle]
 pub extern "C" fn larsavim_needs(file: &[u8], words: &[u64], which: u64, out: &mut [u64]) -> u64
-    ensures { λ r. ⌜ (r ≡ answered (length (now (out .entry))) 11 (neededOf (now (file .entry)) (now (words .entry)) which .number)) × (now (out .exit) ≡ written (now (out .entry)) 11 (neededNumbers (neededOf (now (file .entry)) (now (words .entry)) which))) ⌝ }
+    ensures { λ r. ⌜ Needs (now (file .entry)) (now (words .entry)) which (now (out .entry)) r (now (out .exit)) ⌝ }
 {
     if out.len() < NEEDS_OUT {
         return ROOM;
@@ -178,12 +173,11 @@ pub extern "C" fn larsavim_load(
     patterns: &mut [u64],
     trees: &mut [u64],
     records: &mut [u64],
-    blocks: &mut [u64],
     values: &mut [u64],
     work: &mut [i64],
     out: &mut [u64],
 ) -> u64
-    ensures { λ r. ⌜ (r ≡ answered (length (now (out .entry))) 9 (filledOf (now (file .entry)) (now (words .entry)) which (now (questions .entry)) (now (patterns .entry)) (now (trees .entry)) (now (records .entry)) (now (blocks .entry)) (now (values .entry)) (now (work .entry)) .rows .number)) × (now (questions .exit) ≡ left (now (out .entry)) 9 (now (questions .entry)) (filledOf (now (file .entry)) (now (words .entry)) which (now (questions .entry)) (now (patterns .entry)) (now (trees .entry)) (now (records .entry)) (now (blocks .entry)) (now (values .entry)) (now (work .entry)) .questions)) × (now (patterns .exit) ≡ left (now (out .entry)) 9 (now (patterns .entry)) (filledOf (now (file .entry)) (now (words .entry)) which (now (questions .entry)) (now (patterns .entry)) (now (trees .entry)) (now (records .entry)) (now (blocks .entry)) (now (values .entry)) (now (work .entry)) .patterns)) × (now (trees .exit) ≡ left (now (out .entry)) 9 (now (trees .entry)) (filledOf (now (file .entry)) (now (words .entry)) which (now (questions .entry)) (now (patterns .entry)) (now (trees .entry)) (now (records .entry)) (now (blocks .entry)) (now (values .entry)) (now (work .entry)) .trees)) × (now (records .exit) ≡ left (now (out .entry)) 9 (now (records .entry)) (filledOf (now (file .entry)) (now (words .entry)) which (now (questions .entry)) (now (patterns .entry)) (now (trees .entry)) (now (records .entry)) (now (blocks .entry)) (now (values .entry)) (now (work .entry)) .records)) × (now (blocks .exit) ≡ left (now (out .entry)) 9 (now (blocks .entry)) (filledOf (now (file .entry)) (now (words .entry)) which (now (questions .entry)) (now (patterns .entry)) (now (trees .entry)) (now (records .entry)) (now (blocks .entry)) (now (values .entry)) (now (work .entry)) .blocks)) × (now (values .exit) ≡ left (now (out .entry)) 9 (now (values .entry)) (filledOf (now (file .entry)) (now (words .entry)) which (now (questions .entry)) (now (patterns .entry)) (now (trees .entry)) (now (records .entry)) (now (blocks .entry)) (now (values .entry)) (now (work .entry)) .values)) × (now (work .exit) ≡ left (now (out .entry)) 9 (now (work .entry)) (filledOf (now (file .entry)) (now (words .entry)) which (now (questions .entry)) (now (patterns .entry)) (now (trees .entry)) (now (records .entry)) (now (blocks .entry)) (now (values .entry)) (now (work .entry)) .work)) × (now (out .exit) ≡ written (now (out .entry)) 9 (rowsNumbers (filledOf (now (file .entry)) (now (words .entry)) which (now (questions .entry)) (now (patterns .entry)) (now (trees .entry)) (now (records .entry)) (now (blocks .entry)) (now (values .entry)) (now (work .entry)) .rows))) ⌝ }
+    ensures { λ r. ⌜ Loads (now (file .entry)) (now (words .entry)) which (lent (now (questions .entry)) (now (patterns .entry)) (now (trees .entry)) (now (records .entry)) (now (values .entry)) (now (work .entry))) (now (out .entry)) r (lent (now (questions .exit)) (now (patterns .exit)) (now (trees .exit)) (now (records .exit)) (now (values .exit)) (now (work .exit))) (now (out .exit)) ⌝ }
 {
     if out.len() < LOAD_OUT {
         return ROOM;
@@ -196,7 +190,6 @@ pub extern "C" fn larsavim_load(
         patterns,
         trees,
         records,
-        blocks,
         values,
         work,
     );
@@ -214,7 +207,7 @@ pub extern "C" fn larsavim_walk(
     limit: u64,
     out: &mut [u64],
 ) -> u64
-    ensures { λ r. ⌜ (r ≡ answered (length (now (out .entry))) 3 (endedOf (now (trees .entry)) (now (records .entry)) tree (now (answers .entry)) limit .number)) × (now (out .exit) ≡ written (now (out .entry)) 3 (endedNumbers (endedOf (now (trees .entry)) (now (records .entry)) tree (now (answers .entry)) limit))) ⌝ }
+    ensures { λ r. ⌜ Walks (now (trees .entry)) (now (records .entry)) tree (now (answers .entry)) limit (now (out .entry)) r (now (out .exit)) ⌝ }
 {
     if out.len() < WALK_OUT {
         return ROOM;
@@ -230,13 +223,12 @@ pub extern "C" fn larsavim_leaves(
     questions: &[u64],
     trees: &[u64],
     records: &[u64],
-    blocks: &[u64],
     values: &[u64],
     width: u64,
 ) -> u64
-    ensures { λ r. ⌜ r ≡ flagWord (leavesFit (now (questions .entry)) (now (trees .entry)) (now (records .entry)) (now (blocks .entry)) (now (values .entry)) width) ⌝ }
+    ensures { λ r. ⌜ Leaves (now (questions .entry)) (now (trees .entry)) (now (records .entry)) (now (values .entry)) width r ⌝ }
 {
-    leaves_fit(questions, trees, records, blocks, values, width) as u64
+    leaves_fit(questions, trees, records, values, width) as u64
 }
 
 // Walks for each job of a lent slice, and writes how each ended where the job stands. The borrow checker covers no function over a slice of structs, so this loop is proved

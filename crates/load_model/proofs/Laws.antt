@@ -7,12 +7,14 @@ use native.Mathlib.Omega.{arith}
 use lib.Dec.{leb, eqb}
 use lib.IntN.{ℤ, pos}
 use lib.ListN.{length, take, drop, replicate, length-append}
+use lib.Seq.{sets}
 use borrow.Author.Tests.{leb-true, eqb-true}
 use Rattle.written.specs.Bytes.{part}
 use Rattle.written.specs.Blocks.{total}
-use Rattle.pdf_blocks.specs.Values.{wordsAt, blockAt, blockRows, entryAt, valuesAt}
+use Rattle.pdf_blocks.specs.Values.{wordsAt, blockAt, entryAt, valuesAt}
 use Rattle.pdf_blocks.specs.declared.Block.{Block}
 use Rattle.pdf_blocks.specs.declared.Block.the-variants as block
+use Rattle.pdf_values.specs.Folded.{withBlocks}
 use Rattle.pdf_values.proofs.Laws.{entry-width}
 use Rattle.error.specs.declared.Refusal.{Refusal}
 use Rattle.error.specs.declared.Refusal.the-variants as refusal
@@ -20,8 +22,10 @@ use Rattle.head_record.specs.declared.Header.{Header}
 use Rattle.load_choose.specs.declared.Which.{Which}
 use Rattle.tree_question.specs.Questions.{questionsAt}
 use Rattle.load_questions.specs.Words.{patternWords}
+use Rattle.load_trees.specs.Trees.{allLinked}
 use Rattle.load_trees.specs.declared.Linked.{Linked}
-use Rattle.load_text.specs.Text.{Fits, wordsAt as questionRows, endAt, treesStored, recordsStored, kept}
+use Rattle.load_text.specs.Text.{Fits, wordsAt as questionRows, endAt, treesStored, recordsStored, kept, TextFilled}
+use Rattle.load_text.proofs.Laws.{kept-done, kept-not}
 use Rattle.load_plan.specs.Plans.{Sound, dataOf, planned}
 use Rattle.load_plan.specs.declared.Planned.{Planned}
 use Rattle.load_plan.specs.declared.Planned.the-variants as planned
@@ -29,7 +33,7 @@ use Rattle.load_plan.specs.declared.Plan.{Plan}
 use Rattle.load_plan.proofs.Laws.{was}
 use Rattle.load_model.specs.declared.Loaded.{Loaded}
 use Rattle.load_model.specs.declared.Loaded.the-variants.{Refused}
-use Rattle.load_model.specs.Load.{After, roomFor, BlockRoom, answerFor, filled, untouched, loadFor, loadOf}
+use Rattle.load_model.specs.Load.{Tables, lent, After, roomFor, roomIn, BlockRoom, answerFor, blocksOf, keptTrees, filled, untouched, loadFor, loadOf, Is, Fills, Loads}
 
 -- ---- the size of a block
 
@@ -53,7 +57,7 @@ block-size t w s i e h = go (leb (4 * t) (length s - i)) (eqb (length s - i) (4 
     go false y k z h = let u : _≡_ {A = ℕ} 0 1 = cc in absurd (omega arith)
 
 -- what fill_block knows of a block's size
-module _ (s : List ℕ) (p : Plan) {b v : ℕ} (h : BlockRoom s p b v) where
+module _ (s : List ℕ) (p : Plan) {t v : ℕ} (h : BlockRoom s p t v) where
   size : (p .block + 4 * p .trees + 4 * (p .entries * p .width) ≤ length s) × (total (wordsAt s (p .block) (p .trees)) ≡ p .entries)
   size =
       let z = block-size (p .trees) (p .width) s (p .block) (p .entries) (h .fits) in
@@ -64,7 +68,7 @@ module _ (s : List ℕ) (p : Plan) {b v : ℕ} (h : BlockRoom s p b v) where
       within : (n : ℕ) → length s - p .block ≡ 4 * p .trees + 4 * n → p .block + 4 * p .trees + 4 * n ≤ length s
       within n k = omega (arith, h .begins)
 
-  pub rows-fit : (p .block + 4 * p .trees ≤ length s) × (2 * p .trees ≤ b) × (p .block + 4 * p .trees + 4 * (total (wordsAt s (p .block) (p .trees)) * p .width) ≤ length s)
+  pub rows-fit : (p .block + 4 * p .trees ≤ length s) × (6 * p .trees ≤ t) × (p .block + 4 * p .trees + 4 * (total (wordsAt s (p .block) (p .trees)) * p .width) ≤ length s)
   rows-fit = (
     omega (arith, size .0),
     h .rows,
@@ -80,50 +84,48 @@ module _ (s : List ℕ) (p : Plan) {b v : ℕ} (h : BlockRoom s p b v) where
 
 -- ---- the room
 
-pub record Room (p : Plan) (q a t r b v w : ℕ) : Type 0 where
+pub record Room (p : Plan) (q a t r v w : ℕ) : Type 0 where
   pub questions : p .questions ≤ q / 4
   pub patterns : p .patterns ≤ a / 2
-  pub trees : p .trees ≤ t / 4
+  pub trees : p .trees ≤ t / 6
   pub records : p .records ≤ r / 4
-  pub blocks : p .trees ≤ b / 2
   pub values : p .entries * p .width ≤ v
   pub work : p .lines ≤ w / 6
 
-module _ (p : Plan) (q a t r b v w : ℕ) where
-  pub room-is : roomFor p q a t r b v w ≡ true → Room p q a t r b v w
+module _ (p : Plan) (q a t r v w : ℕ) where
+  pub room-is : roomFor p q a t r v w ≡ true → Room p q a t r v w
   unfolding roomFor
   room-is h =
-      go (leb (p .questions) (q / 4)) refl (leb (p .patterns) (a / 2)) refl (leb (p .trees) (t / 4)) refl (leb (p .records) (r / 4)) refl (leb (p .trees) (b / 2)) refl (leb (p .entries * p .width) v) refl
+      go (leb (p .questions) (q / 4)) refl (leb (p .patterns) (a / 2)) refl (leb (p .trees) (t / 6)) refl (leb (p .records) (r / 4)) refl (leb (p .entries * p .width) v) refl
       (leb (p .lines) (w / 6)) refl h
     where
-      go : (x₁ : Bool) → leb (p .questions) (q / 4) ≡ x₁ → (x₂ : Bool) → leb (p .patterns) (a / 2) ≡ x₂ → (x₃ : Bool) → leb (p .trees) (t / 4) ≡ x₃
-          → (x₄ : Bool) → leb (p .records) (r / 4) ≡ x₄ → (x₅ : Bool) → leb (p .trees) (b / 2) ≡ x₅ → (x₆ : Bool) → leb (p .entries * p .width) v ≡ x₆
-          → (x₇ : Bool) → leb (p .lines) (w / 6) ≡ x₇ → (x₁ && x₂ && x₃ && x₄ && x₅ && x₆ && x₇) ≡ true → Room p q a t r b v w
-      go true e₁ true e₂ true e₃ true e₄ true e₅ true e₆ true e₇ h =
+      go : (x₁ : Bool) → leb (p .questions) (q / 4) ≡ x₁ → (x₂ : Bool) → leb (p .patterns) (a / 2) ≡ x₂ → (x₃ : Bool) → leb (p .trees) (t / 6) ≡ x₃
+          → (x₄ : Bool) → leb (p .records) (r / 4) ≡ x₄ → (x₅ : Bool) → leb (p .entries * p .width) v ≡ x₅
+          → (x₆ : Bool) → leb (p .lines) (w / 6) ≡ x₆ → (x₁ && x₂ && x₃ && x₄ && x₅ && x₆) ≡ true → Room p q a t r v w
+      go true e₁ true e₂ true e₃ true e₄ true e₅ true e₆ h =
           record {
             questions = leb-true _ _ e₁;
             patterns = leb-true _ _ e₂;
             trees = leb-true _ _ e₃;
             records = leb-true _ _ e₄;
-            blocks = leb-true _ _ e₅;
-            values = leb-true _ _ e₆;
-            work = leb-true _ _ e₇;
+            values = leb-true _ _ e₅;
+            work = leb-true _ _ e₆;
           }
-      go false e₁ x₂ e₂ x₃ e₃ x₄ e₄ x₅ e₅ x₆ e₆ x₇ e₇ h = let u : _≡_ {A = ℕ} 0 1 = cc in absurd (omega arith)
-      go true e₁ false e₂ x₃ e₃ x₄ e₄ x₅ e₅ x₆ e₆ x₇ e₇ h = let u : _≡_ {A = ℕ} 0 1 = cc in absurd (omega arith)
-      go true e₁ true e₂ false e₃ x₄ e₄ x₅ e₅ x₆ e₆ x₇ e₇ h = let u : _≡_ {A = ℕ} 0 1 = cc in absurd (omega arith)
-      go true e₁ true e₂ true e₃ false e₄ x₅ e₅ x₆ e₆ x₇ e₇ h = let u : _≡_ {A = ℕ} 0 1 = cc in absurd (omega arith)
-      go true e₁ true e₂ true e₃ true e₄ false e₅ x₆ e₆ x₇ e₇ h = let u : _≡_ {A = ℕ} 0 1 = cc in absurd (omega arith)
-      go true e₁ true e₂ true e₃ true e₄ true e₅ false e₆ x₇ e₇ h = let u : _≡_ {A = ℕ} 0 1 = cc in absurd (omega arith)
-      go true e₁ true e₂ true e₃ true e₄ true e₅ true e₆ false e₇ h = let u : _≡_ {A = ℕ} 0 1 = cc in absurd (omega arith)
+      go false e₁ x₂ e₂ x₃ e₃ x₄ e₄ x₅ e₅ x₆ e₆ h = let u : _≡_ {A = ℕ} 0 1 = cc in absurd (omega arith)
+      go true e₁ false e₂ x₃ e₃ x₄ e₄ x₅ e₅ x₆ e₆ h = let u : _≡_ {A = ℕ} 0 1 = cc in absurd (omega arith)
+      go true e₁ true e₂ false e₃ x₄ e₄ x₅ e₅ x₆ e₆ h = let u : _≡_ {A = ℕ} 0 1 = cc in absurd (omega arith)
+      go true e₁ true e₂ true e₃ false e₄ x₅ e₅ x₆ e₆ h = let u : _≡_ {A = ℕ} 0 1 = cc in absurd (omega arith)
+      go true e₁ true e₂ true e₃ true e₄ false e₅ x₆ e₆ h = let u : _≡_ {A = ℕ} 0 1 = cc in absurd (omega arith)
+      go true e₁ true e₂ true e₃ true e₄ true e₅ false e₆ h = let u : _≡_ {A = ℕ} 0 1 = cc in absurd (omega arith)
 
 -- ---- a plan with room for it
 
-module _ (d : List ℕ) (p : Plan) (s : Sound d p) (q a t r b v w : ℕ) (h : roomFor p q a t r b v w ≡ true) where
-  pub text-fits : Fits (take (p .«text_end») d) (p .text) (p .first) (p .questions) q a t r w
-  text-fits =
+module _ (d : List ℕ) (p : Plan) (s : Sound d p) (q a t r v w : ℕ) (h : roomFor p q a t r v w ≡ true) where
+  pub text-fits : {S : List ℕ} → S ≡ take (p .«text_end») d → Fits S (p .text) (p .first) (p .questions) q a t r w
+  text-fits e =
       let k = was (take (p .«text_end») d) (p .text) (s .text) in
-      let m = room-is p q a t r b v w h in
+      let m = room-is p q a t r v w h in
+      subst (λ (S : List ℕ). Fits S (p .text) (p .first) (p .questions) q a t r w) (sym e)
       record {
         begins = k .begins;
         through = record { end = k .ends; done = k .through };
@@ -135,10 +137,11 @@ module _ (d : List ℕ) (p : Plan) (s : Sound d p) (q a t r b v w : ℕ) (h : ro
         work-room = omega (arith, m .work, k .lines);
       }
 
-  pub block-fits : BlockRoom (take (p .«block_end») d) p b v
-  block-fits =
-      let m = room-is p q a t r b v w h in
-      record { begins = s .begins; fits = s .block; rows = omega (arith, m .blocks); room = m .values }
+  -- of trees that have kept their length
+  pub block-fits : {B : List ℕ} {n : ℕ} → B ≡ take (p .«block_end») d → n ≡ t → BlockRoom B p n v
+  block-fits {B} {n} e l =
+      let m = room-is p q a t r v w h in
+      subst (λ (B : List ℕ). BlockRoom B p n v) (sym e) record { begins = s .begins; fits = s .block; rows = omega (arith, m .trees); room = m .values }
 
 -- ---- no product wraps
 
@@ -173,48 +176,61 @@ small-values d p s h = below (p .entries * p .width) (few-values d p s)
 
 -- ---- each way through
 
--- the answer and the slices are those of x
-abbrev pub Is : After → Loaded → List ℕ → List ℕ → List ℕ → List ℕ → List ℕ → List ℕ → List ℤ → Type 0
-Is x l q a t r b v w =
-    (l ≡ x .answer) × (q ≡ x .questions) × (a ≡ x .patterns) × (t ≡ x .trees) × (r ≡ x .records) × (b ≡ x .blocks) × (v ≡ x .values) × (w ≡ x .work)
+pub same-lent : {q q₁ a a₁ t t₁ r r₁ v v₁ : List ℕ} {w w₁ : List ℤ} → q ≡ q₁ → a ≡ a₁ → t ≡ t₁ → r ≡ r₁ → v ≡ v₁ → w ≡ w₁ → lent q a t r v w ≡ lent q₁ a₁ t₁ r₁ v₁ w₁
+same-lent e₁ e₂ e₃ e₄ e₅ e₆ z = lent (e₁ z) (e₂ z) (e₃ z) (e₄ z) (e₅ z) (e₆ z)
 
-module _ (d : List ℕ) (p : Plan) (q a t r b v : List ℕ) (w : List ℤ) where
-  pub filled-is :
-      {S B : List ℕ} {o : Linked} {l : Loaded} {q₁ a₁ t₁ r₁ b₁ v₁ : List ℕ} {w₁ : List ℤ} → S ≡ take (p .«text_end») d → B ≡ take (p .«block_end») d
-      → (o ≡ endAt S (p .text) (p .first)) × (q₁ ≡ kept o q (questionRows S (p .text))) × (a₁ ≡ kept o a (patternWords (questionsAt S (p .text) .items)))
-      × (t₁ ≡ kept o t (treesStored S (p .text) (p .first))) × (r₁ ≡ kept o r (recordsStored S (p .text) (p .first))) × (w₁ ≡ replicate (length w) (pos 0))
-      → l ≡ answerFor p o → b₁ ≡ kept o b (blockRows (p .width) 0 (wordsAt B (p .block) (p .trees))) → v₁ ≡ kept o v (valuesAt B (p .block + 4 * p .trees) (p .width) (p .entries))
-      → Is (filled d p q a t r b v w) l q₁ a₁ t₁ r₁ b₁ v₁ w₁
+-- from the text's rows on: the block beside them, or zeros
+module _ (d : List ℕ) (p : Plan) (T : Tables) {S : List ℕ} {o : Linked} {l : Loaded} {q a t r : List ℕ} {w : List ℤ} (x : S ≡ take (p .«text_end») d)
+    (e : TextFilled S (p .text) (p .first) (T .questions) (T .patterns) (T .trees) (T .records) (T .work) o q a t r w) (k : l ≡ answerFor p o) {b : Bool} (told : b ≡ allLinked o) where
+  ends : o ≡ endAt (take (p .«text_end») d) (p .text) (p .first)
+  ends = e .0 ∙ ap (λ (S : List ℕ). endAt S (p .text) (p .first)) x
+
+  filled-is : {t₁ v₁ B : List ℕ} → B ≡ take (p .«block_end») d → t₁ ≡ keptTrees o (T .trees) (treesStored S (p .text) (p .first)) (blocksOf p B)
+      → v₁ ≡ kept o (T .values) (valuesAt B (p .block + 4 * p .trees) (p .width) (p .entries)) → Fills d p T l (lent q a t₁ r v₁ w)
   unfolding filled
-  filled-is {S} {B} {o} x y e l f g =
-      let u : o ≡ endAt (take (p .«text_end») d) (p .text) (p .first) = e .0 ∙ ap (λ (S : List ℕ). endAt S (p .text) (p .first)) x in (
-        l ∙ ap (answerFor p) u,
-        e .1 ∙ ap₂ (λ (o : Linked) (S : List ℕ). kept o q (questionRows S (p .text))) u x,
-        e .2 ∙ ap₂ (λ (o : Linked) (S : List ℕ). kept o a (patternWords (questionsAt S (p .text) .items))) u x,
-        e .3 ∙ ap₂ (λ (o : Linked) (S : List ℕ). kept o t (treesStored S (p .text) (p .first))) u x,
-        e .4 ∙ ap₂ (λ (o : Linked) (S : List ℕ). kept o r (recordsStored S (p .text) (p .first))) u x,
-        f ∙ ap₂ (λ (o : Linked) (B : List ℕ). kept o b (blockRows (p .width) 0 (wordsAt B (p .block) (p .trees)))) u y,
-        g ∙ ap₂ (λ (o : Linked) (B : List ℕ). kept o v (valuesAt B (p .block + 4 * p .trees) (p .width) (p .entries))) u y,
-        e .5,
-      )
+  filled-is {B = B} y f g = (
+    k ∙ ap (answerFor p) ends,
+    same-lent
+    (e .1 ∙ ap₂ (λ (o : Linked) (S : List ℕ). kept o (T .questions) (questionRows S (p .text))) ends x)
+    (e .2 ∙ ap₂ (λ (o : Linked) (S : List ℕ). kept o (T .patterns) (patternWords (questionsAt S (p .text) .items))) ends x)
+    (f ∙ ap₂ (λ (o : Linked) (S : List ℕ). keptTrees o (T .trees) (treesStored S (p .text) (p .first)) (blocksOf p B)) ends x
+    ∙ ap (λ (B : List ℕ). keptTrees (endAt (take (p .«text_end») d) (p .text) (p .first)) (T .trees) (treesStored (take (p .«text_end») d) (p .text) (p .first)) (blocksOf p B)) y)
+    (e .4 ∙ ap₂ (λ (o : Linked) (S : List ℕ). kept o (T .records) (recordsStored S (p .text) (p .first))) ends x)
+    (g ∙ ap₂ (λ (o : Linked) (B : List ℕ). kept o (T .values) (valuesAt B (p .block + 4 * p .trees) (p .width) (p .entries))) ends y)
+    (e .5),
+  )
 
-module _ (s : List ℕ) (h : Header) (which : Which) (q a t r b v : List ℕ) (w : List ℤ) where
-  pub load-refused : {x : Refusal} → planned.Refused x ≡ planned s h which → Is (loadOf s h which q a t r b v w) (Refused x) q a t r b v w
+  module _ {v : Bool} (f : b ≡ v) where
+    -- the test of the two tables that the block fills
+    trees-by : (words : List ℕ) (B : List ℕ) → keptTrees o (T .trees) words (blocksOf p B) ≡ cond v (withBlocks (sets (T .trees) 0 words) 0 (blocksOf p B)) (replicate (length (T .trees)) 0)
+    trees-by words B = ap (λ (c : Bool). cond c (withBlocks (sets (T .trees) 0 words) 0 (blocksOf p B)) (replicate (length (T .trees)) 0)) (sym told ∙ f)
+
+    text-by : t ≡ cond v (sets (T .trees) 0 (treesStored S (p .text) (p .first))) (replicate (length (T .trees)) 0)
+    text-by = e .3 ∙ ap (λ (c : Bool). cond c (sets (T .trees) 0 (treesStored S (p .text) (p .first))) (replicate (length (T .trees)) 0)) (sym told ∙ f)
+
+  pub fill-done : {t₁ v₁ B : List ℕ} → b ≡ true → B ≡ take (p .«block_end») d → (t₁ ≡ withBlocks t 0 (blocksOf p B)) × (v₁ ≡ sets (T .values) 0 (valuesAt B (p .block + 4 * p .trees) (p .width) (p .entries)))
+      → Fills d p T l (lent q a t₁ r v₁ w)
+  fill-done {B = B} f y g =
+      filled-is y (g .0 ∙ ap (λ (u : List ℕ). withBlocks u 0 (blocksOf p B)) (text-by f) ∙ sym (trees-by f (treesStored S (p .text) (p .first)) B)) (kept-done o (T .values) (valuesAt B (p .block + 4 * p .trees) (p .width) (p .entries)) told f (g .1))
+
+  pub fill-zero : {v₁ : List ℕ} → b ≡ false → v₁ ≡ replicate (length (T .values)) 0 → Fills d p T l (lent q a t r v₁ w)
+  fill-zero f g =
+      let B = take (p .«block_end») d in
+      filled-is refl (text-by f ∙ sym (trees-by f (treesStored S (p .text) (p .first)) B)) (kept-not o (T .values) (valuesAt B (p .block + 4 * p .trees) (p .width) (p .entries)) told f refl g)
+
+module _ (s : List ℕ) (h : Header) (which : Which) (T : Tables) where
+  pub load-refused : {x : Refusal} → planned.Refused x ≡ planned s h which → Loads s h which T (Refused x) T
   unfolding loadOf
-  load-refused {x} e = subst (λ (o : Planned). Is (loadFor (dataOf s h) o q a t r b v w) (Refused x) q a t r b v w) e (refl, refl, refl, refl, refl, refl, refl, refl)
+  load-refused {x} e = subst (λ (o : Planned). Is (loadFor (dataOf s h) o T) (Refused x) T) e (refl, refl)
 
   module _ (p : Plan) (e : planned.Model p ≡ planned s h which) where
-    by-room : (c : Bool) → roomFor p (length q) (length a) (length t) (length r) (length b) (length v) (length w) ≡ c → {l : Loaded} {q₁ a₁ t₁ r₁ b₁ v₁ : List ℕ} {w₁ : List ℤ}
-        → Is (cond c (filled (dataOf s h) p q a t r b v w) (untouched refusal.Room q a t r b v w)) l q₁ a₁ t₁ r₁ b₁ v₁ w₁ → Is (loadOf s h which q a t r b v w) l q₁ a₁ t₁ r₁ b₁ v₁ w₁
+    by-room : (c : Bool) → roomIn p T ≡ c → {l : Loaded} {T₁ : Tables} → Is (cond c (filled (dataOf s h) p T) (untouched refusal.Room T)) l T₁ → Loads s h which T l T₁
     unfolding loadOf
-    by-room c k {l} {q₁} {a₁} {t₁} {r₁} {b₁} {v₁} {w₁} z =
-        subst (λ (o : Planned). Is (loadFor (dataOf s h) o q a t r b v w) l q₁ a₁ t₁ r₁ b₁ v₁ w₁) e
-        (subst (λ (c : Bool). Is (cond c (filled (dataOf s h) p q a t r b v w) (untouched refusal.Room q a t r b v w)) l q₁ a₁ t₁ r₁ b₁ v₁ w₁) (sym k) z)
+    by-room c k {l} {T₁} z =
+        subst (λ (o : Planned). Is (loadFor (dataOf s h) o T) l T₁) e (subst (λ (c : Bool). Is (cond c (filled (dataOf s h) p T) (untouched refusal.Room T)) l T₁) (sym k) z)
 
-    pub load-room : {c : Bool} → c ≡ roomFor p (length q) (length a) (length t) (length r) (length b) (length v) (length w) → c ≡ false → Is (loadOf s h which q a t r b v w) (Refused refusal.Room) q a t r b v w
-    load-room k f = by-room false (sym k ∙ f) (refl, refl, refl, refl, refl, refl, refl, refl)
+    pub load-room : {c : Bool} → c ≡ roomIn p T → c ≡ false → Loads s h which T (Refused refusal.Room) T
+    load-room k f = by-room false (sym k ∙ f) (refl, refl)
 
-    pub load-filled : {c : Bool} {d : List ℕ} {l : Loaded} {q₁ a₁ t₁ r₁ b₁ v₁ : List ℕ} {w₁ : List ℤ}
-        → c ≡ roomFor p (length q) (length a) (length t) (length r) (length b) (length v) (length w) → c ≡ true → d ≡ dataOf s h → Is (filled d p q a t r b v w) l q₁ a₁ t₁ r₁ b₁ v₁ w₁
-        → Is (loadOf s h which q a t r b v w) l q₁ a₁ t₁ r₁ b₁ v₁ w₁
-    load-filled {l = l} {q₁} {a₁} {t₁} {r₁} {b₁} {v₁} {w₁} k f y z = by-room true (sym k ∙ f) (subst (λ (d : List ℕ). Is (filled d p q a t r b v w) l q₁ a₁ t₁ r₁ b₁ v₁ w₁) y z)
+    pub load-filled : {c : Bool} {d : List ℕ} {l : Loaded} {T₁ : Tables} → c ≡ roomIn p T → c ≡ true → d ≡ dataOf s h → Fills d p T l T₁ → Loads s h which T l T₁
+    load-filled {l = l} {T₁} k f y z = by-room true (sym k ∙ f) (subst (λ (d : List ℕ). Fills d p T l T₁) y z)

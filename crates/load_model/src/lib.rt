@@ -10,18 +10,20 @@ use load_plan::data_of;
 use load_plan::needs;
 use load_text::fill_text;
 use load_trees::Linked;
+use load_trees::all_linked;
 use pdf_values::fill_blocks;
 use pdf_values::fill_values;
 use table_put::zero;
 ghost use mathlib.Core.Path.{_≡_};
 ghost use mathlib.Core.Bool.{true};
 ghost use Prim.Native.Nat.{_+_, _*_, _≤_, _<_, _^_};
-ghost use lib.ListN.{length, replicate};
+ghost use lib.ListN.{length};
 ghost use lib.Seq.{sets};
-ghost use Rattle.pdf_blocks.specs.Values.{wordsAt, blockRows, valuesAt};
+ghost use Rattle.pdf_blocks.specs.Values.{valuesAt};
+ghost use Rattle.pdf_values.specs.Folded.{withBlocks};
 ghost use Rattle.head_words.specs.Words.{headerAt};
 ghost use Rattle.load_plan.specs.Plans.{Sound};
-ghost use Rattle.load_model.specs.Load.{roomFor, BlockRoom, answerFor, filled, loadOf};
+ghost use Rattle.load_model.specs.Load.{lent, roomFor, roomIn, BlockRoom, answerFor, blocksOf, Fills, Loads};
 
 // The rows needed of each table, and the values; or the refusal.
 pub enum Loaded {
@@ -30,7 +32,6 @@ pub enum Loaded {
         patterns: usize,
         trees: usize,
         records: usize,
-        blocks: usize,
         values: u64,
     },
     Refused(Refusal),
@@ -43,12 +44,11 @@ fn room(
     patterns: usize,
     trees: usize,
     records: usize,
-    blocks: usize,
     values: usize,
     work: usize,
 ) -> bool
     requires { ⌜ p .entries * p .width < 2 ^ 63 ⌝ }
-    ensures { λ r. ⌜ r ≡ roomFor p questions patterns trees records blocks values work ⌝ }
+    ensures { λ r. ⌜ r ≡ roomFor p questions patterns trees records values work ⌝ }
 {
     if questions / 4 < p.questions {
         return false;
@@ -56,13 +56,10 @@ fn room(
     if patterns / 2 < p.patterns {
         return false;
     }
-    if trees / 4 < p.trees {
+    if trees / 6 < p.trees {
         return false;
     }
     if records / 4 < p.records {
-        return false;
-    }
-    if blocks / 2 < p.trees {
         return false;
     }
     if (values as u64) < p.entries * p.width {
@@ -74,22 +71,14 @@ fn room(
     true
 }
 
-// The block rows and the values of a block that ends with the slice.
-fn fill_block(s: &[u8], p: Plan, blocks: &mut [u64], values: &mut [u64])
-    requires { ⌜ BlockRoom (now s) p (length (now blocks)) (length (now values)) ⌝ }
-    ensures { λ r. ⌜ (now (blocks .exit) ≡ sets (now (blocks .entry)) 0 (blockRows (p .width) 0 (wordsAt (now (s .entry)) (p .block) (p .trees)))) × (now (values .exit) ≡ sets (now (values .entry)) 0 (valuesAt (now (s .entry)) (p .block + 4 * p .trees) (p .width) (p .entries))) ⌝ }
+// What a block that ends with the slice says of each tree, into the rows of the trees, and its values.
+fn fill_block(s: &[u8], p: Plan, trees: &mut [u64], values: &mut [u64])
+    requires { ⌜ BlockRoom (now s) p (length (now trees)) (length (now values)) ⌝ }
+    ensures { λ r. ⌜ (now (trees .exit) ≡ withBlocks (now (trees .entry)) 0 (blocksOf p (now (s .entry)))) × (now (values .exit) ≡ sets (now (values .entry)) 0 (valuesAt (now (s .entry)) (p .block + 4 * p .trees) (p .width) (p .entries))) ⌝ }
 {
     let first = p.block + 4 * p.trees;
-    fill_blocks(s, p.block, p.trees, p.width, blocks);
+    fill_blocks(s, p.block, p.trees, p.width, trees);
     fill_values(s, first, p.width as usize, p.entries, values);
-}
-
-// What a refused link leaves.
-fn zero_block(blocks: &mut [u64], values: &mut [u64])
-    ensures { λ r. ⌜ (now (blocks .exit) ≡ replicate (length (now (blocks .entry))) 0) × (now (values .exit) ≡ replicate (length (now (values .entry))) 0) ⌝ }
-{
-    zero(blocks);
-    zero(values);
 }
 
 // The rows of a plan whose trees are linked, or the refusal.
@@ -103,7 +92,6 @@ fn answer(p: Plan, linked: Linked) -> Loaded
             patterns: p.patterns,
             trees: p.trees,
             records: p.records,
-            blocks: p.trees,
             values: p.entries * p.width,
         },
         Linked::NodeRef { tree, line } => Loaded::Refused(Refusal::NodeRef { tree, line }),
@@ -120,12 +108,11 @@ fn fill(
     patterns: &mut [u64],
     trees: &mut [u64],
     records: &mut [u64],
-    blocks: &mut [u64],
     values: &mut [u64],
     work: &mut [i64],
 ) -> Loaded
-    requires { ⌜ Sound (now d) p × (roomFor p (length (now questions)) (length (now patterns)) (length (now trees)) (length (now records)) (length (now blocks)) (length (now values)) (length (now work)) ≡ true) ⌝ }
-    ensures { λ r. ⌜ (r ≡ filled (now (d .entry)) p (now (questions .entry)) (now (patterns .entry)) (now (trees .entry)) (now (records .entry)) (now (blocks .entry)) (now (values .entry)) (now (work .entry)) .answer) × (now (questions .exit) ≡ filled (now (d .entry)) p (now (questions .entry)) (now (patterns .entry)) (now (trees .entry)) (now (records .entry)) (now (blocks .entry)) (now (values .entry)) (now (work .entry)) .questions) × (now (patterns .exit) ≡ filled (now (d .entry)) p (now (questions .entry)) (now (patterns .entry)) (now (trees .entry)) (now (records .entry)) (now (blocks .entry)) (now (values .entry)) (now (work .entry)) .patterns) × (now (trees .exit) ≡ filled (now (d .entry)) p (now (questions .entry)) (now (patterns .entry)) (now (trees .entry)) (now (records .entry)) (now (blocks .entry)) (now (values .entry)) (now (work .entry)) .trees) × (now (records .exit) ≡ filled (now (d .entry)) p (now (questions .entry)) (now (patterns .entry)) (now (trees .entry)) (now (records .entry)) (now (blocks .entry)) (now (values .entry)) (now (work .entry)) .records) × (now (blocks .exit) ≡ filled (now (d .entry)) p (now (questions .entry)) (now (patterns .entry)) (now (trees .entry)) (now (records .entry)) (now (blocks .entry)) (now (values .entry)) (now (work .entry)) .blocks) × (now (values .exit) ≡ filled (now (d .entry)) p (now (questions .entry)) (now (patterns .entry)) (now (trees .entry)) (now (records .entry)) (now (blocks .entry)) (now (values .entry)) (now (work .entry)) .values) × (now (work .exit) ≡ filled (now (d .entry)) p (now (questions .entry)) (now (patterns .entry)) (now (trees .entry)) (now (records .entry)) (now (blocks .entry)) (now (values .entry)) (now (work .entry)) .work) ⌝ }
+    requires { ⌜ Sound (now d) p × (roomIn p (lent (now questions) (now patterns) (now trees) (now records) (now values) (now work)) ≡ true) ⌝ }
+    ensures { λ r. ⌜ Fills (now (d .entry)) p (lent (now (questions .entry)) (now (patterns .entry)) (now (trees .entry)) (now (records .entry)) (now (values .entry)) (now (work .entry))) r (lent (now (questions .exit)) (now (patterns .exit)) (now (trees .exit)) (now (records .exit)) (now (values .exit)) (now (work .exit))) ⌝ }
 {
     let linked = fill_text(
         up_to(d, p.text_end),
@@ -139,11 +126,10 @@ fn fill(
         work,
     );
     let loaded = answer(p, linked);
-    match linked {
-        Linked::Done => fill_block(up_to(d, p.block_end), p, blocks, values),
-        Linked::NodeRef { tree: _, line: _ } => zero_block(blocks, values),
-        Linked::QuestionRef { tree: _, line: _ } => zero_block(blocks, values),
-        Linked::LoneNode { tree: _ } => zero_block(blocks, values),
+    if all_linked(linked) {
+        fill_block(up_to(d, p.block_end), p, trees, values);
+    } else {
+        zero(values);
     }
     loaded
 }
@@ -157,12 +143,11 @@ pub fn load(
     patterns: &mut [u64],
     trees: &mut [u64],
     records: &mut [u64],
-    blocks: &mut [u64],
     values: &mut [u64],
     work: &mut [i64],
 ) -> Loaded
     requires { ⌜ 647 ≤ length (now words) ⌝ }
-    ensures { λ r. ⌜ (r ≡ loadOf (now (file .entry)) (headerAt (now (words .entry))) which (now (questions .entry)) (now (patterns .entry)) (now (trees .entry)) (now (records .entry)) (now (blocks .entry)) (now (values .entry)) (now (work .entry)) .answer) × (now (questions .exit) ≡ loadOf (now (file .entry)) (headerAt (now (words .entry))) which (now (questions .entry)) (now (patterns .entry)) (now (trees .entry)) (now (records .entry)) (now (blocks .entry)) (now (values .entry)) (now (work .entry)) .questions) × (now (patterns .exit) ≡ loadOf (now (file .entry)) (headerAt (now (words .entry))) which (now (questions .entry)) (now (patterns .entry)) (now (trees .entry)) (now (records .entry)) (now (blocks .entry)) (now (values .entry)) (now (work .entry)) .patterns) × (now (trees .exit) ≡ loadOf (now (file .entry)) (headerAt (now (words .entry))) which (now (questions .entry)) (now (patterns .entry)) (now (trees .entry)) (now (records .entry)) (now (blocks .entry)) (now (values .entry)) (now (work .entry)) .trees) × (now (records .exit) ≡ loadOf (now (file .entry)) (headerAt (now (words .entry))) which (now (questions .entry)) (now (patterns .entry)) (now (trees .entry)) (now (records .entry)) (now (blocks .entry)) (now (values .entry)) (now (work .entry)) .records) × (now (blocks .exit) ≡ loadOf (now (file .entry)) (headerAt (now (words .entry))) which (now (questions .entry)) (now (patterns .entry)) (now (trees .entry)) (now (records .entry)) (now (blocks .entry)) (now (values .entry)) (now (work .entry)) .blocks) × (now (values .exit) ≡ loadOf (now (file .entry)) (headerAt (now (words .entry))) which (now (questions .entry)) (now (patterns .entry)) (now (trees .entry)) (now (records .entry)) (now (blocks .entry)) (now (values .entry)) (now (work .entry)) .values) × (now (work .exit) ≡ loadOf (now (file .entry)) (headerAt (now (words .entry))) which (now (questions .entry)) (now (patterns .entry)) (now (trees .entry)) (now (records .entry)) (now (blocks .entry)) (now (values .entry)) (now (work .entry)) .work) ⌝ }
+    ensures { λ r. ⌜ Loads (now (file .entry)) (headerAt (now (words .entry))) which (lent (now (questions .entry)) (now (patterns .entry)) (now (trees .entry)) (now (records .entry)) (now (values .entry)) (now (work .entry))) r (lent (now (questions .exit)) (now (patterns .exit)) (now (trees .exit)) (now (records .exit)) (now (values .exit)) (now (work .exit))) ⌝ }
 {
     match needs(file, words, which) {
         Planned::Refused(refusal) => Loaded::Refused(refusal),
@@ -173,7 +158,6 @@ pub fn load(
                 patterns.len(),
                 trees.len(),
                 records.len(),
-                blocks.len(),
                 values.len(),
                 work.len(),
             ) {
@@ -186,7 +170,6 @@ pub fn load(
                 patterns,
                 trees,
                 records,
-                blocks,
                 values,
                 work,
             )

@@ -1,5 +1,6 @@
 -- A whole text: the question words and the index of names as parts of their tables; what each way through leaves in a table.
 use mathlib.Core.Path.{_≡_, refl, sym, ap, ap₂, _∙_}
+use mathlib.Core.Bool.{Bool, true, false, cond}
 use mathlib.Core.List.{List, []}
 use Prim.Native.Nat.{ℕ, _+_, _-_, _*_, _≤_, _<_}
 use native.Mathlib.Omega.{arith}
@@ -20,10 +21,9 @@ use Rattle.tree_survey_questions.proofs.Counting.{each-asked}
 use Rattle.tree_body.specs.Trees.{treesAt}
 use Rattle.load_questions.specs.Words.{patternWords, questionWords}
 use Rattle.load_questions.proofs.Rows.{patterns-length, questions-length}
-use Rattle.load_trees.specs.Trees.{treesEnd, treeWords, recordWords, workAfter}
+use Rattle.load_trees.specs.Trees.{allLinked, treesEnd, treeWords, recordWords, workAfter}
 use Rattle.load_trees.specs.declared.Linked.{Linked}
-use Rattle.load_trees.specs.declared.Linked.the-variants.{Done, NodeRef, QuestionRef, LoneNode}
-use Rattle.load_text.specs.Text.{Fits, nameIndex, wordsAt, endAt, treesStored, recordsStored, kept}
+use Rattle.load_text.specs.Text.{Fits, nameIndex, wordsAt, endAt, treesStored, recordsStored, kept, TextLinked, TextFilled}
 
 -- a front that was stored, lent
 front : (t₀ t₁ xs : List ℕ) (m : ℕ) → t₁ ≡ sets t₀ 0 xs → m ≡ length xs → m ≤ length t₀ → take (m - 0) (drop 0 t₁) ≡ xs
@@ -77,10 +77,40 @@ module _ (s : List ℕ) (i f n : ℕ) {q p t r w : ℕ} (h : Fits s i f n q p t 
       u ∙ ap (λ (t : List ℕ). sets t 0 (patternWords (questionsAt s i .items))) e
       ∙ sets-over (nameIndex s x n) (patternWords (questionsAt s i .items)) p₀ 0 (omega (arith, index-length s x n, patterns-length (questionsAt s i .items), h .asked, each-asked s i))
 
-module _ {o : Linked} (t₀ words : List ℕ) where
-  pub kept-done : {t₁ : List ℕ} → o ≡ Done → t₁ ≡ sets t₀ 0 words → t₁ ≡ kept o t₀ words
-  kept-done e u = u ∙ sym (ap (λ (x : Linked). kept x t₀ words) e)
+module _ (o : Linked) (t₀ words : List ℕ) {b : Bool} (told : b ≡ allLinked o) where
+  kept-is : {l : List ℕ} {v : Bool} → b ≡ v → l ≡ cond v (sets t₀ 0 words) (replicate (length t₀) 0) → l ≡ kept o t₀ words
+  kept-is e u = u ∙ sym (ap (λ (b : Bool). cond b (sets t₀ 0 words) (replicate (length t₀) 0)) (sym told ∙ e))
+
+  pub kept-done : {t₁ : List ℕ} → b ≡ true → t₁ ≡ sets t₀ 0 words → t₁ ≡ kept o t₀ words
+  kept-done e u = kept-is e u
 
   -- a refused link leaves zeros
-  pub kept-not : {u : Linked} {m : ℕ} {t₂ : List ℕ} → o ≡ u → kept u t₀ words ≡ replicate (length t₀) 0 → m ≡ length t₀ → t₂ ≡ replicate m 0 → t₂ ≡ kept o t₀ words
-  kept-not e z l v = v ∙ ap (λ (m : ℕ). replicate m 0) l ∙ sym z ∙ sym (ap (λ (x : Linked). kept x t₀ words) e)
+  pub kept-not : {m : ℕ} {t₂ : List ℕ} → b ≡ false → m ≡ length t₀ → t₂ ≡ replicate m 0 → t₂ ≡ kept o t₀ words
+  kept-not e l v = kept-is e (v ∙ ap (λ (m : ℕ). replicate m 0) l)
+
+-- the two ways on from linked trees: the patterns over the index, or zeros
+module _ (s : List ℕ) (i f n : ℕ) (q p t r : List ℕ) (w : List ℤ) (fits : Fits s i f n (length q) (length p) (length t) (length r) (length w)) {o : Linked} {q₁ p₁ t₁ r₁ : List ℕ} {w₁ w₂ : List ℤ}
+    (l : TextLinked s i f n q p t r w o q₁ p₁ t₁ r₁ w₁) (long : length w₁ ≡ length w) (zero : w₂ ≡ replicate (length w₁) (pos 0)) {b : Bool} (told : b ≡ allLinked o) where
+  work-zero : w₂ ≡ replicate (length w) (pos 0)
+  work-zero = zero ∙ ap (λ (m : ℕ). replicate m (pos 0)) long
+
+  pub text-kept : {p₂ : List ℕ} → b ≡ true → p₂ ≡ sets p₁ 0 (patternWords (questionsAt s i .items)) → TextFilled s i f q p t r w o q₁ p₂ t₁ r₁ w₂
+  text-kept d e = (
+    l .0,
+    kept-done o q (wordsAt s i) told d (l .1),
+    kept-done o p (patternWords (questionsAt s i .items)) told d (patterns-over s i f n fits p (wordsAt s i) (l .2) e),
+    kept-done o t (treesStored s i f) told d (l .3),
+    kept-done o r (recordsStored s i f) told d (l .4),
+    work-zero,
+  )
+
+  pub text-zero : {q₂ p₂ t₂ r₂ : List ℕ} → b ≡ false
+      → (q₂ ≡ replicate (length q₁) 0) × (p₂ ≡ replicate (length p₁) 0) × (t₂ ≡ replicate (length t₁) 0) × (r₂ ≡ replicate (length r₁) 0) → TextFilled s i f q p t r w o q₂ p₂ t₂ r₂ w₂
+  text-zero d z = (
+    l .0,
+    kept-not o q (wordsAt s i) told d (ap length (l .1) ∙ length-sets q 0 (wordsAt s i)) (z .0),
+    kept-not o p (patternWords (questionsAt s i .items)) told d (ap length (l .2) ∙ length-sets p 0 (nameIndex s (wordsAt s i) n)) (z .1),
+    kept-not o t (treesStored s i f) told d (ap length (l .3) ∙ length-sets t 0 (treesStored s i f)) (z .2),
+    kept-not o r (recordsStored s i f) told d (ap length (l .4) ∙ length-sets r 0 (recordsStored s i f)) (z .3),
+    work-zero,
+  )

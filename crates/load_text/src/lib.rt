@@ -6,22 +6,15 @@ use link_targets::number_lines;
 use load_questions::fill_all_patterns;
 use load_questions::fill_questions;
 use load_trees::Linked;
+use load_trees::all_linked;
 use load_trees::fill_trees;
 use table_put::zero;
 use table_put::zero_work;
 ghost use mathlib.Core.Path.{_≡_};
-ghost use Prim.Native.Nat.{_+_, _*_, _≤_, _<_};
-ghost use lib.IntN.{pos};
+ghost use Prim.Native.Nat.{_≤_};
 ghost use lib.ListN.{length, replicate};
 ghost use lib.Seq.{sets};
-ghost use Rattle.link_order.specs.Keys.{keyOf, nameKey, nameAt};
-ghost use Rattle.link_sort.specs.Sorted.{sorted};
-ghost use Rattle.link_search.specs.Found.{countFrom};
-ghost use Rattle.tree_question.specs.Questions.{questionsAt};
-ghost use Rattle.tree_body.specs.Trees.{treesAt};
-ghost use Rattle.load_questions.specs.Words.{patternWords, questionWords};
-ghost use Rattle.load_trees.specs.Trees.{workAfter};
-ghost use Rattle.load_text.specs.Text.{Fits, nameIndex, wordsAt, endAt, treesStored, recordsStored, kept};
+ghost use Rattle.load_text.specs.Text.{Fits, nameIndex, TextLinked, TextFilled};
 
 // The rows of n questions, by name and then by row, in front of the table.
 fn index_names(s: &[u8], questions: &[u64], n: usize, patterns: &mut [u64])
@@ -45,7 +38,7 @@ fn link_text(
     work: &mut [i64],
 ) -> Linked
     requires { ⌜ Fits (now s) at first n (length (now questions)) (length (now patterns)) (length (now trees)) (length (now records)) (length (now work)) ⌝ }
-    ensures { λ r. ⌜ (r ≡ endAt (now (s .entry)) at first) × (now (questions .exit) ≡ sets (now (questions .entry)) 0 (wordsAt (now (s .entry)) at)) × (now (patterns .exit) ≡ sets (now (patterns .entry)) 0 (nameIndex (now (s .entry)) (wordsAt (now (s .entry)) at) n)) × (now (trees .exit) ≡ sets (now (trees .entry)) 0 (treesStored (now (s .entry)) at first)) × (now (records .exit) ≡ sets (now (records .entry)) 0 (recordsStored (now (s .entry)) at first)) × (now (work .exit) ≡ workAfter (now (s .entry)) (wordsAt (now (s .entry)) at) n (now (work .entry)) (treesAt (now (s .entry)) first .items)) ⌝ }
+    ensures { λ r. ⌜ TextLinked (now (s .entry)) at first n (now (questions .entry)) (now (patterns .entry)) (now (trees .entry)) (now (records .entry)) (now (work .entry)) r (now (questions .exit)) (now (patterns .exit)) (now (trees .exit)) (now (records .exit)) (now (work .exit)) ⌝ }
 {
     fill_questions(s, at, questions);
     let words = 4 * n;
@@ -84,15 +77,14 @@ pub fn fill_text(
     work: &mut [i64],
 ) -> Linked
     requires { ⌜ Fits (now s) at first n (length (now questions)) (length (now patterns)) (length (now trees)) (length (now records)) (length (now work)) ⌝ }
-    ensures { λ r. ⌜ (r ≡ endAt (now (s .entry)) at first) × (now (questions .exit) ≡ kept r (now (questions .entry)) (wordsAt (now (s .entry)) at)) × (now (patterns .exit) ≡ kept r (now (patterns .entry)) (patternWords (questionsAt (now (s .entry)) at .items))) × (now (trees .exit) ≡ kept r (now (trees .entry)) (treesStored (now (s .entry)) at first)) × (now (records .exit) ≡ kept r (now (records .entry)) (recordsStored (now (s .entry)) at first)) × (now (work .exit) ≡ replicate (length (now (work .entry))) (pos 0)) ⌝ }
+    ensures { λ r. ⌜ TextFilled (now (s .entry)) at first (now (questions .entry)) (now (patterns .entry)) (now (trees .entry)) (now (records .entry)) (now (work .entry)) r (now (questions .exit)) (now (patterns .exit)) (now (trees .exit)) (now (records .exit)) (now (work .exit)) ⌝ }
 {
     let linked = link_text(s, at, first, n, questions, patterns, trees, records, work);
     zero_work(work);
-    match linked {
-        Linked::Done => fill_all_patterns(s, at, patterns),
-        Linked::NodeRef { tree: _, line: _ } => zero_text(questions, patterns, trees, records),
-        Linked::QuestionRef { tree: _, line: _ } => zero_text(questions, patterns, trees, records),
-        Linked::LoneNode { tree: _ } => zero_text(questions, patterns, trees, records),
+    if all_linked(linked) {
+        fill_all_patterns(s, at, patterns);
+    } else {
+        zero_text(questions, patterns, trees, records);
     }
     linked
 }

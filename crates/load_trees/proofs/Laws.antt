@@ -1,4 +1,4 @@
--- One tree, by its head; and trees one after another: what is left, stored, gives the tables with all of them.
+-- One tree, by its head.
 use mathlib.Core.Path.{_≡_, refl, sym, ap, ap₂, _∙_, subst}
 use mathlib.Core.List.{List, [], _∷_, _++_, append-nil}
 use Prim.Native.Nat.{ℕ, suc, _+_, _*_, _≤_, _<_}
@@ -16,7 +16,8 @@ use Rattle.tree_survey.specs.Survey.{bodyRecords, bodyLines}
 use Rattle.load_tree.specs.Bodies.{bodyResult, linesEnd}
 use Rattle.load_tree.specs.declared.Filled.{Filled}
 use Rattle.load_tree.specs.declared.Filled.the-variants.{Done}
-use Rattle.load_trees.specs.Trees.{headState, headBody, headEnd, Whole, leaf, empty, lines, rowWords, workOf}
+use Rattle.load_tree.specs.declared.TreeFill.{TreeFill}
+use Rattle.load_trees.specs.Trees.{headState, headBody, headEnd, Whole, leaf, empty, lines, BodyFilled}
 
 module _ (s : List ℕ) where
   -- ---- a tree whose lines can be read, by its head
@@ -36,27 +37,14 @@ module _ (s : List ℕ) where
 
   -- ---- what a tree's body gives, by its head
 
-  module _ (questions : List ℕ) (n : ℕ) (records : List ℕ) (place : ℕ) (work : List ℤ) where
-    abbrev pub Given : TreeHead → Filled → ℕ → List ℕ → List ℤ → Type 0
-    Given t r e records₁ work₁ =
-        (r ≡ bodyResult s questions n (headBody s t) .ends) × (e ≡ headEnd s t) × (records₁ ≡ sets records place (bodyResult s questions n (headBody s t) .rows)) × (work₁ ≡ workOf s questions n work (headBody s t))
+  module _ (questions : List ℕ) (n first : ℕ) (records : List ℕ) (work : List ℤ) where
+    pub by-head : {t u : TreeHead} {r : TreeFill} {records₁ : List ℕ} {work₁ : List ℤ} → t ≡ u → BodyFilled s questions n u first records work r records₁ work₁ → BodyFilled s questions n t first records work r records₁ work₁
+    by-head {r = r} {records₁ = records₁} {work₁ = work₁} e p = subst (λ t. BodyFilled s questions n t first records work r records₁ work₁) (sym e) p
 
-    pub by-head : {t u : TreeHead} {r : Filled} {k : ℕ} {records₁ : List ℕ} {work₁ : List ℤ} → t ≡ u → Given u r k records₁ work₁ → Given t r k records₁ work₁
-    by-head {r = r} {k = k} {records₁ = records₁} {work₁ = work₁} e p = subst (λ t. Given t r k records₁ work₁) (sym e) p
-
-    pub empty-head : {t : TreeHead} {x : ℤ} {e : ℕ} → t ≡ Empty x e → Given t (Done 0 0) e records work
+    pub empty-head : {t : TreeHead} {x : ℤ} {e : ℕ} → t ≡ Empty x e → BodyFilled s questions n t first records work (record { filled = Done 0 0; next = e }) records work
     unfolding lineWords
     empty-head q = by-head q (refl, refl, refl, refl)
 
-    pub no-head : {t : TreeHead} → t ≡ NoTree → Given t (Done 0 0) 0 records work
+    pub no-head : {t : TreeHead} → t ≡ NoTree → BodyFilled s questions n t first records work (record { filled = Done 0 0; next = 0 }) records work
     unfolding lineWords
     no-head q = by-head q (refl, refl, refl, refl)
-
--- ---- a tree's row
-
-pub row-done : (trees : List ℕ) (k first m n : ℕ) {trees₁ : List ℕ} {x : ℕ} {h t : TreeHead}
-    → trees₁ ≡ sets trees k (x ∷ first ∷ m ∷ n ∷ []) → x ≡ headState h → h ≡ t → trees₁ ≡ sets trees k (headState t ∷ first ∷ m ∷ n ∷ [])
-row-done trees k first m n e q p = e ∙ ap (λ (x : ℕ). sets trees k (x ∷ first ∷ m ∷ n ∷ [])) (q ∙ ap headState p)
-
-pub no-row : (trees : List ℕ) (k first x : ℕ) {r u : Filled} → r ≡ u → rowWords x first u ≡ [] → trees ≡ sets trees k (rowWords x first r)
-no-row trees k first x e q = sym (ap (λ (r : Filled). sets trees k (rowWords x first r)) e ∙ ap (sets trees k) q)

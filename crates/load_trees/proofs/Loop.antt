@@ -26,10 +26,13 @@ use Rattle.load_lines.specs.Words.{lineWords}
 use Rattle.load_tree.specs.Bodies.{Result, bodyResult, placeOf, linesEnd}
 use Rattle.load_tree.specs.declared.Filled.{Filled}
 use Rattle.load_tree.specs.declared.Filled.the-variants as filled
+use Rattle.load_tree.specs.declared.TreeFill.{TreeFill}
 use Rattle.load_tree.proofs.Laws.{lines-size, lone-size}
 use Rattle.load_trees.specs.declared.Linked.{Linked}
-use Rattle.load_trees.specs.declared.Linked.the-variants.{Done}
-use Rattle.load_trees.specs.Trees.{headState, headBody, headEnd, Whole, Through, leaf, empty, lines, rowWords, workOf, endedAt, thenRest, treesEnd, treeWords, recordWords, workAfter}
+use Rattle.load_trees.specs.declared.Linked.the-variants.{Done, NodeRef, QuestionRef, LoneNode}
+use Rattle.load_trees.specs.declared.Following.{Following}
+use Rattle.load_trees.specs.declared.Following.the-variants as following
+use Rattle.load_trees.specs.Trees.{headState, headBody, headEnd, Whole, Through, leaf, empty, lines, rowWords, workOf, endedAt, followsStep, followsAt, thenRest, treesEnd, treeWords, recordWords, workAfter, TreeFilled, TreesFilled}
 
 -- ---- the largest of a list
 
@@ -180,40 +183,32 @@ module _ (s : List ℕ) where
     body-size (lone r) h = lone-size s q n r h
     body-size (braces ls) h = lines-size s q n ls h
 
-    -- what is stored of the tree at i
-    abbrev pub Stored : List ℕ → List ℕ → List ℤ → ℕ → ℕ → ℕ → Filled → ℕ → List ℕ → List ℕ → List ℤ → Type 0
-    Stored trees records work i row first r e trees₁ records₁ work₁ =
-        (r ≡ bodyResult s q n (headBody s (headAt s i)) .ends) × (e ≡ headEnd s (headAt s i)) × (trees₁ ≡ sets trees (4 * row) (rowWords (headState (headAt s i)) first r))
-        × (records₁ ≡ sets records (4 * first) (bodyResult s q n (headBody s (headAt s i)) .rows)) × (work₁ ≡ workOf s q n work (headBody s (headAt s i)))
-
     module _ (at : ℕ) (trees₀ records₀ : List ℕ) (work₀ : List ℤ) where
       pub record Filling (trees records : List ℕ) (work : List ℤ) (i row first : ℕ) : Type 0 where
         pub through : Through s i
         pub long : length trees ≡ length trees₀
         pub long-records : length records ≡ length records₀
         pub long-work : length work ≡ length work₀
-        pub room : 4 * row + 4 * length (items i) ≤ length trees₀
+        pub room : 6 * row + 6 * length (items i) ≤ length trees₀
         pub room-records : 4 * first + 4 * total treeRecords (items i) ≤ length records₀
         pub room-work : 6 * largest treeLines 0 (items i) ≤ length work₀
         pub ends : treesEnd s q n row (items i) ≡ treesEnd s q n 0 (items at)
-        pub rows : sets trees (4 * row) (treeWords s q n first (items i)) ≡ sets trees₀ 0 (treeWords s q n 0 (items at))
+        pub rows : sets trees (6 * row) (treeWords s q n first (items i)) ≡ sets trees₀ 0 (treeWords s q n 0 (items at))
         pub stored : sets records (4 * first) (recordWords s q n (items i)) ≡ sets records₀ 0 (recordWords s q n (items at))
         pub left : workAfter s q n work (items i) ≡ workAfter s q n work₀ (items at)
 
       -- what is promised at the end
       abbrev pub Ended : Linked → List ℕ → List ℕ → List ℤ → Type 0
-      Ended r trees records work =
-          (r ≡ treesEnd s q n 0 (items at)) × (trees ≡ sets trees₀ 0 (treeWords s q n 0 (items at))) × (records ≡ sets records₀ 0 (recordWords s q n (items at)))
-          × (work ≡ workAfter s q n work₀ (items at))
+      Ended r trees records work = TreesFilled s q n (items at) trees₀ records₀ work₀ r trees records work
 
-      pub filling-none : Through s at → 4 * length (items at) ≤ length trees₀ → 4 * total treeRecords (items at) ≤ length records₀ → 6 * largest treeLines 0 (items at) ≤ length work₀ → Filling trees₀ records₀ work₀ at 0 0
+      pub filling-none : Through s at → 6 * length (items at) ≤ length trees₀ → 4 * total treeRecords (items at) ≤ length records₀ → 6 * largest treeLines 0 (items at) ≤ length work₀ → Filling trees₀ records₀ work₀ at 0 0
       filling-none z a b c = record { through = z; long = refl; long-records = refl; long-work = refl; room = omega arith; room-records = omega arith; room-work = c; ends = refl; rows = refl; stored = refl; left = refl }
 
       module _ (trees records : List ℕ) (work : List ℤ) (i row first : ℕ) (p : Filling trees records work i row first) where
         w : Went i
         w = went i (p .through)
 
-        pub tree-room : (4 * row + 4 ≤ length trees) × (4 * first + 4 * bodyRecords (headBody s (headAt s i)) ≤ length records) × (6 * bodyLines (headBody s (headAt s i)) ≤ length work)
+        pub tree-room : (6 * row + 6 ≤ length trees) × (4 * first + 4 * bodyRecords (headBody s (headAt s i)) ≤ length records) × (6 * bodyLines (headBody s (headAt s i)) ≤ length work)
         unfolding total
         tree-room = (
           omega (arith, p .room, p .long, ap length (w .all)),
@@ -227,12 +222,15 @@ module _ (s : List ℕ) where
         pub tree-whole : Whole s (headAt s i)
         tree-whole = w .facts .whole
 
-        module _ {r : Filled} {place : ℕ} {trees₁ records₁ : List ℕ} {work₁ : List ℤ} (e : Stored trees records work i row first r place trees₁ records₁ work₁) where
+        module _ {t : TreeFill} {trees₁ records₁ : List ℕ} {work₁ : List ℤ} (e : TreeFilled s q n (headAt s i) row first trees records work t trees₁ records₁ work₁) where
+          abbrev r : Filled
+          r = t .filled
+
           pub same-lengths : (length trees₁ ≡ length trees₀) × (length records₁ ≡ length records₀) × (length work₁ ≡ length work₀)
           same-lengths = (
-            ap length (e .2) ∙ length-sets trees (4 * row) (rowWords (headState (headAt s i)) first r) ∙ p .long,
-            ap length (e .3) ∙ length-sets records (4 * first) (bodyResult s q n (headBody s (headAt s i)) .rows) ∙ p .long-records,
-            ap length (e .4) ∙ same (headBody s (headAt s i)) ∙ p .long-work,
+            ap length (e .1) ∙ length-sets trees (6 * row) (rowWords (headState (headAt s i)) first r) ∙ p .long,
+            ap length (e .0 .2) ∙ length-sets records (4 * first) (bodyResult s q n (headBody s (headAt s i)) .rows) ∙ p .long-records,
+            ap length (e .0 .3) ∙ same (headBody s (headAt s i)) ∙ p .long-work,
           )
             where
               same : (b : Body) → length (workOf s q n work b) ≡ length work
@@ -240,29 +238,29 @@ module _ (s : List ℕ) where
               same (braces ls) = length-sets work 0 (lineWords s q n ls)
 
           ends-are : r ≡ bodyResult s q n (w .it .body) .ends
-          ends-are = e .0 ∙ ap (λ (r : Result). r .ends) same-body
+          ends-are = e .0 .0 ∙ ap (λ (r : Result). r .ends) same-body
 
-          rows-are : trees₁ ≡ sets trees (4 * row) (rowWords (natOf (w .it .state)) first (bodyResult s q n (w .it .body) .ends))
-          rows-are = e .2 ∙ ap₂ (λ (x : ℕ) (r : Filled). sets trees (4 * row) (rowWords x first r)) (sym (w .facts .state)) ends-are
+          rows-are : trees₁ ≡ sets trees (6 * row) (rowWords (natOf (w .it .state)) first (bodyResult s q n (w .it .body) .ends))
+          rows-are = e .1 ∙ ap₂ (λ (x : ℕ) (r : Filled). sets trees (6 * row) (rowWords x first r)) (sym (w .facts .state)) ends-are
 
           records-are : records₁ ≡ sets records (4 * first) (bodyResult s q n (w .it .body) .rows)
-          records-are = e .3 ∙ ap (λ (r : Result). sets records (4 * first) (r .rows)) same-body
+          records-are = e .0 .2 ∙ ap (λ (r : Result). sets records (4 * first) (r .rows)) same-body
 
           work-is : work₁ ≡ workOf s q n work (w .it .body)
-          work-is = e .4 ∙ sym (ap (workOf s q n work) (w .facts .body))
+          work-is = e .0 .3 ∙ sym (ap (workOf s q n work) (w .facts .body))
 
           -- the tree has its records, and another follows
-          pub filling-more : {j a k : ℕ} → after.Next j ≡ afterTree s place → r ≡ filled.Done a k → Filling trees₁ records₁ work₁ j (row + 1) (first + a)
+          pub filling-more : {j a k : ℕ} → after.Next j ≡ afterTree s (t .next) → r ≡ filled.Done a k → Filling trees₁ records₁ work₁ j (row + 1) (first + a)
           unfolding total treesEnd treeWords recordWords workAfter
           filling-more {j} {a} {k} f d =
-              let g : after.Next j ≡ afterTree s (headEnd s (headAt s i)) = f ∙ ap (afterTree s) (e .1) in
+              let g : after.Next j ≡ afterTree s (headEnd s (headAt s i)) = f ∙ ap (afterTree s) (e .0 .1) in
               let y = went-next w g in
               let B = w .it .body in
               let R = bodyResult s q n B in
               let E : R .ends ≡ filled.Done a k = sym ends-are ∙ d in
               let z = body-size B E in
               let up : row + 1 ≡ suc row = omega arith in
-              let four : 4 * (row + 1) ≡ 4 * row + 4 = omega arith in
+              let six : 6 * (row + 1) ≡ 6 * row + 6 = omega arith in
               let later : 4 * (first + a) ≡ 4 * first + length (R .rows) = omega (arith, z .1) in
               let all : items i ≡ w .it ∷ items j = w .all ∙ ap (w .it ∷_) y in
               let X = natOf (w .it .state) in
@@ -279,10 +277,10 @@ module _ (s : List ℕ) where
                     ∙ sym (ap (λ (f : Filled). thenRest f (endedAt row f) (λ m. treesEnd s q n (suc row) (items j))) E)
                     ∙ sym (ap (treesEnd s q n row) all) ∙ p .ends;
                 rows =
-                    ap₂ (λ (t : List ℕ) (m : ℕ). sets t m (treeWords s q n (first + a) (items j))) (rows-are ∙ ap (λ (f : Filled). sets trees (4 * row) (rowWords X first f)) E) four
-                    ∙ sets-append trees (4 * row) (X ∷ first ∷ a ∷ k ∷ []) (treeWords s q n (first + a) (items j))
-                    ∙ sym (ap (λ (f : Filled). sets trees (4 * row) (rowWords X first f ++ thenRest f [] (λ m. treeWords s q n (first + m) (items j)))) E)
-                    ∙ sym (ap (λ (ts : List Tree). sets trees (4 * row) (treeWords s q n first ts)) all) ∙ p .rows;
+                    ap₂ (λ (t : List ℕ) (m : ℕ). sets t m (treeWords s q n (first + a) (items j))) (rows-are ∙ ap (λ (f : Filled). sets trees (6 * row) (rowWords X first f)) E) six
+                    ∙ sets-append trees (6 * row) (X ∷ first ∷ a ∷ k ∷ 0 ∷ 0 ∷ []) (treeWords s q n (first + a) (items j))
+                    ∙ sym (ap (λ (f : Filled). sets trees (6 * row) (rowWords X first f ++ thenRest f [] (λ m. treeWords s q n (first + m) (items j)))) E)
+                    ∙ sym (ap (λ (ts : List Tree). sets trees (6 * row) (treeWords s q n first ts)) all) ∙ p .rows;
                 stored =
                     ap₂ (λ (t : List ℕ) (m : ℕ). sets t m (recordWords s q n (items j))) records-are later
                     ∙ sets-append records (4 * first) (R .rows) (recordWords s q n (items j))
@@ -310,9 +308,9 @@ module _ (s : List ℕ) where
                 ap (endedAt row) (sym u) ∙ sym a ∙ ap (λ (f : Filled). thenRest f (endedAt row f) (λ m. treesEnd s q n (suc row) (w .rest))) h ∙ sym (ap (treesEnd s q n row) (w .all)) ∙ p .ends,
                 rows-are
                     ∙ sym
-                    (ap (λ (f : Filled). sets trees (4 * row) (rowWords X first (R .ends) ++ thenRest f [] (λ m. treeWords s q n (first + m) (w .rest)))) (sym h)
-                    ∙ ap (λ (l : List ℕ). sets trees (4 * row) (rowWords X first (R .ends) ++ l)) b ∙ ap (sets trees (4 * row)) (append-nil (rowWords X first (R .ends))))
-                    ∙ sym (ap (λ (ts : List Tree). sets trees (4 * row) (treeWords s q n first ts)) (w .all)) ∙ p .rows,
+                    (ap (λ (f : Filled). sets trees (6 * row) (rowWords X first (R .ends) ++ thenRest f [] (λ m. treeWords s q n (first + m) (w .rest)))) (sym h)
+                    ∙ ap (λ (l : List ℕ). sets trees (6 * row) (rowWords X first (R .ends) ++ l)) b ∙ ap (sets trees (6 * row)) (append-nil (rowWords X first (R .ends))))
+                    ∙ sym (ap (λ (ts : List Tree). sets trees (6 * row) (treeWords s q n first ts)) (w .all)) ∙ p .rows,
                 records-are
                     ∙ sym
                     (ap (λ (f : Filled). sets records (4 * first) (R .rows ++ thenRest f [] (λ m. recordWords s q n (w .rest)))) (sym h)
@@ -321,35 +319,67 @@ module _ (s : List ℕ) where
                 work-is ∙ sym d ∙ ap (λ (f : Filled). thenRest f (workOf s q n work B) (λ m. workAfter s q n (workOf s q n work B) (w .rest))) h ∙ sym (ap (workAfter s q n work) (w .all)) ∙ p .left,
               )
 
-          pub refused-node : {k : ℕ} → r ≡ filled.NodeRef k → Ended (endedAt row r) trees₁ records₁ work₁
+          refused-node : {k : ℕ} → r ≡ filled.NodeRef k → Ended (endedAt row r) trees₁ records₁ work₁
           refused-node {k} h = closing (filled.NodeRef k) (sym h ∙ ends-are) refl refl refl refl (sym h)
 
-          pub refused-question : {k : ℕ} → r ≡ filled.QuestionRef k → Ended (endedAt row r) trees₁ records₁ work₁
+          refused-question : {k : ℕ} → r ≡ filled.QuestionRef k → Ended (endedAt row r) trees₁ records₁ work₁
           refused-question {k} h = closing (filled.QuestionRef k) (sym h ∙ ends-are) refl refl refl refl (sym h)
 
-          pub refused-lone : r ≡ filled.LoneNode → Ended (endedAt row r) trees₁ records₁ work₁
+          refused-lone : r ≡ filled.LoneNode → Ended (endedAt row r) trees₁ records₁ work₁
           refused-lone h = closing filled.LoneNode (sym h ∙ ends-are) refl refl refl refl (sym h)
 
-          last-closed : w .rest ≡ [] → Ended (endedAt row r) trees₁ records₁ work₁
+          -- the last tree has its records
+          closed-last : {a k : ℕ} → after.End ≡ afterTree s (t .next) → r ≡ filled.Done a k → Ended (endedAt row r) trees₁ records₁ work₁
           unfolding treesEnd treeWords recordWords workAfter
-          last-closed y = go r refl
-            where
-              go : (f : Filled) → f ≡ r → Ended (endedAt row r) trees₁ records₁ work₁
-              go (filled.Done a k) h =
-                  closing (filled.Done a k) (h ∙ ends-are) (ap (treesEnd s q n (suc row)) y) (ap (treeWords s q n (first + a)) y) (ap (recordWords s q n) y)
-                  (ap (workAfter s q n (workOf s q n work (w .it .body))) y) h
-              go (filled.NodeRef k) h = refused-node (sym h)
-              go (filled.QuestionRef k) h = refused-question (sym h)
-              go filled.LoneNode h = refused-lone (sym h)
+          closed-last {a} {k} f d =
+              let y = went-last w (f ∙ ap (afterTree s) (e .0 .1)) in
+              closing (filled.Done a k) (sym d ∙ ends-are) (ap (treesEnd s q n (suc row)) y) (ap (treeWords s q n (first + a)) y) (ap (recordWords s q n) y)
+              (ap (workAfter s q n (workOf s q n work (w .it .body))) y) (sym d)
 
           -- another follows, and stands behind this one
-          pub goes-on : {j : ℕ} → after.Next j ≡ afterTree s place → (i < j) × (j ≤ length s)
-          goes-on f = next-inside w (f ∙ ap (afterTree s) (e .1))
-
-          -- the last tree has its records
-          pub closed-last : {a k : ℕ} → after.End ≡ afterTree s place → r ≡ filled.Done a k → Ended Done trees₁ records₁ work₁
-          closed-last f d = subst (λ (o : Linked). Ended o trees₁ records₁ work₁) (ap (endedAt row) d) (last-closed (went-last w (f ∙ ap (afterTree s) (e .1))))
+          goes-on : {j : ℕ} → after.Next j ≡ afterTree s (t .next) → (i < j) × (j ≤ length s)
+          goes-on f = next-inside w (f ∙ ap (afterTree s) (e .0 .1))
 
           -- what follows a tree of a text in the grammar is another, or the end
-          pub never-other : {j : ℕ} → after.Broken j ≡ afterTree s place → {A : Type 0} → A
-          never-other f = went-never w (f ∙ ap (afterTree s) (e .1)) (p .through)
+          never-other : {j : ℕ} → after.Broken j ≡ afterTree s (t .next) → {A : Type 0} → A
+          never-other f = went-never w (f ∙ ap (afterTree s) (e .0 .1)) (p .through)
+
+          -- ---- the two ways on
+
+          -- another tree at j: this one has a records, and that one stands behind it
+          pub filling-on : {j a : ℕ} {x : Following} → x ≡ followsAt s row (t .next) r → x ≡ following.Tree j a → Filling trees₁ records₁ work₁ j (row + 1) (first + a) × (i < j) × (j ≤ length s)
+          filling-on {j} {a} {x} f g = go r refl (sym g ∙ f)
+            where
+              step : (k b : ℕ) → r ≡ filled.Done b k → (m : TreeStep) → m ≡ afterTree s (t .next) → following.Tree j a ≡ followsStep b m → Filling trees₁ records₁ work₁ j (row + 1) (first + a) × (i < j) × (j ≤ length s)
+              step k b d (after.Next l) u h =
+                  let y : l ≡ j = cc in
+                  let z : b ≡ a = cc in
+                  let v : after.Next j ≡ afterTree s (t .next) = ap after.Next (sym y) ∙ u in
+                  let g = goes-on v in
+                  (filling-more v (d ∙ ap (λ (b : ℕ). filled.Done b k) z), g .0, g .1)
+              step k b d after.End u h = let z : _≡_ {A = ℕ} 0 1 = cc in absurd (omega arith)
+              step k b d (after.Broken l) u h = let z : _≡_ {A = ℕ} 0 1 = cc in absurd (omega arith)
+
+              go : (y : Filled) → r ≡ y → following.Tree j a ≡ followsAt s row (t .next) r → Filling trees₁ records₁ work₁ j (row + 1) (first + a) × (i < j) × (j ≤ length s)
+              go (filled.Done b k) d h = step k b d (afterTree s (t .next)) refl (h ∙ ap (followsAt s row (t .next)) d)
+              go (filled.NodeRef k) d h = let v = h ∙ ap (followsAt s row (t .next)) d in let z : _≡_ {A = ℕ} 0 1 = cc in absurd (omega arith)
+              go (filled.QuestionRef k) d h = let v = h ∙ ap (followsAt s row (t .next)) d in let z : _≡_ {A = ℕ} 0 1 = cc in absurd (omega arith)
+              go filled.LoneNode d h = let v = h ∙ ap (followsAt s row (t .next)) d in let z : _≡_ {A = ℕ} 0 1 = cc in absurd (omega arith)
+
+          -- linking ends
+          pub filling-ends : {o : Linked} {x : Following} → x ≡ followsAt s row (t .next) r → x ≡ following.End o → Ended o trees₁ records₁ work₁
+          filling-ends {o} {x} f g = go r refl (sym g ∙ f)
+            where
+              ends-so : {u : Linked} → o ≡ u → Ended u trees₁ records₁ work₁ → Ended o trees₁ records₁ work₁
+              ends-so v z = subst (λ (o : Linked). Ended o trees₁ records₁ work₁) (sym v) z
+
+              step : (k b : ℕ) → r ≡ filled.Done b k → (m : TreeStep) → m ≡ afterTree s (t .next) → following.End o ≡ followsStep b m → Ended o trees₁ records₁ work₁
+              step k b d (after.Next l) u h = let z : _≡_ {A = ℕ} 0 1 = cc in absurd (omega arith)
+              step k b d after.End u h = let z : o ≡ Done = cc in ends-so (z ∙ sym (ap (endedAt row) d)) (closed-last u d)
+              step k b d (after.Broken l) u h = never-other u
+
+              go : (y : Filled) → r ≡ y → following.End o ≡ followsAt s row (t .next) r → Ended o trees₁ records₁ work₁
+              go (filled.Done b k) d h = step k b d (afterTree s (t .next)) refl (h ∙ ap (followsAt s row (t .next)) d)
+              go (filled.NodeRef k) d h = let v = h ∙ ap (followsAt s row (t .next)) d in let z : o ≡ NodeRef row k = cc in ends-so (z ∙ sym (ap (endedAt row) d)) (refused-node d)
+              go (filled.QuestionRef k) d h = let v = h ∙ ap (followsAt s row (t .next)) d in let z : o ≡ QuestionRef row k = cc in ends-so (z ∙ sym (ap (endedAt row) d)) (refused-question d)
+              go filled.LoneNode d h = let v = h ∙ ap (followsAt s row (t .next)) d in let z : o ≡ LoneNode row = cc in ends-so (z ∙ sym (ap (endedAt row) d)) (refused-lone d)

@@ -1,24 +1,36 @@
--- The trees of a text as words of the tables, tree after tree up to the first that linking refuses: tree rows (state, first record, records, lines),
--- records of four words, and what is left in the work.
+-- The trees of a text as words of the tables, tree after tree up to the first that linking refuses: tree rows (state, first record, records, lines, and 0, 0
+-- until the block is read), records of four words, and what is left in the work.
 use mathlib.Core.Path.{_≡_}
+use mathlib.Core.Bool.{Bool, true, false}
 use mathlib.Core.List.{List, [], _∷_, _++_}
-use Prim.Native.Nat.{ℕ, suc, _+_}
+use Prim.Native.Nat.{ℕ, suc, _+_, _*_}
 use lib.IntN.{ℤ}
 use lib.ListN.{length}
 use lib.Seq.{sets}
 use Rattle.laws.specs.Steps.{doneAt}
 use Rattle.tree_reference.specs.declared.TreeIndex.{TreeIndex}
 use Rattle.tree_line.specs.Lines.{linesAt}
-use Rattle.tree_body.specs.Trees.{Body, lone, braces, Tree, treesAt}
+use Rattle.tree_body.specs.Trees.{Body, lone, braces, Tree, afterTree, treesAt}
 use Rattle.tree_body.specs.declared.TreeHead.{TreeHead}
 use Rattle.tree_body.specs.declared.TreeHead.the-variants.{Lone, Empty, Lines, NoTree}
+use Rattle.tree_body.specs.declared.TreeStep.{TreeStep}
+use Rattle.tree_body.specs.declared.TreeStep.the-variants as after
 use Rattle.link_targets.specs.Lines.{natOf}
 use Rattle.load_lines.specs.Words.{lineWords}
 use Rattle.load_tree.specs.Bodies.{Result, bodyResult, linesEnd}
 use Rattle.load_tree.specs.declared.Filled.{Filled}
 use Rattle.load_tree.specs.declared.Filled.the-variants as filled
+use Rattle.load_tree.specs.declared.TreeFill.{TreeFill}
 use Rattle.load_trees.specs.declared.Linked.{Linked}
 use Rattle.load_trees.specs.declared.Linked.the-variants.{Done, NodeRef, QuestionRef, LoneNode}
+use Rattle.load_trees.specs.declared.Following.{Following}
+use Rattle.load_trees.specs.declared.Following.the-variants as following
+
+abbrev pub allLinked : Linked → Bool
+allLinked Done = true
+allLinked (NodeRef i k) = false
+allLinked (QuestionRef i k) = false
+allLinked (LoneNode i) = false
 
 -- ---- a tree by its head
 
@@ -56,7 +68,7 @@ pub record Through (s : List ℕ) (i : ℕ) : Type 0 where
 
 -- its row, where f is its first record; none where it is refused
 abbrev pub rowWords : ℕ → ℕ → Filled → List ℕ
-rowWords x f (filled.Done m n) = x ∷ f ∷ m ∷ n ∷ []
+rowWords x f (filled.Done m n) = x ∷ f ∷ m ∷ n ∷ 0 ∷ 0 ∷ []
 rowWords x f (filled.NodeRef k) = []
 rowWords x f (filled.QuestionRef k) = []
 rowWords x f filled.LoneNode = []
@@ -71,6 +83,18 @@ endedAt k (filled.Done m n) = Done
 endedAt k (filled.NodeRef j) = NodeRef k j
 endedAt k (filled.QuestionRef j) = QuestionRef k j
 endedAt k filled.LoneNode = LoneNode k
+
+-- what follows tree k, which has m records; and which ended so before the place e
+abbrev pub followsStep : ℕ → TreeStep → Following
+followsStep m (after.Next j) = following.Tree j m
+followsStep m after.End = following.End Done
+followsStep m (after.Broken j) = following.End Done
+
+abbrev pub followsAt : List ℕ → ℕ → ℕ → Filled → Following
+followsAt s k e (filled.Done m n) = followsStep m (afterTree s e)
+followsAt s k e (filled.NodeRef j) = following.End (NodeRef k j)
+followsAt s k e (filled.QuestionRef j) = following.End (QuestionRef k j)
+followsAt s k e filled.LoneNode = following.End (LoneNode k)
 
 -- ---- one tree after another; a tree that is refused is the last
 
@@ -103,3 +127,21 @@ module _ (s questions : List ℕ) (n : ℕ) where
   unfoldable pub workAfter : List ℤ → List Tree → List ℤ
   workAfter w [] = w
   workAfter w (t ∷ ts) = thenRest (treeResult t .ends) (workOf s questions n w (t .body)) (λ m. workAfter (workOf s questions n w (t .body)) ts)
+
+  -- ---- what filling leaves
+
+  -- how a tree of this head ended and the place past it; its records, from record `first` on; the work
+  abbrev pub BodyFilled : TreeHead → ℕ → List ℕ → List ℤ → TreeFill → List ℕ → List ℤ → Type 0
+  BodyFilled h first records work r records₁ work₁ =
+      (r .filled ≡ bodyResult s questions n (headBody s h) .ends) × (r .next ≡ headEnd s h)
+      × (records₁ ≡ sets records (4 * first) (bodyResult s questions n (headBody s h) .rows)) × (work₁ ≡ workOf s questions n work (headBody s h))
+
+  -- and its row
+  abbrev pub TreeFilled : TreeHead → ℕ → ℕ → List ℕ → List ℕ → List ℤ → TreeFill → List ℕ → List ℕ → List ℤ → Type 0
+  TreeFilled h row first trees records work r trees₁ records₁ work₁ =
+      BodyFilled h first records work r records₁ work₁ × (trees₁ ≡ sets trees (6 * row) (rowWords (headState h) first (r .filled)))
+
+  -- all trees, into the tables from their fronts on
+  abbrev pub TreesFilled : List Tree → List ℕ → List ℕ → List ℤ → Linked → List ℕ → List ℕ → List ℤ → Type 0
+  TreesFilled ts trees records work r trees₁ records₁ work₁ =
+      (r ≡ treesEnd 0 ts) × (trees₁ ≡ sets trees 0 (treeWords 0 ts)) × (records₁ ≡ sets records 0 (recordWords ts)) × (work₁ ≡ workAfter work ts)

@@ -7,7 +7,7 @@ use load_tree::Filled;
 use load_tree::TreeFill;
 use load_tree::fill_braces;
 use load_tree::fill_leaf;
-use table_put::put4;
+use table_put::put_tree;
 use tree_body::TreeHead;
 use tree_body::TreeStep;
 use tree_body::after_tree;
@@ -21,8 +21,7 @@ ghost use Rattle.link_order.specs.Keys.{nameKey, nameAt};
 ghost use Rattle.link_search.specs.Index.{Index};
 ghost use Rattle.tree_body.specs.Trees.{headAt, treesAt};
 ghost use Rattle.tree_survey.specs.Survey.{bodyRecords, bodyLines, treeRecords, treeLines};
-ghost use Rattle.load_tree.specs.Bodies.{bodyResult};
-ghost use Rattle.load_trees.specs.Trees.{headState, headBody, headEnd, Whole, Through, rowWords, workOf, endedAt, treesEnd, treeWords, recordWords, workAfter};
+ghost use Rattle.load_trees.specs.Trees.{allLinked, headState, headBody, Whole, Through, rowWords, endedAt, followsAt, BodyFilled, TreeFilled, TreesFilled};
 
 // How linking ends: all trees have their records; or the first that is refused, and the line.
 pub enum Linked {
@@ -30,6 +29,24 @@ pub enum Linked {
     NodeRef { tree: usize, line: usize },
     QuestionRef { tree: usize, line: usize },
     LoneNode { tree: usize },
+}
+
+// What follows a tree that was filled: another tree, where this one has so many records; or linking ends.
+enum Following {
+    Tree { at: usize, records: usize },
+    End(Linked),
+}
+
+// Whether all trees have their records.
+pub fn all_linked(linked: Linked) -> bool
+    ensures { λ r. ⌜ r ≡ allLinked linked ⌝ }
+{
+    match linked {
+        Linked::Done => true,
+        Linked::NodeRef { tree: _, line: _ } => false,
+        Linked::QuestionRef { tree: _, line: _ } => false,
+        Linked::LoneNode { tree: _ } => false,
+    }
 }
 
 fn state_of(head: TreeHead) -> u64
@@ -60,7 +77,7 @@ fn fill_body(
     requires { ⌜ Index (λ e. nameKey (nameAt (now s) (now questions) e)) (now index) × (length (now index) < 2 ^ 62) ⌝ }
     requires { ⌜ Whole (now s) head ⌝ }
     requires { ⌜ (4 * first + 4 * bodyRecords (headBody (now s) head) ≤ length (now records)) × (6 * bodyLines (headBody (now s) head) ≤ length (now work)) ⌝ }
-    ensures { λ r. ⌜ (r .filled ≡ bodyResult (now (s .entry)) (now (questions .entry)) (length (now (index .entry))) (headBody (now (s .entry)) head) .ends) × (r .next ≡ headEnd (now (s .entry)) head) × (now (records .exit) ≡ sets (now (records .entry)) (4 * first) (bodyResult (now (s .entry)) (now (questions .entry)) (length (now (index .entry))) (headBody (now (s .entry)) head) .rows)) × (now (work .exit) ≡ workOf (now (s .entry)) (now (questions .entry)) (length (now (index .entry))) (now (work .entry)) (headBody (now (s .entry)) head)) ⌝ }
+    ensures { λ r. ⌜ BodyFilled (now (s .entry)) (now (questions .entry)) (length (now (index .entry))) head first (now (records .entry)) (now (work .entry)) r (now (records .exit)) (now (work .exit)) ⌝ }
 {
     match head {
         TreeHead::Lone {
@@ -92,6 +109,28 @@ fn fill_body(
     }
 }
 
+// The row of a tree that has its records; none where it is refused.
+fn put_row(trees: &mut [u64], row: usize, state: u64, first: usize, filled: Filled)
+    requires { ⌜ 6 * row + 6 ≤ length (now trees) ⌝ }
+    ensures { λ r. ⌜ now (trees .exit) ≡ sets (now (trees .entry)) (6 * row) (rowWords state first filled) ⌝ }
+{
+    match filled {
+        Filled::Done { records, lines } => {
+            put_tree(
+                trees,
+                row,
+                state,
+                first as u64,
+                records as u64,
+                lines as u64,
+            );
+        }
+        Filled::NodeRef(_) => {}
+        Filled::QuestionRef(_) => {}
+        Filled::LoneNode => {}
+    }
+}
+
 // The tree at `at`: its records from record `first` on, and its row.
 fn fill_tree(
     s: &[u8],
@@ -106,24 +145,14 @@ fn fill_tree(
 ) -> TreeFill
     requires { ⌜ Index (λ e. nameKey (nameAt (now s) (now questions) e)) (now index) × (length (now index) < 2 ^ 62) ⌝ }
     requires { ⌜ Whole (now s) (headAt (now s) at) ⌝ }
-    requires { ⌜ (4 * row + 4 ≤ length (now trees)) × (4 * first + 4 * bodyRecords (headBody (now s) (headAt (now s) at)) ≤ length (now records)) × (6 * bodyLines (headBody (now s) (headAt (now s) at)) ≤ length (now work)) ⌝ }
-    ensures { λ r. ⌜ (r .filled ≡ bodyResult (now (s .entry)) (now (questions .entry)) (length (now (index .entry))) (headBody (now (s .entry)) (headAt (now (s .entry)) at)) .ends) × (r .next ≡ headEnd (now (s .entry)) (headAt (now (s .entry)) at)) × (now (trees .exit) ≡ sets (now (trees .entry)) (4 * row) (rowWords (headState (headAt (now (s .entry)) at)) first (r .filled))) × (now (records .exit) ≡ sets (now (records .entry)) (4 * first) (bodyResult (now (s .entry)) (now (questions .entry)) (length (now (index .entry))) (headBody (now (s .entry)) (headAt (now (s .entry)) at)) .rows)) × (now (work .exit) ≡ workOf (now (s .entry)) (now (questions .entry)) (length (now (index .entry))) (now (work .entry)) (headBody (now (s .entry)) (headAt (now (s .entry)) at))) ⌝ }
+    requires { ⌜ (6 * row + 6 ≤ length (now trees)) × (4 * first + 4 * bodyRecords (headBody (now s) (headAt (now s) at)) ≤ length (now records)) × (6 * bodyLines (headBody (now s) (headAt (now s) at)) ≤ length (now work)) ⌝ }
+    ensures { λ r. ⌜ TreeFilled (now (s .entry)) (now (questions .entry)) (length (now (index .entry))) (headAt (now (s .entry)) at) row first (now (trees .entry)) (now (records .entry)) (now (work .entry)) r (now (trees .exit)) (now (records .exit)) (now (work .exit)) ⌝ }
 {
     let head = tree_head(s, at);
     let state = state_of(head);
     let t = fill_body(s, head, questions, index, records, first, work);
     let filled = t.filled;
-    match filled {
-        Filled::Done {
-            records: m,
-            lines: n,
-        } => {
-            put4(trees, 4 * row, state, first as u64, m as u64, n as u64);
-        }
-        Filled::NodeRef(_) => {}
-        Filled::QuestionRef(_) => {}
-        Filled::LoneNode => {}
-    }
+    put_row(trees, row, state, first, filled);
     t
 }
 
@@ -142,6 +171,23 @@ fn ended(row: usize, filled: Filled) -> Linked
     }
 }
 
+// What follows tree `row`, which ended so before the place `next`.
+fn what_follows(s: &[u8], row: usize, filled: Filled, next: usize) -> Following
+    ensures { λ r. ⌜ r ≡ followsAt (now (s .entry)) row next filled ⌝ }
+{
+    match filled {
+        Filled::Done { records, lines: _ } => match after_tree(s, next) {
+            TreeStep::Next(at) => Following::Tree { at, records },
+            TreeStep::End => Following::End(Linked::Done),
+            // never, of a text in the grammar
+            TreeStep::Broken(_) => Following::End(Linked::Done),
+        },
+        Filled::NodeRef(_) => Following::End(ended(row, filled)),
+        Filled::QuestionRef(_) => Following::End(ended(row, filled)),
+        Filled::LoneNode => Following::End(ended(row, filled)),
+    }
+}
+
 // The trees from the first one's place on, into the tables from their fronts on; the lines of a tree stand in the work meanwhile.
 pub fn fill_trees(
     s: &[u8],
@@ -154,8 +200,8 @@ pub fn fill_trees(
 ) -> Linked
     requires { ⌜ Index (λ e. nameKey (nameAt (now s) (now questions) e)) (now index) × (length (now index) < 2 ^ 62) ⌝ }
     requires { ⌜ Through (now s) at ⌝ }
-    requires { ⌜ (4 * length (treesAt (now s) at .items) ≤ length (now trees)) × (4 * total treeRecords (treesAt (now s) at .items) ≤ length (now records)) × (6 * largest treeLines 0 (treesAt (now s) at .items) ≤ length (now work)) ⌝ }
-    ensures { λ r. ⌜ (r ≡ treesEnd (now (s .entry)) (now (questions .entry)) (length (now (index .entry))) 0 (treesAt (now (s .entry)) at .items)) × (now (trees .exit) ≡ sets (now (trees .entry)) 0 (treeWords (now (s .entry)) (now (questions .entry)) (length (now (index .entry))) 0 (treesAt (now (s .entry)) at .items))) × (now (records .exit) ≡ sets (now (records .entry)) 0 (recordWords (now (s .entry)) (now (questions .entry)) (length (now (index .entry))) (treesAt (now (s .entry)) at .items))) × (now (work .exit) ≡ workAfter (now (s .entry)) (now (questions .entry)) (length (now (index .entry))) (now (work .entry)) (treesAt (now (s .entry)) at .items)) ⌝ }
+    requires { ⌜ (6 * length (treesAt (now s) at .items) ≤ length (now trees)) × (4 * total treeRecords (treesAt (now s) at .items) ≤ length (now records)) × (6 * largest treeLines 0 (treesAt (now s) at .items) ≤ length (now work)) ⌝ }
+    ensures { λ r. ⌜ TreesFilled (now (s .entry)) (now (questions .entry)) (length (now (index .entry))) (treesAt (now (s .entry)) at .items) (now (trees .entry)) (now (records .entry)) (now (work .entry)) r (now (trees .exit)) (now (records .exit)) (now (work .exit)) ⌝ }
 {
     let mut i = at;
     let mut row = 0;
@@ -163,32 +209,17 @@ pub fn fill_trees(
     loop {
         let t = fill_tree(s, i, questions, index, trees, row, records, first, work);
         let filled = t.filled;
-        match filled {
-            Filled::Done {
+        match what_follows(s, row, filled, t.next) {
+            Following::Tree {
+                at: next,
                 records: m,
-                lines: _,
-            } => match after_tree(s, t.next) {
-                TreeStep::Next(next) => {
-                    first = first + m;
-                    row = row + 1;
-                    i = next;
-                }
-                TreeStep::End => {
-                    return Linked::Done;
-                }
-                // never, of a text in the grammar
-                TreeStep::Broken(_) => {
-                    return Linked::Done;
-                }
-            },
-            Filled::NodeRef(_) => {
-                return ended(row, filled);
+            } => {
+                first = first + m;
+                row = row + 1;
+                i = next;
             }
-            Filled::QuestionRef(_) => {
-                return ended(row, filled);
-            }
-            Filled::LoneNode => {
-                return ended(row, filled);
+            Following::End(linked) => {
+                return linked;
             }
         }
     }

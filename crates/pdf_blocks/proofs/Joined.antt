@@ -1,4 +1,4 @@
--- `blockAt`, `blockRows` and `valuesAt` are `written`'s `Block`, both ways, over any bytes.
+-- `blockAt`, the counts and `valuesAt` are `written`'s `Block`, both ways, over any bytes.
 use mathlib.Core.Path.{_≡_, refl, sym, ap, ap₂, _∙_, subst}
 use mathlib.Core.Bool.{Bool, true, false, cond, _&&_}
 use mathlib.Core.List.{List, [], _∷_, _++_, map, append-nil, append-assoc}
@@ -16,7 +16,7 @@ use Rattle.written.proofs.OneFile.{append-same}
 use Rattle.pdf_widen.specs.Widening.{widenOf}
 use Rattle.pdf_blocks.specs.declared.Block.the-variants.{Fits, Wrong}
 use Rattle.pdf_blocks.proofs.Counts.{block-fits}
-use Rattle.pdf_blocks.specs.Values.{wordAt, wordsAt, blockAt, blockRows, valueAt, pairsAt, entryAt, valuesAt}
+use Rattle.pdf_blocks.specs.Values.{wordAt, wordsAt, blockAt, valueAt, pairsAt, entryAt, valuesAt}
 
 -- every number of a list is a byte
 abbrev pub Small : List ℕ → Type 0
@@ -25,15 +25,11 @@ Small s = (k : ℕ) → getD s k 0 < 0x100
 abbrev widened : ℕ → ℕ
 widened = widenOf 8 23 11 52
 
--- the rows as a table has them
-unfoldable pub flatRows : List Row → List ℕ
-flatRows [] = []
-flatRows (r ∷ rs) = r .first ∷ r .entries ∷ flatRows rs
-
-pub rows-flat : (w first : ℕ) (cs : List ℕ) → flatRows (rowsFrom w first cs) ≡ blockRows w first cs
-unfolding flatRows rowsFrom blockRows
-rows-flat w first [] = refl
-rows-flat w first (c ∷ cs) = ap (λ l. first ∷ c ∷ l) (rows-flat w (first + c * w) cs)
+-- a row for each count
+pub length-rows : (w first : ℕ) (cs : List ℕ) → length (rowsFrom w first cs) ≡ length cs
+unfolding rowsFrom
+length-rows w first [] = refl
+length-rows w first (c ∷ cs) = ap suc (length-rows w (first + c * w) cs)
 
 nil : (l : List ℕ) → length l ≡ 0 → l ≡ []
 nil [] h = refl
@@ -188,7 +184,7 @@ module _ (s : List ℕ) (small : Small s) (t w i : ℕ) where
 
   -- and where its bytes say rows and values, it fits, and just these are read
   pub block-read : {rows : List Row} {values : List ℕ} → Block widened t w (drop i s) rows values
-      → (Fits (total (wordsAt s i t)) ≡ blockAt t w s i) × (flatRows rows ≡ blockRows w 0 (wordsAt s i t)) × (values ≡ valuesAt s (i + 4 * t) w (total (wordsAt s i t)))
+      → (Fits (total (wordsAt s i t)) ≡ blockAt t w s i) × (rows ≡ rowsFrom w 0 (wordsAt s i t)) × (values ≡ valuesAt s (i + 4 * t) w (total (wordsAt s i t)))
   block-read {rows} {values} b =
       let T = total (b .counts) in
       let long : length (b .counts ++ b .written) ≡ t + T * w = length-append (b .counts) (b .written) ∙ ap₂ (λ (x y : ℕ). x + y) (b .per-tree) (laid-length (b .laid)) in
@@ -198,4 +194,4 @@ module _ (s : List ℕ) (small : Small s) (t w i : ℕ) where
       let sums : T ≡ sum = ap total (sym (split .0)) in
       let fits = block-fits t w s i (omega arith) (size ∙ ap (λ (k : ℕ). 4 * (t + k * w)) sums) (λ z. sym sums ∙ b .width z) in
       let one = block-one b (fits-block fits .1) in
-      (fits, ap flatRows (one .0) ∙ rows-flat w 0 counts, one .1)
+      (fits, one .0, one .1)

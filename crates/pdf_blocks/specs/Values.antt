@@ -1,4 +1,4 @@
--- A PDF block read by position: words, counts, rows and values (01, 'PDF blocks').
+-- A PDF block read by position: words, counts and values (01, 'PDF blocks').
 use mathlib.Core.Bool.{Bool, true, false, cond, _&&_}
 use mathlib.Core.List.{List, [], _∷_, _++_}
 use Prim.Native.Nat.{ℕ, zero, suc, _+_, _-_, _*_, _/_, _%_}
@@ -28,11 +28,6 @@ blockAt t w s i =
     Wrong
 
 -- ---- what it says
-
--- (first value, entries) of each tree
-unfoldable pub blockRows : ℕ → ℕ → List ℕ → List ℕ
-blockRows w first [] = []
-blockRows w first (c ∷ cs) = first ∷ c ∷ blockRows w (first + c * w) cs
 
 -- the binary64 pattern of the binary32 at i
 abbrev pub valueAt : List ℕ → ℕ → ℕ

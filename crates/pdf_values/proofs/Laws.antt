@@ -1,4 +1,4 @@
--- Pairs, entries and rows stored one after the other: what is left, stored, gives the table with all of them.
+-- Pairs, entries and block rows stored one after the other: what is left, stored, gives the table with all of them.
 use mathlib.Core.Path.{_≡_, refl, sym, ap, ap₂, _∙_, subst}
 use mathlib.Core.Bool.{Bool, true, false, cond}
 use mathlib.Core.List.{List, [], _∷_, _++_, append-nil}
@@ -10,9 +10,10 @@ use borrow.Author.Tests.{eqb-true, eqb-false}
 use lib.Dec.{eqb}
 use lib.ListN.{length, set, length-append}
 use lib.Seq.{sets, length-sets}
-use Rattle.written.specs.Blocks.{total}
+use Rattle.written.specs.Blocks.{total, rowsFrom}
 use Rattle.laws.proofs.Tables.{sets-append}
-use Rattle.pdf_blocks.specs.Values.{wordAt, wordsAt, blockRows, valueAt, pairsAt, entryAt, valuesAt}
+use Rattle.pdf_blocks.specs.Values.{wordAt, wordsAt, valueAt, pairsAt, entryAt, valuesAt}
+use Rattle.pdf_values.specs.Folded.{withBlocks}
 
 -- ---- lengths
 
@@ -155,45 +156,45 @@ words-on s i n k h =
     let a : i + 4 * k + 4 ≡ i + 4 * (k + 1) = omega arith in
     ap (wordsAt s (i + 4 * k)) d ∙ ap (λ (j : ℕ). wordAt s (i + 4 * k) ∷ wordsAt s j (n - (k + 1))) a
 
-module _ (s : List ℕ) (at trees w : ℕ) (blocks₀ : List ℕ) where
-  pub record Tabling (blocks : List ℕ) (k first : ℕ) : Type 0 where
-    pub within : k ≤ trees
-    pub long : length blocks ≡ length blocks₀
-    pub sum : first + total (wordsAt s (at + 4 * k) (trees - k)) * w ≡ total (wordsAt s at trees) * w
-    pub stored : sets blocks (2 * k) (blockRows w first (wordsAt s (at + 4 * k) (trees - k))) ≡ sets blocks₀ 0 (blockRows w 0 (wordsAt s at trees))
+module _ (s : List ℕ) (at count w : ℕ) (trees₀ : List ℕ) where
+  -- row k is the next, and `first` the first value of its tree
+  pub record Setting (trees : List ℕ) (k first : ℕ) : Type 0 where
+    pub within : k ≤ count
+    pub long : length trees ≡ length trees₀
+    pub sum : first + total (wordsAt s (at + 4 * k) (count - k)) * w ≡ total (wordsAt s at count) * w
+    pub stored : withBlocks trees k (rowsFrom w first (wordsAt s (at + 4 * k) (count - k))) ≡ withBlocks trees₀ 0 (rowsFrom w 0 (wordsAt s at count))
 
-  pub table-none : Tabling blocks₀ 0 0
-  table-none =
+  pub set-none : Setting trees₀ 0 0
+  set-none =
       let b : at + 4 * 0 ≡ at = omega arith in
-      let d : trees - 0 ≡ trees = omega arith in
+      let d : count - 0 ≡ count = omega arith in
       record { within = omega arith; long = refl; sum = rw (b, d) (omega arith); stored = rw (b, d) }
 
-  module _ (blocks : List ℕ) (k first : ℕ) (p : Tabling blocks k first) (h : k < trees) (e : ℕ) (ee : e ≡ wordAt s (at + 4 * k)) where
-    row-parts : total (wordsAt s (at + 4 * k) (trees - k)) * w ≡ e * w + total (wordsAt s (at + 4 * (k + 1)) (trees - (k + 1))) * w
+  module _ (trees : List ℕ) (k first : ℕ) (p : Setting trees k first) (h : k < count) (e : ℕ) (ee : e ≡ wordAt s (at + 4 * k)) where
+    row-parts : total (wordsAt s (at + 4 * k) (count - k)) * w ≡ e * w + total (wordsAt s (at + 4 * (k + 1)) (count - (k + 1))) * w
     unfolding total
-    row-parts = ap (λ (l : List ℕ). total l * w) (words-on s at trees k h) ∙ ap (λ (x : ℕ). (x + total (wordsAt s (at + 4 * (k + 1)) (trees - (k + 1)))) * w) (sym ee) ∙ add-mul e (total (wordsAt s (at + 4 * (k + 1)) (trees - (k + 1)))) w
+    row-parts = ap (λ (l : List ℕ). total l * w) (words-on s at count k h) ∙ ap (λ (x : ℕ). (x + total (wordsAt s (at + 4 * (k + 1)) (count - (k + 1)))) * w) (sym ee) ∙ add-mul e (total (wordsAt s (at + 4 * (k + 1)) (count - (k + 1)))) w
 
     -- what is added stays within the whole
-    pub row-room : first + e * w ≤ total (wordsAt s at trees) * w
+    pub row-room : first + e * w ≤ total (wordsAt s at count) * w
     row-room = omega (arith, row-parts, p .sum)
 
-    pub table-more : (blocks₁ : List ℕ) → blocks₁ ≡ sets blocks (2 * k) (first ∷ e ∷ []) → Tabling blocks₁ (k + 1) (first + e * w)
-    unfolding blockRows
-    table-more blocks₁ q =
-        let rest = wordsAt s (at + 4 * (k + 1)) (trees - (k + 1)) in
-        let a : 2 * (k + 1) ≡ 2 * k + 2 = omega arith in
+    pub set-more : (trees₁ : List ℕ) → trees₁ ≡ sets trees (6 * k + 4) (first ∷ e ∷ []) → Setting trees₁ (k + 1) (first + e * w)
+    unfolding withBlocks rowsFrom
+    set-more trees₁ q =
+        let rest = wordsAt s (at + 4 * (k + 1)) (count - (k + 1)) in
         record {
           within = omega arith;
-          long = ap length q ∙ length-sets blocks (2 * k) (first ∷ e ∷ []) ∙ p .long;
+          long = ap length q ∙ length-sets trees (6 * k + 4) (first ∷ e ∷ []) ∙ p .long;
           sum = omega (arith, row-parts, p .sum);
           stored =
-              ap₂ (λ l n. sets l n (blockRows w (first + e * w) rest)) q a ∙ sets-append blocks (2 * k) (first ∷ e ∷ []) (blockRows w (first + e * w) rest)
-              ∙ ap (λ (x : ℕ). sets blocks (2 * k) (first ∷ x ∷ blockRows w (first + x * w) rest)) ee
-              ∙ sym (ap (λ (l : List ℕ). sets blocks (2 * k) (blockRows w first l)) (words-on s at trees k h)) ∙ p .stored;
+              ap₂ (λ l n. withBlocks l n (rowsFrom w (first + e * w) rest)) q (add-one k)
+              ∙ ap (λ (x : ℕ). withBlocks (sets trees (6 * k + 4) (first ∷ x ∷ [])) (suc k) (rowsFrom w (first + x * w) rest)) ee
+              ∙ sym (ap (λ (l : List ℕ). withBlocks trees k (rowsFrom w first l)) (words-on s at count k h)) ∙ p .stored;
         }
 
-  pub table-done : (blocks : List ℕ) (k first : ℕ) → Tabling blocks k first → trees ≤ k → blocks ≡ sets blocks₀ 0 (blockRows w 0 (wordsAt s at trees))
-  unfolding blockRows wordsAt
-  table-done blocks k first p h =
-      let d : trees - k ≡ 0 = omega arith in
-      sym (ap (λ (n : ℕ). sets blocks (2 * k) (blockRows w first (wordsAt s (at + 4 * k) n))) d) ∙ p .stored
+  pub set-done : (trees : List ℕ) (k first : ℕ) → Setting trees k first → count ≤ k → trees ≡ withBlocks trees₀ 0 (rowsFrom w 0 (wordsAt s at count))
+  unfolding withBlocks rowsFrom wordsAt
+  set-done trees k first p h =
+      let d : count - k ≡ 0 = omega arith in
+      sym (ap (λ (n : ℕ). withBlocks trees k (rowsFrom w first (wordsAt s (at + 4 * k) n))) d) ∙ p .stored

@@ -1,15 +1,17 @@
-// After voice/model.rs, `from_linear`: the rows and values of a PDF block into lent tables (01, 'PDF blocks').
+// After voice/model.rs, `from_linear`: what a PDF block says of each tree, into the rows of the trees, and its values (01, 'PDF blocks'; 02, Wish 10).
 // Value i of an entry pairs with value i + half: mean, variance, mean, variance, ..; an odd last one is msd.
 use pdf_blocks::word;
 use pdf_widen::widen;
+use table_put::put_block;
 use table_put::put2;
 ghost use mathlib.Core.Path.{_≡_};
 ghost use Prim.Native.Nat.{_+_, _*_, _/_, _%_, _≤_, _<_};
 ghost use lib.Dec.{eqb};
 ghost use lib.ListN.{length};
 ghost use lib.Seq.{sets};
-ghost use Rattle.written.specs.Blocks.{total};
-ghost use Rattle.pdf_blocks.specs.Values.{wordsAt, blockRows, valueAt, pairsAt, entryAt, valuesAt};
+ghost use Rattle.written.specs.Blocks.{total, rowsFrom};
+ghost use Rattle.pdf_blocks.specs.Values.{wordsAt, valueAt, pairsAt, entryAt, valuesAt};
+ghost use Rattle.pdf_values.specs.Folded.{withBlocks};
 
 // The binary64 pattern of the binary32 at `at`.
 fn value(s: &[u8], at: usize) -> u64
@@ -62,16 +64,16 @@ pub fn fill_values(s: &[u8], at: usize, width: usize, entries: u64, values: &mut
     }
 }
 
-// The rows of so many trees, stored from the front on.
-pub fn fill_blocks(s: &[u8], at: usize, trees: usize, width: u64, blocks: &mut [u64])
-    requires { ⌜ (at + 4 * trees ≤ length (now s)) × (2 * trees ≤ length (now blocks)) × (at + 4 * trees + 4 * (total (wordsAt (now s) at trees) * width) ≤ length (now s)) ⌝ }
-    ensures { λ r. ⌜ now (blocks .exit) ≡ sets (now (blocks .entry)) 0 (blockRows width 0 (wordsAt (now (s .entry)) at trees)) ⌝ }
+// First value and entries of so many trees, set into their rows from the first on.
+pub fn fill_blocks(s: &[u8], at: usize, count: usize, width: u64, trees: &mut [u64])
+    requires { ⌜ (at + 4 * count ≤ length (now s)) × (6 * count ≤ length (now trees)) × (at + 4 * count + 4 * (total (wordsAt (now s) at count) * width) ≤ length (now s)) ⌝ }
+    ensures { λ r. ⌜ now (trees .exit) ≡ withBlocks (now (trees .entry)) 0 (rowsFrom width 0 (wordsAt (now (s .entry)) at count)) ⌝ }
 {
     let mut k = 0;
     let mut first: u64 = 0;
-    while k < trees {
+    while k < count {
         let entries = word(s, at + 4 * k) as u64;
-        put2(blocks, 2 * k, first, entries);
+        put_block(trees, k, first, entries);
         first = first + entries * width;
         k = k + 1;
     }

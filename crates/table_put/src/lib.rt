@@ -1,10 +1,12 @@
-// Rows stored in lent tables, and tables made zero (01, 'Linking and tables').
+// Rows stored in lent tables, and tables made zero (01, 'Linking and tables'; 02, Wish 10).
 ghost use mathlib.Core.Path.{_≡_};
 ghost use mathlib.Core.List.{[], _∷_};
-ghost use Prim.Native.Nat.{_+_, _≤_};
+ghost use Prim.Native.Nat.{_+_, _*_, _≤_};
 ghost use lib.ListN.{length, replicate};
 ghost use lib.Seq.{sets};
 ghost use lib.IntN.{pos};
+
+const TREE: usize = 6;
 
 // Two numbers from k on.
 pub fn put2(t: &mut [u64], k: usize, a: u64, b: u64)
@@ -24,6 +26,23 @@ pub fn put4(t: &mut [u64], k: usize, a: u64, b: u64, c: u64, d: u64)
     t[k + 1] = b;
     t[k + 2] = c;
     t[k + 3] = d;
+}
+
+// Row k of the trees: what the tree's text says of it, and 0, 0 until its block is read.
+pub fn put_tree(trees: &mut [u64], k: usize, state: u64, first: u64, records: u64, lines: u64)
+    requires { ⌜ 6 * k + 6 ≤ length (now trees) ⌝ }
+    ensures { λ r. ⌜ now (trees .exit) ≡ sets (now (trees .entry)) (6 * k) (state ∷ first ∷ records ∷ lines ∷ 0 ∷ 0 ∷ []) ⌝ }
+{
+    put4(trees, TREE * k, state, first, records, lines);
+    put2(trees, TREE * k + 4, 0, 0);
+}
+
+// What the block says of tree k: its first value and its entries.
+pub fn put_block(trees: &mut [u64], k: usize, first: u64, entries: u64)
+    requires { ⌜ 6 * k + 6 ≤ length (now trees) ⌝ }
+    ensures { λ r. ⌜ now (trees .exit) ≡ sets (now (trees .entry)) (6 * k + 4) (first ∷ entries ∷ []) ⌝ }
+{
+    put2(trees, TREE * k + 4, first, entries);
 }
 
 // A table all zero.

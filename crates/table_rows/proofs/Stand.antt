@@ -12,7 +12,8 @@ use lib.ListN.{length, getD, take, drop, length-take, length-drop, length-append
 use lib.Seq.{length-take-le, getD-take, getD-drop, getD-append-add}
 use Rattle.written.specs.Linking.{Nth, here, there, Row}
 use Rattle.written.proofs.Walk.{no-row, nth-once}
-use Rattle.table_rows.specs.Rows.{treeRows, treeThere, recordRows, recordThere, treeRow, recordRow, rowsFrom, treeTable, recordTable, Standing}
+use Rattle.written.proofs.Folded.{Wide, wide-rest}
+use Rattle.table_rows.specs.Rows.{treeRows, treeThere, recordRows, recordThere, treeRow, recordRow, rowsFrom, treeTable, recordTable, TreesStand, Standing}
 
 -- ---- what stands in a part of a list
 
@@ -185,7 +186,50 @@ module _ (R : List ℕ) where
 
 -- ---- rows that stand one behind the other
 
--- a row of four numbers
+pub length-flat : {w : ℕ} (rows : List Row) → Wide w rows → length (flatten rows) ≡ w * length rows
+unfolding flatten
+length-flat [] f = omega arith
+length-flat (r ∷ rows) f = omega (arith, length-append r (flatten rows), f 0 r here, length-flat rows (wide-rest f))
+
+flat-at : (w : ℕ) (rows : List Row) → Wide w rows → {k : ℕ} {r : Row} (j : ℕ) → Nth rows k r → j < w → getD (flatten rows) (w * k + j) 0 ≡ getD r j 0
+unfolding flatten
+flat-at w (r ∷ rows) f j here h =
+    let e : w * 0 + j ≡ j = omega arith in
+    let l : j < length r = omega (arith, f 0 r here) in
+    ap (λ (n : ℕ). getD (r ++ flatten rows) n 0) e ∙ List·getD-append r (flatten rows) 0 j l
+flat-at w (x ∷ rows) f {k = suc k} j (there n) h =
+    let e : w * suc k + j ≡ length x + (w * k + j) = omega (arith, f 0 x here) in
+    ap (λ (n : ℕ). getD (x ++ flatten rows) n 0) e ∙ getD-append-add x (flatten rows) (w * k + j) 0 ∙ flat-at w rows (wide-rest f) j n h
+
+-- rows of w numbers that stand in a flat table from its row `first` on: each row inside it, number by number
+pub record Flat (w : ℕ) (R : List ℕ) (first : ℕ) (rows : List Row) : Type 0 where
+  pub inside : (k : ℕ) (r : Row) → Nth rows k r → w * (first + k) + w ≤ length R
+  pub at : (k : ℕ) (r : Row) → Nth rows k r → (j : ℕ) → j < w → getD r j 0 ≡ getD R (w * (first + k) + j) 0
+
+pub flat-in : (w : ℕ) (R : List ℕ) (first : ℕ) (rows : List Row) → 0 < w → Wide w rows → take (w * length rows) (drop (w * first) R) ≡ flatten rows → Flat w R first rows
+flat-in w R first rows some f e = record { inside = in-it; at = number }
+  where
+    room : min (w * length rows) (length R - w * first) ≡ w * length rows
+    room = sym (length-take (w * length rows) (drop (w * first) R) ∙ ap (min (w * length rows)) (length-drop (w * first) R)) ∙ ap length e ∙ length-flat rows f
+
+    -- row k and those before it are no more than all
+    upto : (k n : ℕ) → k < n → w * k + w ≤ w * n
+    upto k zero h = absurd (omega arith)
+    upto zero (suc n) h = omega arith
+    upto (suc k) (suc n) h = omega (arith, upto k n (omega arith))
+
+    in-it : (k : ℕ) (r : Row) → Nth rows k r → w * (first + k) + w ≤ length R
+    in-it k r h = omega (arith, some, room, upto k (length rows) (nth-below h))
+
+    number : (k : ℕ) (r : Row) → Nth rows k r → (j : ℕ) → j < w → getD r j 0 ≡ getD R (w * (first + k) + j) 0
+    number k r h j l =
+        let q : w * first + (w * k + j) ≡ w * (first + k) + j = omega arith in
+        sym (flat-at w rows f j h l) ∙ ap (λ (t : List ℕ). getD t (w * k + j) 0) (sym e)
+        ∙ getD-take (w * length rows) (drop (w * first) R) (w * k + j) 0 (omega (arith, upto k (length rows) (nth-below h)))
+        ∙ getD-drop (w * first) R (w * k + j) 0 ∙ ap (λ (n : ℕ). getD R n 0) q
+
+-- ---- records: rows of four
+
 pub four : (r : Row) → length r ≡ 4 → r ≡ getD r 0 0 ∷ getD r 1 0 ∷ getD r 2 0 ∷ getD r 3 0 ∷ []
 four [] e = absurd (omega arith)
 four (a ∷ []) e = absurd (omega arith)
@@ -195,49 +239,55 @@ four (a ∷ b ∷ c ∷ d ∷ []) e = refl
 four (a ∷ b ∷ c ∷ d ∷ x ∷ r) e = absurd (omega arith)
 
 abbrev pub Fours : List Row → Type 0
-Fours rows = (k : ℕ) (r : Row) → Nth rows k r → length r ≡ 4
+Fours = Wide 4
 
-behind-first : {r : Row} {rows : List Row} → Fours (r ∷ rows) → Fours rows
-behind-first f k x h = f (suc k) x (there h)
-
-pub length-flat : (rows : List Row) → Fours rows → length (flatten rows) ≡ 4 * length rows
-unfolding flatten
-length-flat [] f = refl
-length-flat (r ∷ rows) f = omega (arith, length-append r (flatten rows), f 0 r here, length-flat rows (behind-first f))
-
-flat-at : (rows : List Row) → Fours rows → {k : ℕ} {r : Row} (j : ℕ) → Nth rows k r → j < 4 → getD (flatten rows) (4 * k + j) 0 ≡ getD r j 0
-unfolding flatten
-flat-at (r ∷ rows) f j here h =
-    let e : 4 * 0 + j ≡ j = omega arith in
-    let l : j < length r = omega (arith, f 0 r here) in
-    ap (λ (n : ℕ). getD (r ++ flatten rows) n 0) e ∙ List·getD-append r (flatten rows) 0 j l
-flat-at (x ∷ rows) f {k = suc k} j (there n) h =
-    let e : 4 * suc k + j ≡ length x + (4 * k + j) = omega (arith, f 0 x here) in
-    ap (λ (n : ℕ). getD (x ++ flatten rows) n 0) e ∙ getD-append-add x (flatten rows) (4 * k + j) 0 ∙ flat-at rows (behind-first f) j n h
-
--- rows that stand in a flat table from its row `first` on
 pub flat-stands : (R : List ℕ) (first : ℕ) (rows : List Row) → Fours rows → take (4 * length rows) (drop (4 * first) R) ≡ flatten rows → Standing R first rows
-flat-stands R first rows f e = record { each = λ k r h. (lt-ltb (first + k) (recordRows R) (inside k r h), row k r h) }
+flat-stands R first rows f e =
+    record {
+      each = λ k r h.
+          let l : first + k < recordRows R = omega (arith, g .inside k r h) in
+          let a = g .at k r h in
+          let z : 4 * (first + k) + 0 ≡ 4 * (first + k) = omega arith in
+          let y = a 0 (omega arith) ∙ ap (λ (n : ℕ). getD R n 0) z in
+          let b = a 1 (omega arith) in
+          let c = a 2 (omega arith) in
+          let d = a 3 (omega arith) in
+          (lt-ltb (first + k) (recordRows R) l, four r (f k r h) ∙ cc);
+    }
   where
-    room : min (4 * length rows) (length R - 4 * first) ≡ 4 * length rows
-    room = sym (length-take (4 * length rows) (drop (4 * first) R) ∙ ap (min (4 * length rows)) (length-drop (4 * first) R)) ∙ ap length e ∙ length-flat rows f
+    g : Flat 4 R first rows
+    g = flat-in 4 R first rows (omega arith) f e
 
-    inside : (k : ℕ) (r : Row) → Nth rows k r → first + k < recordRows R
-    inside k r h = omega (arith, nth-below h, room)
+-- ---- trees: rows of six
 
-    at : (k : ℕ) (r : Row) → Nth rows k r → (j : ℕ) → j < 4 → getD r j 0 ≡ getD R (4 * (first + k) + j) 0
-    at k r h j l =
-        let q : 4 * first + (4 * k + j) ≡ 4 * (first + k) + j = omega arith in
-        sym (flat-at rows f j h l) ∙ ap (λ (t : List ℕ). getD t (4 * k + j) 0) (sym e)
-        ∙ getD-take (4 * length rows) (drop (4 * first) R) (4 * k + j) 0 (omega (arith, nth-below h))
-        ∙ getD-drop (4 * first) R (4 * k + j) 0 ∙ ap (λ (n : ℕ). getD R n 0) q
+six : (r : Row) → length r ≡ 6 → r ≡ getD r 0 0 ∷ getD r 1 0 ∷ getD r 2 0 ∷ getD r 3 0 ∷ getD r 4 0 ∷ getD r 5 0 ∷ []
+six [] e = absurd (omega arith)
+six (a ∷ []) e = absurd (omega arith)
+six (a ∷ b ∷ []) e = absurd (omega arith)
+six (a ∷ b ∷ c ∷ []) e = absurd (omega arith)
+six (a ∷ b ∷ c ∷ d ∷ []) e = absurd (omega arith)
+six (a ∷ b ∷ c ∷ d ∷ x ∷ []) e = absurd (omega arith)
+six (a ∷ b ∷ c ∷ d ∷ x ∷ y ∷ []) e = refl
+six (a ∷ b ∷ c ∷ d ∷ x ∷ y ∷ z ∷ r) e = absurd (omega arith)
 
-    row : (k : ℕ) (r : Row) → Nth rows k r → r ≡ recordRow R (first + k)
-    row k r h =
-        let a = at k r h 0 (omega arith) in
-        let b = at k r h 1 (omega arith) in
-        let c = at k r h 2 (omega arith) in
-        let d = at k r h 3 (omega arith) in
-        let z : 4 * (first + k) + 0 ≡ 4 * (first + k) = omega arith in
-        let y = a ∙ ap (λ (n : ℕ). getD R n 0) z in
-        four r (f k r h) ∙ cc
+pub trees-stand : (T : List ℕ) (rows : List Row) → Wide 6 rows → take (6 * length rows) T ≡ flatten rows → TreesStand T rows
+trees-stand T rows f e =
+    record {
+      each = λ k r h.
+          let l : k < treeRows T = omega (arith, g .inside k r h) in
+          let a : (j : ℕ) → j < 6 → getD r j 0 ≡ getD T (6 * k + j) 0 = λ j m. g .at k r h j m ∙ ap (λ (n : ℕ). getD T n 0) (place k j) in
+          let z : 6 * k + 0 ≡ 6 * k = omega arith in
+          let a₀ = a 0 (omega arith) ∙ ap (λ (n : ℕ). getD T n 0) z in
+          let a₁ = a 1 (omega arith) in
+          let a₂ = a 2 (omega arith) in
+          let a₃ = a 3 (omega arith) in
+          let a₄ = a 4 (omega arith) in
+          let a₅ = a 5 (omega arith) in
+          (lt-ltb k (treeRows T) l, six r (f k r h) ∙ cc);
+    }
+  where
+    g : Flat 6 T 0 rows
+    g = flat-in 6 T 0 rows (omega arith) f e
+
+    place : (k j : ℕ) → 6 * (0 + k) + j ≡ 6 * k + j
+    place k j = omega arith

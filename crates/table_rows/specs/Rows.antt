@@ -1,4 +1,4 @@
--- The rows of lent tables (01, 'Linking and tables'): what each place of a row is called, and which rows there are. A table has length div
+-- The rows of lent tables (01, 'Linking and tables'; 02, Wish 10): what each place of a row is called, and which rows there are. A table has length div
 -- width rows; a rest is never read.
 use mathlib.Core.Path.{_≡_}
 use mathlib.Core.Bool.{Bool, true, _&&_}
@@ -39,25 +39,31 @@ patternStart P p = getD P (2 * p) 0
 abbrev pub patternLen : List ℕ → ℕ → ℕ
 patternLen P p = getD P (2 * p + 1) 0
 
--- ---- tree: state, first record, records, lines
+-- ---- tree: state, first record, records, lines, first value, entries
 
 abbrev pub treeRows : List ℕ → ℕ
-treeRows T = length T / 4
+treeRows T = length T / 6
 
 abbrev pub treeThere : List ℕ → ℕ → Bool
 treeThere T t = ltb t (treeRows T)
 
 abbrev pub treeState : List ℕ → ℕ → ℕ
-treeState T t = getD T (4 * t) 0
+treeState T t = getD T (6 * t) 0
 
 abbrev pub treeFirst : List ℕ → ℕ → ℕ
-treeFirst T t = getD T (4 * t + 1) 0
+treeFirst T t = getD T (6 * t + 1) 0
 
 abbrev pub treeRecords : List ℕ → ℕ → ℕ
-treeRecords T t = getD T (4 * t + 2) 0
+treeRecords T t = getD T (6 * t + 2) 0
 
 abbrev pub treeLines : List ℕ → ℕ → ℕ
-treeLines T t = getD T (4 * t + 3) 0
+treeLines T t = getD T (6 * t + 3) 0
+
+abbrev pub treeValue : List ℕ → ℕ → ℕ
+treeValue T t = getD T (6 * t + 4) 0
+
+abbrev pub treeEntries : List ℕ → ℕ → ℕ
+treeEntries T t = getD T (6 * t + 5) 0
 
 -- ---- record: (0, question, yes, no) or (1, PDF number, 0, 0)
 
@@ -87,20 +93,6 @@ recordYes R i = getD R (4 * i + 2) 0
 abbrev pub recordNo : List ℕ → ℕ → ℕ
 recordNo R i = getD R (4 * i + 3) 0
 
--- ---- block: first value, entries
-
-abbrev pub blockRows : List ℕ → ℕ
-blockRows B = length B / 2
-
-abbrev pub blockThere : List ℕ → ℕ → Bool
-blockThere B b = ltb b (blockRows B)
-
-abbrev pub blockFirst : List ℕ → ℕ → ℕ
-blockFirst B b = getD B (2 * b) 0
-
-abbrev pub blockEntries : List ℕ → ℕ → ℕ
-blockEntries B b = getD B (2 * b + 1) 0
-
 -- ---- tables as rows
 
 abbrev pub questionRow : List ℕ → ℕ → Row
@@ -110,7 +102,7 @@ abbrev pub patternRow : List ℕ → ℕ → Row
 patternRow P p = patternStart P p ∷ patternLen P p ∷ []
 
 abbrev pub treeRow : List ℕ → ℕ → Row
-treeRow T t = treeState T t ∷ treeFirst T t ∷ treeRecords T t ∷ treeLines T t ∷ []
+treeRow T t = treeState T t ∷ treeFirst T t ∷ treeRecords T t ∷ treeLines T t ∷ treeValue T t ∷ treeEntries T t ∷ []
 
 abbrev pub recordRow : List ℕ → ℕ → Row
 recordRow R i = recordKind R i ∷ recordQuestion R i ∷ recordYes R i ∷ recordNo R i ∷ []
@@ -131,6 +123,10 @@ treeTable T = rowsFrom (treeRow T) 0 (treeRows T)
 
 unfoldable pub recordTable : List ℕ → List Row
 recordTable R = rowsFrom (recordRow R) 0 (recordRows R)
+
+-- trees stand in a table, from its first row on
+pub record TreesStand (T : List ℕ) (rows : List Row) : Type 0 where
+  pub each : (k : ℕ) (r : Row) → Nth rows k r → (treeThere T k ≡ true) × (r ≡ treeRow T k)
 
 -- records stand in a table, from its row `first` on
 pub record Standing (R : List ℕ) (first : ℕ) (rows : List Row) : Type 0 where

@@ -1,20 +1,18 @@
-// The rows of lent tables, read by name (01, 'Linking and tables'): question (name start, length, first pattern, patterns), pattern (start, length),
-// tree (state, first record, records, lines), record (0, question, yes, no) or (1, PDF number, 0, 0), block (first value, entries). A table has length div width rows; a rest is never read.
-// Assumes nothing; what reads a row requires that it stands in its table, which `tree_there`, `record_there` and `block_there` tell.
+// The rows of lent tables, read by name (01, 'Linking and tables'; 02, Wish 10): question (name start, length, first pattern, patterns), pattern (start, length),
+// tree (state, first record, records, lines, first value, entries), record (0, question, yes, no) or (1, PDF number, 0, 0). A table has length div width rows; a rest is never read.
+// What reads a row requires that it stands in its table, which `tree_there` and `record_there` tell.
 ghost use mathlib.Core.Path.{_≡_};
 ghost use Prim.Native.Nat.{_+_, _<_};
 ghost use lib.Dec.{ltb};
-ghost use Rattle.table_rows.specs.Rows.{questionRows, patternRows, treeRows, recordRows, blockRows, questionThere, questionStart, questionLen, questionFirst, questionPatterns, patternStart, patternLen, treeThere, treeState, treeLines, recordThere, recordsIn, blockThere, treeFirst, treeRecords, recordKind, recordQuestion, recordPdf, recordYes, recordNo, blockFirst, blockEntries};
+ghost use Rattle.table_rows.specs.Rows.{questionRows, patternRows, treeRows, recordRows, questionThere, questionStart, questionLen, questionFirst, questionPatterns, patternStart, patternLen, treeThere, treeState, treeLines, recordThere, recordsIn, treeFirst, treeRecords, treeValue, treeEntries, recordKind, recordQuestion, recordPdf, recordYes, recordNo};
 
 const QUESTION: usize = 4;
 
 const PATTERN: usize = 2;
 
-const TREE: usize = 4;
+const TREE: usize = 6;
 
 const RECORD: usize = 4;
-
-const BLOCK: usize = 2;
 
 // Whether there is a question q.
 pub fn question_there(questions: &[u64], q: u64) -> bool
@@ -94,13 +92,6 @@ pub fn records_in(records: &[u64], first: u64, count: u64) -> u64
     }
 }
 
-// Whether there is a block b.
-pub fn block_there(blocks: &[u64], b: u64) -> bool
-    ensures { λ r. ⌜ r ≡ blockThere (now (blocks .entry)) b ⌝ }
-{
-    b < (blocks.len() / BLOCK) as u64
-}
-
 // Where a question's name starts in the data.
 pub fn question_start(questions: &[u64], q: u64) -> u64
     requires { ⌜ q < questionRows (now questions) ⌝ }
@@ -173,6 +164,22 @@ pub fn tree_records(trees: &[u64], t: u64) -> u64
     trees[TREE * (t as usize) + 2]
 }
 
+// The first value of a tree's first entry.
+pub fn tree_value(trees: &[u64], t: u64) -> u64
+    requires { ⌜ t < treeRows (now trees) ⌝ }
+    ensures { λ r. ⌜ r ≡ treeValue (now (trees .entry)) t ⌝ }
+{
+    trees[TREE * (t as usize) + 4]
+}
+
+// How many entries a tree's block has.
+pub fn tree_entries(trees: &[u64], t: u64) -> u64
+    requires { ⌜ t < treeRows (now trees) ⌝ }
+    ensures { λ r. ⌜ r ≡ treeEntries (now (trees .entry)) t ⌝ }
+{
+    trees[TREE * (t as usize) + 5]
+}
+
 // 0 is a line, 1 a leaf.
 pub fn record_kind(records: &[u64], i: u64) -> u64
     requires { ⌜ i < recordRows (now records) ⌝ }
@@ -209,18 +216,4 @@ pub fn record_no(records: &[u64], i: u64) -> u64
     ensures { λ r. ⌜ r ≡ recordNo (now (records .entry)) i ⌝ }
 {
     records[RECORD * (i as usize) + 3]
-}
-
-pub fn block_first(blocks: &[u64], b: u64) -> u64
-    requires { ⌜ b < blockRows (now blocks) ⌝ }
-    ensures { λ r. ⌜ r ≡ blockFirst (now (blocks .entry)) b ⌝ }
-{
-    blocks[BLOCK * (b as usize)]
-}
-
-pub fn block_entries(blocks: &[u64], b: u64) -> u64
-    requires { ⌜ b < blockRows (now blocks) ⌝ }
-    ensures { λ r. ⌜ r ≡ blockEntries (now (blocks .entry)) b ⌝ }
-{
-    blocks[BLOCK * (b as usize) + 1]
 }

@@ -4,12 +4,14 @@ use mathlib.Core.Path.{_≡_, refl, sym, ap, _∙_, subst}
 use mathlib.Core.Bool.{Bool}
 use mathlib.Core.List.{List, flatten}
 use Prim.Native.Nat.{ℕ}
-use lib.ListN.{take, drop}
+use lib.ListN.{length, take, drop}
 use Rattle.written.specs.Said.{Body, Tree, Question}
 use Rattle.written.specs.Linking.{Nth, Row, Linked}
-use Rattle.written.specs.Tables.{TreeRows}
+use Rattle.written.specs.Blocks as block
+use Rattle.written.specs.Tables.{TreeRows, folded}
 use Rattle.written.specs.Walks.{Ending, limit, nothing, Written, Outcome, refused, Loaded, LoadedTree, asLoaded, Answers}
 use Rattle.written.proofs.Walk.{demand₃, written-once}
+use Rattle.written.proofs.Folded.{wide-text, wide-folded}
 use Rattle.written.proofs.Model.{model-walks}
 use Rattle.table_rows.specs.Rows.{treeFirst, treeRecords, treeTable, recordTable, HasTree}
 use Rattle.table_rows.proofs.Stand.{tree-there, standing-cut}
@@ -59,15 +61,16 @@ module _ {qs : List Question} {answer : ℕ → Bool} {bytes : List ℕ} (given 
       (d .0, d .1, alike r (d .0) (loaded-walk T R t bytes m w ∙ ap outcomeOf (sym q)), λ f a. written-once given l a (d .1))
 
   -- every tree of a model whose rows the tables are
-  pub model-walk : (T R : List ℕ) {ts : List Tree} {i : ℕ} {t : Tree} → TreeRows qs 0 ts (treeTable T) (recordTable R) → Nth ts i t → (m : ℕ) {r : Walked} → r ≡ walkOf T R i bytes m
+  pub model-walk : (T R : List ℕ) {ts : List Tree} {trees records : List Row} {i : ℕ} {t : Tree} → TreeRows qs 0 ts trees records → (bs : List block.Row) → length bs ≡ length trees
+      → treeTable T ≡ folded trees bs → recordTable R ≡ records → Nth ts i t → (m : ℕ) {r : Walked} → r ≡ walkOf T R i bytes m
       → (e : Ending) × Written qs answer (t .body) m e × (answerOf r ≡ endingAnswer e)
-  model-walk T R {i = i} rs h m {r} q =
-      let d = model-walks given rs h m in
-      (d .0, d .1, alike r (d .0) (loaded-walk T R i bytes m (d .2) ∙ ap outcomeOf (sym q)))
+  model-walk T R {trees = trees} {i = i} rs bs many x y h m {r} q =
+      let d = model-walks given rs bs many h m in
+      let w = subst (λ (z : List Row). LoadedTree bytes z (recordTable R) i m (asLoaded (d .0))) (sym x) (subst (λ (z : List Row). LoadedTree bytes (folded trees bs) z i m (asLoaded (d .0))) (sym y) (d .2)) in
+      (d .0, d .1, alike r (d .0) (loaded-walk T R i bytes m w ∙ ap outcomeOf (sym q)))
 
   -- and of a model whose rows stand in the tables one behind the other
-  pub flat-walk : {ts : List Tree} {trees records : List Row} {i : ℕ} {t : Tree} → TreeRows qs 0 ts trees records → Nth ts i t → (m : ℕ) {r : Walked}
-      → r ≡ walkOf (flatten trees) (flatten records) i bytes m → (e : Ending) × Written qs answer (t .body) m e × (answerOf r ≡ endingAnswer e)
-  flat-walk {ts} {trees} {records} rs h m q =
-      let f = fours-model rs in
-      model-walk (flatten trees) (flatten records) (subst (λ (x : List Row). TreeRows qs 0 ts x (recordTable (flatten records))) (sym (tree-table trees (f .0))) (subst (TreeRows qs 0 ts trees) (sym (record-table records (f .1))) rs)) h m q
+  pub flat-walk : {ts : List Tree} {trees records : List Row} {i : ℕ} {t : Tree} → TreeRows qs 0 ts trees records → (bs : List block.Row) → length bs ≡ length trees → Nth ts i t
+      → (m : ℕ) {r : Walked} → r ≡ walkOf (flatten (folded trees bs)) (flatten records) i bytes m → (e : Ending) × Written qs answer (t .body) m e × (answerOf r ≡ endingAnswer e)
+  flat-walk {trees = trees} {records = records} rs bs many h m q =
+      model-walk (flatten (folded trees bs)) (flatten records) rs bs many (tree-table (folded trees bs) (wide-folded trees bs (wide-text rs))) (record-table records (fours-model rs)) h m q

@@ -2,7 +2,7 @@
 -- 01's tree.
 use mathlib.Core.Path.{_≡_, refl, sym, ap, _∙_}
 use mathlib.Core.Bool.{false}
-use mathlib.Core.List.{List, [], _∷_, flatten}
+use mathlib.Core.List.{List, [], _∷_, _++_, flatten}
 use Prim.Native.Nat.{ℕ}
 use Rattle.written.specs.Said.{Question}
 use Rattle.written.specs.Linking.{here, there, Row}
@@ -24,7 +24,7 @@ use Rattle.walk.proofs.Demand.{walk-demand₃}
 -- ---- the tree of 01's sums: A is question 0, B question 1
 
 abbrev trees : List ℕ
-trees = 2 ∷ 0 ∷ 5 ∷ 2 ∷ []
+trees = 2 ∷ 0 ∷ 5 ∷ 2 ∷ 0 ∷ 3 ∷ []
 
 abbrev records : List ℕ
 records = 0 ∷ 0 ∷ 3 ∷ 1 ∷ 0 ∷ 1 ∷ 3 ∷ 2 ∷ 1 ∷ 1 ∷ 0 ∷ 0 ∷ 1 ∷ 3 ∷ 0 ∷ 0 ∷ 1 ∷ 3 ∷ 0 ∷ 0 ∷ []
@@ -55,10 +55,15 @@ no-such-tree : walkOf trees records 1 (0 ∷ 0 ∷ []) 9 ≡ Refused WalkTable
 unfolding walkOf walkFrom meetAt kindAt lineAt
 no-such-tree = refl
 
+-- one whole row, and another but for its last number
+no-whole-row : walkOf (trees ++ (2 ∷ 0 ∷ 5 ∷ 2 ∷ 0 ∷ [])) records 1 (0 ∷ 0 ∷ []) 9 ≡ Refused WalkTable
+unfolding walkOf walkFrom meetAt kindAt lineAt
+no-whole-row = refl
+
 -- ---- a line that leads to itself, in a tree that claims 2^64 - 1 records: one question is enough to know
 
 abbrev round-trees : List ℕ
-round-trees = 2 ∷ 0 ∷ 18446744073709551615 ∷ 1 ∷ []
+round-trees = 2 ∷ 0 ∷ 18446744073709551615 ∷ 1 ∷ 0 ∷ 0 ∷ []
 
 abbrev round-records : List ℕ
 round-records = 0 ∷ 0 ∷ 0 ∷ 0 ∷ []

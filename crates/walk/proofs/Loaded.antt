@@ -100,7 +100,7 @@ walk-loaded T R t bytes limit = go (treeThere T t) refl
     go true e = LoadedTree.there (tree-there T t e) (loaded-from bytes R (treeFirst T t) (treeRecords T t) limit 0)
     go false e = LoadedTree.missing (tree-missing T t e)
 
-same-row : {a b c d e f g h : ℕ} → a ∷ b ∷ c ∷ d ∷ [] ≡ e ∷ f ∷ g ∷ h ∷ [] → (b ≡ f) × (c ≡ g)
+same-row : {a b c d v n a′ b′ c′ d′ v′ n′ : ℕ} → a ∷ b ∷ c ∷ d ∷ v ∷ n ∷ [] ≡ a′ ∷ b′ ∷ c′ ∷ d′ ∷ v′ ∷ n′ ∷ [] → (b ≡ b′) × (c ≡ c′)
 same-row e = (cc, cc)
 
 -- the loaded walk of a tree ends in one way

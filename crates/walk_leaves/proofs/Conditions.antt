@@ -7,7 +7,7 @@ use native.Mathlib.Omega.{arith}
 use borrow.Author.Tests.{lt-ltb, ltb-true, le-leb, leb-true, eq-eqb, ne-eqb, eqb-true}
 use lib.Dec.{ltb, leb, eqb}
 use lib.ListN.{length}
-use Rattle.table_rows.specs.Rows.{questionThere, treeRows, treeFirst, treeRecords, recordThere, recordKind, recordQuestion, recordPdf, recordYes, recordNo, blockThere, blockFirst, blockEntries}
+use Rattle.table_rows.specs.Rows.{questionThere, treeRows, treeFirst, treeRecords, recordThere, recordKind, recordQuestion, recordPdf, recordYes, recordNo, treeValue, treeEntries}
 use Rattle.walk_leaves.specs.Conditions.{leafFits, LineStands, RecordStands, ValuesStand, TreeStands, LeavesFit}
 use Rattle.laws.specs.Every.{all}
 use Rattle.walk_leaves.specs.Checks.{lineFits, kindFits, recordFits, valuesFit, treeFits, leavesFit}
@@ -78,53 +78,48 @@ module _ (questions records : List ℕ) (count : ℕ) where
 
 -- ---- trees
 
-module _ (questions trees records blocks values : List ℕ) (width : ℕ) where
-  says-tree : (t : ℕ) → treeFits questions trees records blocks values width t ≡ true → TreeStands leafFits questions trees records blocks values width t
+module _ (questions trees records values : List ℕ) (width : ℕ) where
+  says-tree : (t : ℕ) → treeFits questions trees records values width t ≡ true → TreeStands leafFits questions trees records values width t
   unfolding treeFits recordFits
   says-tree t e =
       record {
-        block = first-of (blockThere blocks t) (fitting && every) e;
-        values-there = says-values values (blockFirst blocks t) (blockEntries blocks t) width (first-of fitting every rest);
-        inside = λ k h. first-of (recordThere records (treeFirst trees t) (treeRecords trees t) k) (kindFits questions records (treeRecords trees t) (blockEntries blocks t) (treeFirst trees t + k)) (at k h);
-        each = λ k h. says-kind questions records (treeRecords trees t) (blockEntries blocks t) (treeFirst trees t + k) (second-of (recordThere records (treeFirst trees t) (treeRecords trees t) k) (kindFits questions records (treeRecords trees t) (blockEntries blocks t) (treeFirst trees t + k)) (at k h));
+        values-there = says-values values (treeValue trees t) (treeEntries trees t) width (first-of fitting every e);
+        inside = λ k h. first-of (recordThere records (treeFirst trees t) (treeRecords trees t) k) (kindFits questions records (treeRecords trees t) (treeEntries trees t) (treeFirst trees t + k)) (at k h);
+        each = λ k h. says-kind questions records (treeRecords trees t) (treeEntries trees t) (treeFirst trees t + k) (second-of (recordThere records (treeFirst trees t) (treeRecords trees t) k) (kindFits questions records (treeRecords trees t) (treeEntries trees t) (treeFirst trees t + k)) (at k h));
       }
     where
       fitting : Bool
-      fitting = valuesFit values (blockFirst blocks t) (blockEntries blocks t) width
+      fitting = valuesFit values (treeValue trees t) (treeEntries trees t) width
 
       every : Bool
-      every = all (recordFits questions records (treeFirst trees t) (treeRecords trees t) (blockEntries blocks t)) 0 (treeRecords trees t)
+      every = all (recordFits questions records (treeFirst trees t) (treeRecords trees t) (treeEntries trees t)) 0 (treeRecords trees t)
 
-      rest : (fitting && every) ≡ true
-      rest = second-of (blockThere blocks t) (fitting && every) e
+      at : (k : ℕ) → k < treeRecords trees t → recordFits questions records (treeFirst trees t) (treeRecords trees t) (treeEntries trees t) k ≡ true
+      at k h = all-each (recordFits questions records (treeFirst trees t) (treeRecords trees t) (treeEntries trees t)) 0 (treeRecords trees t) (second-of fitting every e) k (omega arith) (omega arith)
 
-      at : (k : ℕ) → k < treeRecords trees t → recordFits questions records (treeFirst trees t) (treeRecords trees t) (blockEntries blocks t) k ≡ true
-      at k h = all-each (recordFits questions records (treeFirst trees t) (treeRecords trees t) (blockEntries blocks t)) 0 (treeRecords trees t) (second-of fitting every rest) k (omega arith) (omega arith)
-
-  tree-says : (t : ℕ) → TreeStands leafFits questions trees records blocks values width t → treeFits questions trees records blocks values width t ≡ true
+  tree-says : (t : ℕ) → TreeStands leafFits questions trees records values width t → treeFits questions trees records values width t ≡ true
   unfolding treeFits recordFits
   tree-says t s =
-      both (s .block)
-      (both (values-say values (blockFirst blocks t) (blockEntries blocks t) width (s .values-there))
-      (each-all (recordFits questions records (treeFirst trees t) (treeRecords trees t) (blockEntries blocks t)) 0 (treeRecords trees t)
+      both (values-say values (treeValue trees t) (treeEntries trees t) width (s .values-there))
+      (each-all (recordFits questions records (treeFirst trees t) (treeRecords trees t) (treeEntries trees t)) 0 (treeRecords trees t)
       (λ k l h.
       let m : k < treeRecords trees t = omega arith in
-      both (s .inside k m) (kind-says questions records (treeRecords trees t) (blockEntries blocks t) (treeFirst trees t + k) (s .each k m)))))
+      both (s .inside k m) (kind-says questions records (treeRecords trees t) (treeEntries trees t) (treeFirst trees t + k) (s .each k m))))
 
   -- yes exactly where the conditions hold
-  pub fits-says : leavesFit questions trees records blocks values width ≡ true → LeavesFit questions trees records blocks values width
+  pub fits-says : leavesFit questions trees records values width ≡ true → LeavesFit questions trees records values width
   unfolding leavesFit
-  fits-says e = record { each = λ t h. says-tree t (all-each (treeFits questions trees records blocks values width) 0 (treeRows trees) e t (omega arith) (let l = ltb-true t (treeRows trees) h in omega arith)) }
+  fits-says e = record { each = λ t h. says-tree t (all-each (treeFits questions trees records values width) 0 (treeRows trees) e t (omega arith) (let l = ltb-true t (treeRows trees) h in omega arith)) }
 
-  pub says-fits : LeavesFit questions trees records blocks values width → leavesFit questions trees records blocks values width ≡ true
+  pub says-fits : LeavesFit questions trees records values width → leavesFit questions trees records values width ≡ true
   unfolding leavesFit
-  says-fits s = each-all (treeFits questions trees records blocks values width) 0 (treeRows trees) (λ t l h. tree-says t (s .each t (lt-ltb t (treeRows trees) (omega arith))))
+  says-fits s = each-all (treeFits questions trees records values width) 0 (treeRows trees) (λ t l h. tree-says t (s .each t (lt-ltb t (treeRows trees) (omega arith))))
 
   -- the same of what `leaves_fit` returns
-  pub yes-exactly : {r : Bool} → r ≡ leavesFit questions trees records blocks values width
-      → (r ≡ true → LeavesFit questions trees records blocks values width) × (LeavesFit questions trees records blocks values width → r ≡ true)
+  pub yes-exactly : {r : Bool} → r ≡ leavesFit questions trees records values width
+      → (r ≡ true → LeavesFit questions trees records values width) × (LeavesFit questions trees records values width → r ≡ true)
   yes-exactly e = (λ q. fits-says (sym e ∙ q), λ s. e ∙ says-fits s)
 
   -- any two outcomes that its contract allows are equal
-  pub leaves-once : {r s : Bool} → r ≡ leavesFit questions trees records blocks values width → s ≡ leavesFit questions trees records blocks values width → r ≡ s
+  pub leaves-once : {r s : Bool} → r ≡ leavesFit questions trees records values width → s ≡ leavesFit questions trees records values width → r ≡ s
   leaves-once a b = a ∙ sym b

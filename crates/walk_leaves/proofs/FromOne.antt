@@ -27,15 +27,15 @@ module _ {questions records : List ℕ} {count entries i : ℕ} where
 
 -- ---- all trees
 
-module _ (questions trees records blocks values : List ℕ) (width : ℕ) where
-  pub fits-so : (LeavesFit questions trees records blocks values width → FormerlyFit questions trees records blocks values width × FromOne trees records)
-      × (FormerlyFit questions trees records blocks values width × FromOne trees records → LeavesFit questions trees records blocks values width)
+module _ (questions trees records values : List ℕ) (width : ℕ) where
+  pub fits-so : (LeavesFit questions trees records values width → FormerlyFit questions trees records values width × FromOne trees records)
+      × (FormerlyFit questions trees records values width × FromOne trees records → LeavesFit questions trees records values width)
   fits-so = (λ s. (record { each = λ t h. tree (s .each t h) }, record { each = λ t h k l. from-one (s .each t h .each k l) }), λ p. record { each = λ t h. back (p .0 .each t h) (p .1 .each t h) })
     where
-      tree : {t : ℕ} → TreeStands leafFits questions trees records blocks values width t → TreeStands leb questions trees records blocks values width t
-      tree s = record { block = s .block; values-there = s .values-there; inside = s .inside; each = λ k l. former (s .each k l) }
+      tree : {t : ℕ} → TreeStands leafFits questions trees records values width t → TreeStands leb questions trees records values width t
+      tree s = record { values-there = s .values-there; inside = s .inside; each = λ k l. former (s .each k l) }
 
-      back : {t : ℕ} → TreeStands leb questions trees records blocks values width t
+      back : {t : ℕ} → TreeStands leb questions trees records values width t
           → ((k : ℕ) → k < treeRecords trees t → recordKind records (treeFirst trees t + k) ≡ 1 → 1 ≤ recordPdf records (treeFirst trees t + k))
-          → TreeStands leafFits questions trees records blocks values width t
-      back s f = record { block = s .block; values-there = s .values-there; inside = s .inside; each = λ k l. stands (s .each k l) (f k l) }
+          → TreeStands leafFits questions trees records values width t
+      back s f = record { values-there = s .values-there; inside = s .inside; each = λ k l. stands (s .each k l) (f k l) }

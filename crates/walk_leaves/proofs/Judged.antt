@@ -9,7 +9,7 @@ use native.Mathlib.Omega.{arith}
 use borrow.Author.Tests.{lt-ltb, le-ltb, le-leb, lt-leb, eq-eqb, ne-eqb}
 use lib.Dec.{ltb, leb, eqb}
 use lib.ListN.{length}
-use Rattle.table_rows.specs.Rows.{questionThere, recordThere, recordKind, recordQuestion, recordPdf, recordYes, recordNo, treeFirst, treeRecords, blockThere, blockFirst, blockEntries}
+use Rattle.table_rows.specs.Rows.{questionThere, recordThere, recordKind, recordQuestion, recordPdf, recordYes, recordNo, treeFirst, treeRecords, treeValue, treeEntries}
 use Rattle.walk_leaves.specs.Conditions.{leafFits}
 use Rattle.laws.specs.Every.{all}
 use Rattle.walk_leaves.specs.Checks.{lineFits, kindFits, recordFits, valuesFit, treeFits}
@@ -103,24 +103,16 @@ module _ (questions records : List ℕ) (first count entries k : ℕ) where
 
 -- ---- a tree
 
-module _ (questions trees records blocks values : List ℕ) (width t : ℕ) where
-  pub no-block : blockThere blocks t ≡ false → false ≡ treeFits questions trees records blocks values width t
+module _ (questions trees records values : List ℕ) (width t : ℕ) {e f : ℕ} (entries : e ≡ treeEntries trees t) (start : f ≡ treeValue trees t) where
+  pub no-values : {v : Bool} → v ≡ valuesFit values f e width → v ≡ false → false ≡ treeFits questions trees records values width t
   unfolding treeFits
-  no-block e =
-      not-first (valuesFit values (blockFirst blocks t) (blockEntries blocks t) width && all (recordFits questions records (treeFirst trees t) (treeRecords trees t) (blockEntries blocks t)) 0 (treeRecords trees t)) e
+  no-values g h =
+      not-first (all (recordFits questions records (treeFirst trees t) (treeRecords trees t) (treeEntries trees t)) 0 (treeRecords trees t)) (sym (ap₂ (λ (a b : ℕ). valuesFit values a b width) start entries) ∙ sym g ∙ h)
 
-  module _ (there : blockThere blocks t ≡ true) {e f : ℕ} (entries : e ≡ blockEntries blocks t) (start : f ≡ blockFirst blocks t) where
-    pub no-values : {v : Bool} → v ≡ valuesFit values f e width → v ≡ false → false ≡ treeFits questions trees records blocks values width t
-    unfolding treeFits
-    no-values g h =
-        then-second there
-        (not-first (all (recordFits questions records (treeFirst trees t) (treeRecords trees t) (blockEntries blocks t)) 0 (treeRecords trees t)) (sym (ap₂ (λ (a b : ℕ). valuesFit values a b width) start entries) ∙ sym g ∙ h))
-
-    pub by-records : {first count : ℕ} {v r : Bool} → v ≡ valuesFit values f e width → v ≡ true → first ≡ treeFirst trees t → count ≡ treeRecords trees t
-        → r ≡ all (recordFits questions records first count e) 0 count → r ≡ treeFits questions trees records blocks values width t
-    unfolding treeFits
-    by-records {first} {count} g h p q s =
-        then-second there
-        (then-second (sym (ap₂ (λ (a b : ℕ). valuesFit values a b width) start entries) ∙ sym g ∙ h)
-        (s ∙ ap₂ (λ (a b : ℕ). all (recordFits questions records a count b) 0 count) p entries
-        ∙ ap (λ (n : ℕ). all (recordFits questions records (treeFirst trees t) n (blockEntries blocks t)) 0 n) q))
+  pub by-records : {first count : ℕ} {v r : Bool} → v ≡ valuesFit values f e width → v ≡ true → first ≡ treeFirst trees t → count ≡ treeRecords trees t
+      → r ≡ all (recordFits questions records first count e) 0 count → r ≡ treeFits questions trees records values width t
+  unfolding treeFits
+  by-records {first} {count} g h p q s =
+      then-second (sym (ap₂ (λ (a b : ℕ). valuesFit values a b width) start entries) ∙ sym g ∙ h)
+      (s ∙ ap₂ (λ (a b : ℕ). all (recordFits questions records a count b) 0 count) p entries
+      ∙ ap (λ (n : ℕ). all (recordFits questions records (treeFirst trees t) n (treeEntries trees t)) 0 n) q)

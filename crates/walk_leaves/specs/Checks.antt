@@ -5,7 +5,7 @@ use Prim.Native.Nat.{ℕ, zero, suc, _+_, _*_}
 use lib.Dec.{ltb, leb, eqb}
 use lib.ListN.{length}
 use Rattle.laws.specs.Every.{all}
-use Rattle.table_rows.specs.Rows.{questionThere, treeRows, treeFirst, treeRecords, recordThere, recordKind, recordQuestion, recordPdf, recordYes, recordNo, blockThere, blockFirst, blockEntries}
+use Rattle.table_rows.specs.Rows.{questionThere, treeRows, treeFirst, treeRecords, recordThere, recordKind, recordQuestion, recordPdf, recordYes, recordNo, treeValue, treeEntries}
 use Rattle.walk_leaves.specs.Conditions.{leafFits}
 
 unfoldable pub lineFits : List ℕ → List ℕ → ℕ → ℕ → Bool
@@ -24,10 +24,10 @@ recordFits questions records first count entries k = recordThere records first c
 unfoldable pub valuesFit : List ℕ → ℕ → ℕ → ℕ → Bool
 valuesFit values first entries width = eqb (entries * width) 0 || leb (first + entries * width) (length values)
 
-unfoldable pub treeFits : List ℕ → List ℕ → List ℕ → List ℕ → List ℕ → ℕ → ℕ → Bool
-treeFits questions trees records blocks values width t =
-    blockThere blocks t
-    && (valuesFit values (blockFirst blocks t) (blockEntries blocks t) width && all (recordFits questions records (treeFirst trees t) (treeRecords trees t) (blockEntries blocks t)) 0 (treeRecords trees t))
+unfoldable pub treeFits : List ℕ → List ℕ → List ℕ → List ℕ → ℕ → ℕ → Bool
+treeFits questions trees records values width t =
+    valuesFit values (treeValue trees t) (treeEntries trees t) width
+    && all (recordFits questions records (treeFirst trees t) (treeRecords trees t) (treeEntries trees t)) 0 (treeRecords trees t)
 
-unfoldable pub leavesFit : List ℕ → List ℕ → List ℕ → List ℕ → List ℕ → ℕ → Bool
-leavesFit questions trees records blocks values width = all (treeFits questions trees records blocks values width) 0 (treeRows trees)
+unfoldable pub leavesFit : List ℕ → List ℕ → List ℕ → List ℕ → ℕ → Bool
+leavesFit questions trees records values width = all (treeFits questions trees records values width) 0 (treeRows trees)

@@ -1,13 +1,13 @@
--- What the leaf check asks of loaded tables (01, 'Linking and tables'; 02, Wish 3): for each tree there is a block row; its records, their questions and
--- its values at the width given stand inside their tables; each yes and no inside its records; kinds are 0 or 1; and every leaf's number is
--- at least 1 and at most its entry count. Ranges are judged by their members; questions, yes and no on lines alone; block rows beyond the trees are free.
+-- What the leaf check asks of loaded tables (01, 'Linking and tables'; 02, Wishes 3 and 10): for each tree its records, their questions and its values at
+-- the width given stand inside their tables; each yes and no inside its records; kinds are 0 or 1; and every leaf's number is at least 1 and at most its
+-- entry count. Ranges are judged by their members; questions, yes and no on lines alone.
 use mathlib.Core.Path.{_≡_}
 use mathlib.Core.Bool.{Bool, true, _&&_}
 use mathlib.Core.List.{List}
 use Prim.Native.Nat.{ℕ, _+_, _*_, _≤_, _<_}
 use lib.Dec.{leb}
 use lib.ListN.{length}
-use Rattle.table_rows.specs.Rows.{questionThere, treeThere, treeFirst, treeRecords, recordThere, recordKind, recordQuestion, recordPdf, recordYes, recordNo, blockThere, blockFirst, blockEntries}
+use Rattle.table_rows.specs.Rows.{questionThere, treeThere, treeFirst, treeRecords, recordThere, recordKind, recordQuestion, recordPdf, recordYes, recordNo, treeValue, treeEntries}
 
 -- a leaf's number is that of one of the entries of its tree's block: they count from 1
 abbrev pub leafFits : ℕ → ℕ → Bool
@@ -30,22 +30,21 @@ pub record ValuesStand (values : List ℕ) (first entries width : ℕ) : Type 0 
   pub each : (v : ℕ) → v < entries * width → first + v < length values
 
 -- tree t
-pub record TreeStands (fits : ℕ → ℕ → Bool) (questions trees records blocks values : List ℕ) (width t : ℕ) : Type 0 where
-  pub block : blockThere blocks t ≡ true
-  pub values-there : ValuesStand values (blockFirst blocks t) (blockEntries blocks t) width
+pub record TreeStands (fits : ℕ → ℕ → Bool) (questions trees records values : List ℕ) (width t : ℕ) : Type 0 where
+  pub values-there : ValuesStand values (treeValue trees t) (treeEntries trees t) width
   pub inside : (k : ℕ) → k < treeRecords trees t → recordThere records (treeFirst trees t) (treeRecords trees t) k ≡ true
-  pub each : (k : ℕ) → k < treeRecords trees t → RecordStands questions records fits (treeRecords trees t) (blockEntries blocks t) (treeFirst trees t + k)
+  pub each : (k : ℕ) → k < treeRecords trees t → RecordStands questions records fits (treeRecords trees t) (treeEntries trees t) (treeFirst trees t + k)
 
 -- all trees, their leaves by the test that is given
-pub record LeavesFitBy (fits : ℕ → ℕ → Bool) (questions trees records blocks values : List ℕ) (width : ℕ) : Type 0 where
-  pub each : (t : ℕ) → treeThere trees t ≡ true → TreeStands fits questions trees records blocks values width t
+pub record LeavesFitBy (fits : ℕ → ℕ → Bool) (questions trees records values : List ℕ) (width : ℕ) : Type 0 where
+  pub each : (t : ℕ) → treeThere trees t ≡ true → TreeStands fits questions trees records values width t
 
 -- what the check asks
-abbrev pub LeavesFit : List ℕ → List ℕ → List ℕ → List ℕ → List ℕ → ℕ → Type 0
+abbrev pub LeavesFit : List ℕ → List ℕ → List ℕ → List ℕ → ℕ → Type 0
 LeavesFit = LeavesFitBy leafFits
 
 -- 01's conditions, in which a leaf is at most its entry count
-abbrev pub FormerlyFit : List ℕ → List ℕ → List ℕ → List ℕ → List ℕ → ℕ → Type 0
+abbrev pub FormerlyFit : List ℕ → List ℕ → List ℕ → List ℕ → ℕ → Type 0
 FormerlyFit = LeavesFitBy leb
 
 -- every leaf of every tree is at least 1

@@ -1,8 +1,5 @@
-// The leaf check (01, 'Linking and tables'): whether every leaf of loaded tables has its entry, and all that the tables refer to stands
+// The leaf check (01, 'Linking and tables'; 02, Wishes 3 and 10): whether every leaf of loaded tables has its entry, and all that the tables refer to stands
 // inside them. For any tables and any width.
-use table_rows::block_entries;
-use table_rows::block_first;
-use table_rows::block_there;
 use table_rows::question_there;
 use table_rows::record_kind;
 use table_rows::record_no;
@@ -10,9 +7,11 @@ use table_rows::record_pdf;
 use table_rows::record_question;
 use table_rows::record_there;
 use table_rows::record_yes;
+use table_rows::tree_entries;
 use table_rows::tree_first;
 use table_rows::tree_records;
 use table_rows::tree_there;
+use table_rows::tree_value;
 ghost use mathlib.Core.Path.{_≡_};
 ghost use Prim.Native.Nat.{_<_};
 ghost use Rattle.table_rows.specs.Rows.{treeRows, recordRows};
@@ -97,24 +96,20 @@ fn records_fit(questions: &[u64], records: &[u64], first: u64, count: u64, entri
     true
 }
 
-// Tree t: its block, its values, its records.
+// Tree t: its values, its records.
 fn tree_fits(
     questions: &[u64],
     trees: &[u64],
     records: &[u64],
-    blocks: &[u64],
     values: &[u64],
     width: u64,
     t: u64,
 ) -> bool
     requires { ⌜ t < treeRows (now trees) ⌝ }
-    ensures { λ r. ⌜ r ≡ treeFits (now (questions .entry)) (now (trees .entry)) (now (records .entry)) (now (blocks .entry)) (now (values .entry)) width t ⌝ }
+    ensures { λ r. ⌜ r ≡ treeFits (now (questions .entry)) (now (trees .entry)) (now (records .entry)) (now (values .entry)) width t ⌝ }
 {
-    if !block_there(blocks, t) {
-        return false;
-    }
-    let entries = block_entries(blocks, t);
-    if !values_fit(values, block_first(blocks, t), entries, width) {
+    let entries = tree_entries(trees, t);
+    if !values_fit(values, tree_value(trees, t), entries, width) {
         return false;
     }
     records_fit(
@@ -131,15 +126,14 @@ pub fn leaves_fit(
     questions: &[u64],
     trees: &[u64],
     records: &[u64],
-    blocks: &[u64],
     values: &[u64],
     width: u64,
 ) -> bool
-    ensures { λ r. ⌜ r ≡ leavesFit (now (questions .entry)) (now (trees .entry)) (now (records .entry)) (now (blocks .entry)) (now (values .entry)) width ⌝ }
+    ensures { λ r. ⌜ r ≡ leavesFit (now (questions .entry)) (now (trees .entry)) (now (records .entry)) (now (values .entry)) width ⌝ }
 {
     let mut t = 0;
     while tree_there(trees, t) {
-        if !tree_fits(questions, trees, records, blocks, values, width, t) {
+        if !tree_fits(questions, trees, records, values, width, t) {
             return false;
         }
         t = t + 1;

@@ -7,12 +7,13 @@ pub mod Apart
 pub mod ApartFile
 pub mod Sums
 pub mod Example
--- Tree text: at most one answer (Once), decided (Decide); linking (Link, Links); walks (Walk, Model); worked examples.
+-- Tree text: at most one answer (Once), decided (Decide); linking (Link, Links); tree rows (Folded); walks (Walk, Model); worked examples.
 pub mod Once
 pub mod Decide
 pub mod Link
 pub mod Links
 pub mod Walk
+pub mod Folded
 pub mod Model
 pub mod Examples
 -- Answers from a label: at most one (Answers). The depth of a tree: from its leaves up (Deepest, by Pigeonhole), one answer, and what it says of walks (Paths).

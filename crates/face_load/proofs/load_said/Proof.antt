@@ -1,5 +1,6 @@
 -- `face_load::load_said`: by how the words are judged.
 use mathlib.Core.Path.{sym, _∙_}
+use Rattle.load_model.specs.Load.{lent}
 use Rattle.face_open.proofs.Laws.{judged-room}
 use Rattle.face_load.proofs.Laws.{load-fit, load-unfit}
 use borrow.Author.Needs.{needs}
@@ -13,7 +14,7 @@ which-of-requires : tie.Need-which-of-requires
 which-of-requires c κs = search needs
 
 load-requires : tie.Need-load-requires
-load-requires c κs = judged-room _ (sym (c .before .before .before .before .before .before .before .before .if1 .taken) ∙ c .before .before .before .before .before .before .before .before .before .judged .ensures)
+load-requires c κs = judged-room _ (sym (c .before .before .before .before .before .before .before .if1 .taken) ∙ c .before .before .before .before .before .before .before .before .judged .ensures)
 
 rows-of-requires : tie.Need-rows-of-requires
 rows-of-requires c κs = search needs
@@ -36,17 +37,18 @@ same-length-5 c = search needs
 same-length-6 : tie.Need-same-length-6
 same-length-6 c = search needs
 
-same-length-7 : tie.Need-same-length-7
-same-length-7 c = search needs
-
 returns : tie.Need-returns
-returns c = let a = c .before .before .before .before .before .before .before .before .before .before .before .before .before .before .before .before .before .before .before .before .before .before .before .before .before .before .before .before .before .before .before .before .before .args in load-fit (a .file .now) (a .words .now) (a .which) (a .questions .now) (a .patterns .now) (a .trees .now) (a .records .now) (a .blocks .now) (a .values .now) (a .work .now) (c .before .before .before .before .before .before .before .before .before .before .before .before .before .before .before .before .before .before .before .before .before .before .before .before .judged .ensures) (c .before .before .before .before .before .before .before .before .before .before .before .before .before .before .before .before .before .before .before .before .before .before .before .if1 .taken) (c .before .before .before .before .before .before .before .before .before .before .before .before .before .before .before .before .before .before .before .before .before .before .which-of .ensures) (c .before .before .before .before .before .before .before .before .before .before .before .before .before .before .load .ensures) (c .rows-of .ensures)
+returns c =
+    let a = c .before .before .before .before .before .before .before .before .before .before .before .before .before .before .before .before .before .before .before .before .before .before .before .before .before .before .before .before .before .args in
+    load-fit (a .file .now) (a .words .now) (a .which) (lent (a .questions .now) (a .patterns .now) (a .trees .now) (a .records .now) (a .values .now) (a .work .now)) (c .before .before .before .before .before .before .before .before .before .before .before .before .before .before .before .before .before .before .before .before .before .judged .ensures) (c .before .before .before .before .before .before .before .before .before .before .before .before .before .before .before .before .before .before .before .before .if1 .taken) (c .before .before .before .before .before .before .before .before .before .before .before .before .before .before .before .before .before .before .before .which-of .ensures) (c .before .before .before .before .before .before .before .before .before .before .before .before .load .ensures) (c .rows-of .ensures)
 
 no-rows-requires : tie.Need-no-rows-requires
 no-rows-requires c κs = search needs
 
 returns-2 : tie.Need-returns-2
-returns-2 c = let a = c .before .before .before .before .before .before .before .before .before .before .before .args in load-unfit (a .file .now) (a .words .now) (a .which) (a .questions .now) (a .patterns .now) (a .trees .now) (a .records .now) (a .blocks .now) (a .values .now) (a .work .now) (c .before .before .judged .ensures) (c .before .if1 .left) (c .no-rows .ensures)
+returns-2 c =
+    let a = c .before .before .before .before .before .before .before .before .before .before .args in
+    load-unfit (a .file .now) (a .words .now) (a .which) (lent (a .questions .now) (a .patterns .now) (a .trees .now) (a .records .now) (a .values .now) (a .work .now)) (c .before .before .judged .ensures) (c .before .if1 .left) (c .no-rows .ensures)
 
 pub load-said-spec : {M : Type 1} → statement M
 load-said-spec =
@@ -62,7 +64,6 @@ load-said-spec =
     same-length-4
     same-length-5
     same-length-6
-    same-length-7
     returns
     no-rows-requires
     returns-2)

@@ -8,7 +8,7 @@ use Rattle.larsavim.proofs.larsavim_load.Statement.{statement}
 use Rattle.larsavim.proofs.larsavim_load.Tie as tie
 
 returns : tie.Need-returns
-returns c = (answer-short _ _ _ (c .if1 .taken), left-short _ _ _ _ (c .if1 .taken), left-short _ _ _ _ (c .if1 .taken), left-short _ _ _ _ (c .if1 .taken), left-short _ _ _ _ (c .if1 .taken), left-short _ _ _ _ (c .if1 .taken), left-short _ _ _ _ (c .if1 .taken), left-short _ _ _ _ (c .if1 .taken), out-short _ _ _ (c .if1 .taken))
+returns c = (answer-short _ _ _ (c .if1 .taken), left-short _ _ _ _ (c .if1 .taken), out-short _ _ _ (c .if1 .taken))
 
 load-said-requires : tie.Need-load-said-requires
 load-said-requires c κs = search needs
@@ -37,11 +37,11 @@ same-length-6 c = search needs
 same-length-7 : tie.Need-same-length-7
 same-length-7 c = search needs
 
-same-length-8 : tie.Need-same-length-8
-same-length-8 c = search needs
-
 returns-2 : tie.Need-returns-2
-returns-2 c = (answer-full _ _ _ _ (c .before .before .before .before .before .before .before .before .before .before .before .before .before .before .before .before .before .before .before .before .before .before .before .before .before .if1 .left) (ap (λ x. x .number) (c .before .before .before .before .before .before .before .before .before .before .before .before .before .before .before .before .before .load-said .ensures .0)), left-full _ _ _ _ _ (c .before .before .before .before .before .before .before .before .before .before .before .before .before .before .before .before .before .before .before .before .before .before .before .before .before .if1 .left) (c .before .before .before .before .before .before .before .before .before .before .before .before .before .before .before .before .before .load-said .ensures .1), left-full _ _ _ _ _ (c .before .before .before .before .before .before .before .before .before .before .before .before .before .before .before .before .before .before .before .before .before .before .before .before .before .if1 .left) (c .before .before .before .before .before .before .before .before .before .before .before .before .before .before .before .before .before .load-said .ensures .2), left-full _ _ _ _ _ (c .before .before .before .before .before .before .before .before .before .before .before .before .before .before .before .before .before .before .before .before .before .before .before .before .before .if1 .left) (c .before .before .before .before .before .before .before .before .before .before .before .before .before .before .before .before .before .load-said .ensures .3), left-full _ _ _ _ _ (c .before .before .before .before .before .before .before .before .before .before .before .before .before .before .before .before .before .before .before .before .before .before .before .before .before .if1 .left) (c .before .before .before .before .before .before .before .before .before .before .before .before .before .before .before .before .before .load-said .ensures .4), left-full _ _ _ _ _ (c .before .before .before .before .before .before .before .before .before .before .before .before .before .before .before .before .before .before .before .before .before .before .before .before .before .if1 .left) (c .before .before .before .before .before .before .before .before .before .before .before .before .before .before .before .before .before .load-said .ensures .5), left-full _ _ _ _ _ (c .before .before .before .before .before .before .before .before .before .before .before .before .before .before .before .before .before .before .before .before .before .before .before .before .before .if1 .left) (c .before .before .before .before .before .before .before .before .before .before .before .before .before .before .before .before .before .load-said .ensures .6), left-full _ _ _ _ _ (c .before .before .before .before .before .before .before .before .before .before .before .before .before .before .before .before .before .before .before .before .before .before .before .before .before .if1 .left) (c .before .before .before .before .before .before .before .before .before .before .before .before .before .before .before .before .before .load-said .ensures .7), out-full _ _ _ _ (c .before .before .before .before .before .before .before .before .before .before .before .before .before .before .before .before .before .before .before .before .before .before .before .before .before .if1 .left) (c .before .before .put-rows .ensures ∙ ap (λ x. sets (c .before .before .before .before .before .before .before .before .before .before .before .before .before .before .before .before .before .before .before .before .before .before .before .before .before .before .before .before .before .before .before .before .before .before .before .args .out .now) 0 (rowsNumbers x)) (c .before .before .before .before .before .before .before .before .before .before .before .before .before .before .before .before .before .load-said .ensures .0)))
+returns-2 c =
+    let h = c .before .before .before .before .before .before .before .before .before .before .before .before .before .before .before .before .before .before .before .before .before .before .if1 .left in
+    let l = c .before .before .before .before .before .before .before .before .before .before .before .before .before .before .before .load-said .ensures in
+    (answer-full _ _ _ _ h (ap (λ x. x .number) (l .0)), left-full _ _ _ _ _ h (l .1), out-full _ _ _ _ h (c .before .before .put-rows .ensures ∙ ap (λ x. sets (c .before .before .before .before .before .before .before .before .before .before .before .before .before .before .before .before .before .before .before .before .before .before .before .before .before .before .before .before .before .before .before .args .out .now) 0 (rowsNumbers x)) (l .0)))
 
 pub larsavim-load-spec : {M : Type 1} → statement M
 larsavim-load-spec =
@@ -57,5 +57,4 @@ larsavim-load-spec =
     same-length-5
     same-length-6
     same-length-7
-    same-length-8
     returns-2)

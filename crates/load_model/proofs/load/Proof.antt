@@ -5,6 +5,7 @@ use borrow.Author.Tests.{not-true, not-false}
 use Rattle.head_words.specs.Words.{headerAt}
 use Rattle.load_plan.specs.Plans.{Sound}
 use Rattle.load_plan.proofs.Laws.{needs-sound}
+use Rattle.load_model.specs.Load.{lent}
 use Rattle.load_model.proofs.Laws.{part-short, small-values, load-refused, load-room, load-filled}
 use borrow.Author.Needs.{needs}
 use Rattle.load_model.proofs.load.Statement.{statement}
@@ -21,25 +22,29 @@ enum-known-p c = search needs
 
 room-requires : tie.Need-room-requires
 room-requires c κs =
-    let a = c .before .before .before .before .before .before .before .before .before .before .before .before .args in
+    let a = c .before .before .before .before .before .before .before .before .before .before .before .args in
     let h = headerAt (a .words .now) in
     let s = needs-sound (a .file .now) h (a .which) _ (sym (c .before .p .given .1) ∙ c .before .before .before .needs .ensures) in
-    small-values _ _ s (omega (arith, part-short (a .file .now) (h .«data_start») (h .«data_len»), c .before .before .before .before .before .before .before .before .before .before .before .before .good))
+    small-values _ _ s (omega (arith, part-short (a .file .now) (h .«data_start») (h .«data_len»), c .before .before .before .before .before .before .before .before .before .before .before .good))
 
 returns : tie.Need-returns
-returns c = let a = c .before .before .before .before .before .before .before .before .before .before .before .before .before .before .args in load-room (a .file .now) (headerAt (a .words .now)) (a .which) (a .questions .now) (a .patterns .now) (a .trees .now) (a .records .now) (a .blocks .now) (a .values .now) (a .work .now) _ (sym (c .before .before .before .p .given .1) ∙ c .before .before .before .before .before .needs .ensures) (c .before .room .ensures) (not-true _ (c .if1 .taken))
+returns c =
+    let a = c .before .before .before .before .before .before .before .before .before .before .before .before .before .args in
+    load-room (a .file .now) (headerAt (a .words .now)) (a .which) (lent (a .questions .now) (a .patterns .now) (a .trees .now) (a .records .now) (a .values .now) (a .work .now)) _ (sym (c .before .before .before .p .given .1) ∙ c .before .before .before .before .before .needs .ensures) (c .before .room .ensures) (not-true _ (c .if1 .taken))
 
 data-of-requires : tie.Need-data-of-requires
 data-of-requires c κs = search needs
 
 fill-requires : tie.Need-fill-requires
 fill-requires c κs =
-    let a = c .before .before .before .before .before .before .before .before .before .before .before .before .before .before .before .before .before .before .before .before .before .before .args in
-    let s = needs-sound (a .file .now) (headerAt (a .words .now)) (a .which) _ (sym (c .before .before .before .before .before .before .before .before .before .before .before .p .given .1) ∙ c .before .before .before .before .before .before .before .before .before .before .before .before .before .needs .ensures) in
-    (subst (λ d. Sound d (c .before .before .before .before .before .before .before .before .before .before .before .p .given .0 .0)) (sym (c .before .before .before .before .before .before .before .data-of .ensures)) s, sym (c .before .before .before .before .before .before .before .before .before .room .ensures) ∙ not-false _ (c .before .before .before .before .before .before .before .before .if1 .left))
+    let a = c .before .before .before .before .before .before .before .before .before .before .before .before .before .before .before .before .before .before .before .before .args in
+    let s = needs-sound (a .file .now) (headerAt (a .words .now)) (a .which) _ (sym (c .before .before .before .before .before .before .before .before .before .before .p .given .1) ∙ c .before .before .before .before .before .before .before .before .before .before .before .before .needs .ensures) in
+    (subst (λ d. Sound d (c .before .before .before .before .before .before .before .before .before .before .p .given .0 .0)) (sym (c .before .before .before .before .before .before .data-of .ensures)) s, sym (c .before .before .before .before .before .before .before .before .room .ensures) ∙ not-false _ (c .before .before .before .before .before .before .before .if1 .left))
 
 returns-2 : tie.Need-returns-2
-returns-2 c = let a = c .before .before .before .before .before .before .before .before .before .before .before .before .args in load-refused (a .file .now) (headerAt (a .words .now)) (a .which) (a .questions .now) (a .patterns .now) (a .trees .now) (a .records .now) (a .blocks .now) (a .values .now) (a .work .now) (sym (c .before .refusal .given .1) ∙ c .before .before .before .needs .ensures)
+returns-2 c =
+    let a = c .before .before .before .before .before .before .before .before .before .before .before .args in
+    load-refused (a .file .now) (headerAt (a .words .now)) (a .which) (lent (a .questions .now) (a .patterns .now) (a .trees .now) (a .records .now) (a .values .now) (a .work .now)) (sym (c .before .refusal .given .1) ∙ c .before .before .before .needs .ensures)
 
 same-length : tie.Need-same-length
 same-length c = search needs
@@ -59,11 +64,10 @@ same-length-5 c = search needs
 same-length-6 : tie.Need-same-length-6
 same-length-6 c = search needs
 
-same-length-7 : tie.Need-same-length-7
-same-length-7 c = search needs
-
 returns-3 : tie.Need-returns-3
-returns-3 c = let a = c .before .before .before .before .before .before .before .before .before .before .before .before .before .before .before .before .before .before .before .before .before .before .before .before .before .before .before .before .before .before .before .before .before .before .before .before .args in load-filled (a .file .now) (headerAt (a .words .now)) (a .which) (a .questions .now) (a .patterns .now) (a .trees .now) (a .records .now) (a .blocks .now) (a .values .now) (a .work .now) _ (sym (c .before .before .before .before .before .before .before .before .before .before .before .before .before .before .before .before .before .before .before .before .before .before .before .before .before .p .given .1) ∙ c .before .before .before .before .before .before .before .before .before .before .before .before .before .before .before .before .before .before .before .before .before .before .before .before .before .before .before .needs .ensures) (c .before .before .before .before .before .before .before .before .before .before .before .before .before .before .before .before .before .before .before .before .before .before .before .room .ensures) (not-false _ (c .before .before .before .before .before .before .before .before .before .before .before .before .before .before .before .before .before .before .before .before .before .before .if1 .left)) (c .before .before .before .before .before .before .before .before .before .before .before .before .before .before .before .before .before .before .before .before .before .data-of .ensures) (c .before .before .before .before .before .before .before .before .before .before .before .before .before .fill .ensures)
+returns-3 c =
+    let a = c .before .before .before .before .before .before .before .before .before .before .before .before .before .before .before .before .before .before .before .before .before .before .before .before .before .before .before .before .before .before .before .before .args in
+    load-filled (a .file .now) (headerAt (a .words .now)) (a .which) (lent (a .questions .now) (a .patterns .now) (a .trees .now) (a .records .now) (a .values .now) (a .work .now)) _ (sym (c .before .before .before .before .before .before .before .before .before .before .before .before .before .before .before .before .before .before .before .before .before .before .p .given .1) ∙ c .before .before .before .before .before .before .before .before .before .before .before .before .before .before .before .before .before .before .before .before .before .before .before .before .needs .ensures) (c .before .before .before .before .before .before .before .before .before .before .before .before .before .before .before .before .before .before .before .before .room .ensures) (not-false _ (c .before .before .before .before .before .before .before .before .before .before .before .before .before .before .before .before .before .before .before .if1 .left)) (c .before .before .before .before .before .before .before .before .before .before .before .before .before .before .before .before .before .before .data-of .ensures) (c .before .before .before .before .before .before .before .before .before .before .before .fill .ensures)
 
 pub load-spec : {M : Type 1} → statement M
 load-spec =
@@ -83,5 +87,4 @@ load-spec =
     same-length-4
     same-length-5
     same-length-6
-    same-length-7
     returns-3)

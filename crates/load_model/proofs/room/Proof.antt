@@ -5,8 +5,6 @@ use Rattle.load_model.specs.Load.{roomFor}
 use borrow.Author.Needs.{needs}
 use Rattle.load_model.proofs.room.Statement.{statement}
 use Rattle.load_model.proofs.room.Tie as tie
-use Rattle.load_model.proofs.room.Reads as reads
-use Rattle.load_model.proofs.room.Lts as lts
 
 returns : tie.Need-returns
 unfolding roomFor
@@ -24,12 +22,12 @@ returns-4 : tie.Need-returns-4
 unfolding roomFor
 returns-4 c = rw (le-leb _ _ (c .before .before .before .before .before .before .if1 .left), le-leb _ _ (c .before .before .before .before .if2 .left), le-leb _ _ (c .before .before .if3 .left), lt-leb _ _ (c .if4 .taken)) refl
 
+mul-if5 : tie.Need-mul-if5
+mul-if5 c = search needs
+
 returns-5 : tie.Need-returns-5
 unfolding roomFor
 returns-5 c = rw (le-leb _ _ (c .before .before .before .before .before .before .before .before .if1 .left), le-leb _ _ (c .before .before .before .before .before .before .if2 .left), le-leb _ _ (c .before .before .before .before .if3 .left), le-leb _ _ (c .before .before .if4 .left), lt-leb _ _ (c .if5 .taken)) refl
-
-mul-if6 : tie.Need-mul-if6
-mul-if6 c = search needs
 
 returns-6 : tie.Need-returns-6
 unfolding roomFor
@@ -37,11 +35,7 @@ returns-6 c = rw (le-leb _ _ (c .before .before .before .before .before .before 
 
 returns-7 : tie.Need-returns-7
 unfolding roomFor
-returns-7 c = rw (le-leb _ _ (c .before .before .before .before .before .before .before .before .before .before .before .before .if1 .left), le-leb _ _ (c .before .before .before .before .before .before .before .before .before .before .if2 .left), le-leb _ _ (c .before .before .before .before .before .before .before .before .if3 .left), le-leb _ _ (c .before .before .before .before .before .before .if4 .left), le-leb _ _ (c .before .before .before .before .if5 .left), le-leb _ _ (c .before .before .if6 .left), lt-leb _ _ (c .if7 .taken)) refl
-
-returns-8 : tie.Need-returns-8
-unfolding roomFor
-returns-8 c = rw (le-leb _ _ (c .before .before .before .before .before .before .before .before .before .before .before .before .if1 .left), le-leb _ _ (c .before .before .before .before .before .before .before .before .before .before .if2 .left), le-leb _ _ (c .before .before .before .before .before .before .before .before .if3 .left), le-leb _ _ (c .before .before .before .before .before .before .if4 .left), le-leb _ _ (c .before .before .before .before .if5 .left), le-leb _ _ (c .before .before .if6 .left), le-leb _ _ (c .if7 .left)) refl
+returns-7 c = rw (le-leb _ _ (c .before .before .before .before .before .before .before .before .before .before .if1 .left), le-leb _ _ (c .before .before .before .before .before .before .before .before .if2 .left), le-leb _ _ (c .before .before .before .before .before .before .if3 .left), le-leb _ _ (c .before .before .before .before .if4 .left), le-leb _ _ (c .before .before .if5 .left), le-leb _ _ (c .if6 .left)) refl
 
 pub room-spec : {M : Type 1} → statement M
 room-spec =
@@ -51,8 +45,7 @@ room-spec =
     returns-2
     returns-3
     returns-4
+    mul-if5
     returns-5
-    mul-if6
     returns-6
-    returns-7
-    returns-8)
+    returns-7)

@@ -45,10 +45,10 @@ same-length : tie.Need-same-length
 same-length c = search needs
 
 returns : tie.Need-returns
-returns c = let a = c .before .before .before .before .before .before .before .before .before .before .before .args in by-head (a .s .now) (a .questions .now) (length (a .index .now)) (a .records .now) (4 * a .first) (a .work .now) (c .before .before .before .before .before .head .given .1) (c .before .before .fill-leaf .ensures .0, refl, c .before .before .fill-leaf .ensures .1, refl)
+returns c = let a = c .before .before .before .before .before .before .before .before .before .before .before .args in by-head (a .s .now) (a .questions .now) (length (a .index .now)) (a .first) (a .records .now) (a .work .now) (c .before .before .before .before .before .head .given .1) (c .before .before .fill-leaf .ensures .0, refl, c .before .before .fill-leaf .ensures .1, refl)
 
 returns-2 : tie.Need-returns-2
-returns-2 c = let a = c .before .before .before .before .before .before .before .args in empty-head (a .s .now) (a .questions .now) (length (a .index .now)) (a .records .now) (4 * a .first) (a .work .now) (c .before .head2 .given .1)
+returns-2 c = let a = c .before .before .before .before .before .before .before .args in empty-head (a .s .now) (a .questions .now) (length (a .index .now)) (a .first) (a .records .now) (a .work .now) (c .before .head2 .given .1)
 
 same-length-2 : tie.Need-same-length-2
 same-length-2 c = search needs
@@ -57,10 +57,10 @@ same-length-3 : tie.Need-same-length-3
 same-length-3 c = search needs
 
 returns-3 : tie.Need-returns-3
-returns-3 c = let a = c .before .before .before .before .before .before .before .before .before .before .before .before .before .args in by-head (a .s .now) (a .questions .now) (length (a .index .now)) (a .records .now) (4 * a .first) (a .work .now) (c .before .before .before .before .before .before .before .head3 .given .1) (c .before .before .before .fill-braces .ensures)
+returns-3 c = let a = c .before .before .before .before .before .before .before .before .before .before .before .before .before .args in by-head (a .s .now) (a .questions .now) (length (a .index .now)) (a .first) (a .records .now) (a .work .now) (c .before .before .before .before .before .before .before .head3 .given .1) (c .before .before .before .fill-braces .ensures)
 
 returns-4 : tie.Need-returns-4
-returns-4 c = let a = c .before .before .before .before .before .before .args in no-head (a .s .now) (a .questions .now) (length (a .index .now)) (a .records .now) (4 * a .first) (a .work .now) (c .enum-told .given .1)
+returns-4 c = let a = c .before .before .before .before .before .before .args in no-head (a .s .now) (a .questions .now) (length (a .index .now)) (a .first) (a .records .now) (a .work .now) (c .enum-told .given .1)
 
 pub fill-body-spec : {M : Type 1} → statement M
 fill-body-spec =

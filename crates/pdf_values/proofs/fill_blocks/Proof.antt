@@ -2,18 +2,18 @@
 use mathlib.Core.Path.{_≡_}
 use Prim.Native.Nat.{_-_}
 use native.Mathlib.Omega.{arith}
-use Rattle.pdf_values.proofs.Laws.{Tabling, table-none, row-room, table-more, table-done}
+use Rattle.pdf_values.proofs.Laws.{Setting, set-none, row-room, set-more, set-done}
 use Rattle.pdf_values.proofs.fill_blocks.Statement.{statement}
 use Rattle.pdf_values.proofs.fill_blocks.Tie as tie
 
 abbrev Inv-loop : tie.InvT-loop
-Inv-loop s at trees width blocks₀ k₀ first₀ blocks k first = Tabling s at trees width blocks₀ blocks k first
+Inv-loop s at count width trees₀ k₀ first₀ trees k first = Setting s at count width trees₀ trees k first
 
 abbrev μ-loop : tie.MeasureT-loop
-μ-loop s at trees width blocks₀ k₀ first₀ blocks k first = trees - k
+μ-loop s at count width trees₀ k₀ first₀ trees k first = count - k
 
 loop-holds : tie.Need-loop-holds Inv-loop μ-loop
-loop-holds c = table-none _ _ _ _ _
+loop-holds c = set-none _ _ _ _ _
 
 mul-word : tie.Need-mul-word Inv-loop μ-loop
 mul-word c = omega arith
@@ -27,11 +27,8 @@ word-requires c κs = omega arith
 cast-entries : tie.Need-cast-entries Inv-loop μ-loop
 cast-entries c = omega (arith, c .word .ok)
 
-mul-put2 : tie.Need-mul-put2 Inv-loop μ-loop
-mul-put2 c = omega arith
-
-put2-requires : tie.Need-put2-requires Inv-loop μ-loop
-put2-requires c κs = omega arith
+put-block-requires : tie.Need-put-block-requires Inv-loop μ-loop
+put-block-requires c κs = omega arith
 
 mul-first : tie.Need-mul-first Inv-loop μ-loop
 mul-first c = omega (arith, row-room _ _ _ _ _ _ _ _ (c .before .before .before .before .before .before .loop .inv) (c .before .before .before .before .before .loop-test .taken) _ (c .before .before .before .before .word .ensures), c .before .before .before .before .before .before .before .before .before .pre)
@@ -46,13 +43,13 @@ loop-less : tie.Need-loop-less Inv-loop μ-loop
 loop-less c = omega arith
 
 loop-again : tie.Need-loop-again Inv-loop μ-loop
-loop-again c = table-more _ _ _ _ _ _ _ _ (c .before .before .before .before .before .before .loop .inv) (c .before .before .before .before .before .loop-test .taken) _ (c .before .before .before .before .word .ensures) _ (c .before .before .put2 .ensures)
+loop-again c = set-more _ _ _ _ _ _ _ _ (c .before .before .before .before .before .before .loop .inv) (c .before .before .before .before .before .loop-test .taken) _ (c .before .before .before .before .word .ensures) _ (c .before .before .put-block .ensures)
 
 same-length : tie.Need-same-length Inv-loop μ-loop
 same-length c = c .before .loop .inv .long
 
 returns : tie.Need-returns Inv-loop μ-loop
-returns c = table-done _ _ _ _ _ _ _ _ (c .before .loop .inv) (c .loop-test .left)
+returns c = set-done _ _ _ _ _ _ _ _ (c .before .loop .inv) (c .loop-test .left)
 
 pub fill-blocks-spec : {M : Type 1} → statement M
 fill-blocks-spec =
@@ -65,8 +62,7 @@ fill-blocks-spec =
     add-word
     word-requires
     cast-entries
-    mul-put2
-    put2-requires
+    put-block-requires
     mul-first
     add-first
     add-k

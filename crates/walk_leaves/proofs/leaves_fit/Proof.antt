@@ -11,13 +11,13 @@ use Rattle.walk_leaves.proofs.leaves_fit.Statement.{statement}
 use Rattle.walk_leaves.proofs.leaves_fit.Tie as tie
 
 abbrev Inv-loop : tie.InvT-loop
-Inv-loop questions trees records blocks values width t₀ t = Passing (treeFits questions trees records blocks values width) (treeRows trees) t
+Inv-loop questions trees records values width t₀ t = Passing (treeFits questions trees records values width) (treeRows trees) t
 
 abbrev μ-loop : tie.MeasureT-loop
-μ-loop questions trees records blocks values width t₀ t = treeRows trees - t
+μ-loop questions trees records values width t₀ t = treeRows trees - t
 
 -- there is a tree t
-there : (c : tie.Then1 Inv-loop μ-loop) → c .before .before .loop .t < treeRows (c .before .before .before .before .before .before .before .before .args .trees .now)
+there : (c : tie.Then1 Inv-loop μ-loop) → c .before .before .loop .t < treeRows (c .before .before .before .before .before .before .before .args .trees .now)
 there c = ltb-true _ _ (sym (c .before .tree-there .ensures) ∙ c .if1 .taken)
 
 loop-holds : tie.Need-loop-holds Inv-loop μ-loop
