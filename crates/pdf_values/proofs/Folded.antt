@@ -11,11 +11,7 @@ use Rattle.written.specs.Blocks as block
 use Rattle.written.specs.Tables.{treeRow, folded}
 use Rattle.written.proofs.Folded.{Wide, wide-rest}
 use Rattle.laws.proofs.Tables.{sets-append, sets-over, sets-before}
-use Rattle.pdf_values.specs.Folded.{withBlocks}
-
--- a row before its block is read
-abbrev pub begun : Row → Row
-begun r = r ++ (0 ∷ 0 ∷ [])
+use Rattle.pdf_values.specs.Folded.{begun, withBlocks}
 
 -- ---- one row
 

@@ -173,7 +173,7 @@ module _ {s : List ℕ} (bytes : Bytes s) {h : record-of.Header} (says : record-
       (unlinked (reads f) (there-room f t (subst (λ (p : Plan). roomIn p t ≡ true) (sym p≡) room)) r)
     where
       all-zero : AllZero s (headerRecord h) (whichOf m) t L → L .tables ≡ zeroed t
-      all-zero z = z
+      all-zero z = λ i. lent (z .0 i) (z .1 i) (z .2 i) (z .3 i) (z .4 i) (z .5 i)
 
   -- how every load ends
   pub load-ends : Ends (L .answer) (L .tables)

@@ -1,6 +1,6 @@
 -- A model that can't be planned is none, in the words of the record that the file says: each refusal from 12 to 19 with what is wrong.
 use mathlib.Core.Path.{_≡_, refl, sym, ap, _∙_, subst}
-use mathlib.Core.List.{List}
+use mathlib.Core.List.{List, []}
 use Prim.Native.Nat.{ℕ, _+_, _^_, _≤_, _<_}
 use native.Mathlib.Omega.{arith}
 use lib.ListN.{length, take, drop}
@@ -23,6 +23,7 @@ use Rattle.written.specs.Models as models
 use Rattle.written.specs.Models.{dataOf, Within, Placed, Unplaced}
 use Rattle.written.specs.Loading.{NoModel, Unread, Unloaded}
 use Rattle.shown_models.proofs.Chosen.{whichOf, Placing, at, wide, nowhere, choice-placed}
+use Rattle.load_model.specs.Load.{Tables, lent}
 use Rattle.shown_load.specs.Refused as code
 use Rattle.shown_load.specs.Refused.{NotLoaded}
 use Rattle.shown_load.specs.Stored.{Chose}
@@ -79,9 +80,9 @@ module _ {s : List ℕ} (bytes : Bytes s) {h : record-of.Header} (says : record-
   outside : {a b : ℕ} → ¬ code.Within a b D → ¬ Within (range a b) (dataOf s h)
   outside {a} {b} n w = n (let v = subst (Within (range a b)) (sym (data-is s h)) w in (v .order, v .ends))
 
-  module _ (n₁ n₂ n₃ n₄ n₅ n₆ n₇ : ℕ) where
+  module _ (L : Tables) where
     -- what is refused before the room is looked at
-    none : {z : Refusal} → planned s (headerRecord h) (whichOf m) ≡ planned.Refused z → NotLoaded s (headerRecord h) (whichOf m) n₁ n₂ n₃ n₄ n₅ n₆ n₇ z → None z
+    none : {z : Refusal} → planned s (headerRecord h) (whichOf m) ≡ planned.Refused z → NotLoaded s (headerRecord h) (whichOf m) L z → None z
     unfolding headerRecord
     none e (code.not-chosen c) = unchosen (choice-placed s h says m c) refl
     none e (code.text-outside c n) = let p = there c in NoModel.placed (p .0) (Unread.text-outside (p .1) (outside n))
@@ -92,8 +93,12 @@ module _ {s : List ℕ} (bytes : Bytes s) {h : record-of.Header} (says : record-
     none e (code.no-room c r) = let z = c .plan ∙ e in clash (cc)
     none e (code.not-linked c r l) = let z = c .plan ∙ e in clash (cc)
 
+  -- whatever is lent
+  nothing : Tables
+  nothing = lent [] [] [] [] [] []
+
   short : length s < 2 ^ 63
   short = let l = says .fits in omega arith
 
   pub no-model : {z : Refusal} → planned s (headerRecord h) (whichOf m) ≡ planned.Refused z → None z × (numberOf z ≤ 19)
-  no-model {z} e = (none 0 0 0 0 0 0 0 e (needs-not s (headerRecord h) (whichOf m) short (bytes .below) (record-arrays h) 0 0 0 0 0 0 0 e), subst Before e (planned-before s (headerRecord h) (whichOf m)))
+  no-model {z} e = (none nothing e (needs-not s (headerRecord h) (whichOf m) short (bytes .below) (record-arrays h) nothing e), subst Before e (planned-before s (headerRecord h) (whichOf m)))

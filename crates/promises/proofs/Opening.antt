@@ -21,7 +21,7 @@ use Rattle.shown_open.proofs.Opened.{OpenAnswer, open-sound}
 use Rattle.shown_open.proofs.Opened as answer
 use Rattle.face_open.specs.declared.Said.{Said}
 use Rattle.face_open.specs.Answers.{said, openSaidBy, openSaid, openWordsBy, openWords}
-use Rattle.promises.specs.Face.{answered, written, left, saidNumbers, Opens}
+use Rattle.larsavim.specs.Face.{answered, written, left, saidNumbers, Opens}
 use Rattle.promises.proofs.Moved.{moved₃}
 use Rattle.promises.specs.Opening.{recordWords, AfterOpen, short-out, opened, few-words, refused}
 

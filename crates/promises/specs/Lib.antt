@@ -1,2 +1,3 @@
-pub mod Face
 pub mod Opening
+pub mod Loading
+pub mod Walking

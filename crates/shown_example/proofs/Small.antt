@@ -45,7 +45,8 @@ use Rattle.tree_body.specs.Trees.{pastStar, numberAt, stateAt, bodyAt, headAt a
 use Rattle.tree_survey.specs.Said.{saidRecords, saidSurvey}
 use Rattle.tree_survey.specs.Survey.{textAt, treesCounted, surveyOf, surveyAt}
 use Rattle.pdf_widen.specs.Widening.{widenFields, widenOf}
-use Rattle.pdf_blocks.specs.Values.{wordsAt, blockAt, blockRows, pairsAt, entryAt, valuesAt}
+use Rattle.pdf_blocks.specs.Values.{wordsAt, blockAt, pairsAt, entryAt, valuesAt}
+use Rattle.pdf_values.specs.Folded.{withBlocks}
 use Rattle.load_lines.specs.Words.{askedAt, lineWords}
 use Rattle.load_tree.specs.Bodies.{linkResult}
 use Rattle.load_trees.specs.Trees.{treesEnd, treeWords, recordWords, workAfter}
@@ -64,7 +65,7 @@ use Rattle.written.specs.Linking.{Nth}
 use Rattle.written.specs.Walks.{Ending, Written, isYes}
 use Rattle.written.proofs.Tests.{both}
 use Rattle.pdf_blocks.proofs.Joined.{Small}
-use Rattle.load_model.specs.Load.{After}
+use Rattle.load_model.specs.Load.{Tables, lent, After}
 use Rattle.walk.specs.Walking.{walkOf}
 use Rattle.walk.specs.Answer.{answerOf, endingAnswer}
 use Rattle.shown_load.specs.Stored.{Stored}
@@ -108,23 +109,26 @@ record₁ =
       «data_len» = 133;
     }
 
--- every table filled with sevens before
-abbrev after : After
-after = loadOf data-bytes record₁ Duration (replicate 12 7) (replicate 6 7) (replicate 12 7) (replicate 28 7) (replicate 6 7) (replicate 8 7) (replicate 18 (pos 7))
+-- every table filled with sevens before, that of the trees with five numbers more than its rows need
+abbrev before : Tables
+before = lent (replicate 12 7) (replicate 6 7) (replicate 23 7) (replicate 28 7) (replicate 8 7) (replicate 18 (pos 7))
 
-pub loads : after .answer ≡ loaded.Done 3 3 3 7 3 8
-unfolding littleEndian total rowsFrom paired bytes oneOf same letter digit wildcard mark inPattern inWord blank spaceOrTab inName byteAt between decimal run stop readFrom read larger total-laws largest anyOf eqZ classOf unsignedOf unsignedFrom unsignedAt signedAt patternOf patternAt emptyGlobal emptyStream emptyPosition emptyHeader filled globalRecord streamRecord positionRecord headerRecord each counted spanFits globalFits streamFits positionFits recordFits splitOf keyRow rowAt rowsFrom-groups rowsAt rowLineAt over noNames namesWith knownFrom knownIn rowsFrom-rows treeTable recordTable keyOf nameKey partOr nameAt idAt sideOf insert sorted lastBelow firstFrom countFrom refOf linesFrom pdfsOf targetOf orderFrom leafRows lineRows leavesOf recordRows linkOutcome linkedRows stepQuestion outcome goals withinOf modelOf streamModel gvModel named numbered chosenOf pastQs startsQuestion headAt afterPattern patternStepAt itemAt afterQuestion patternsAt questionStepAt questionsAt patternsCounted questionsCounted nameOf nameAt-base-spaces pastByte newlineAt partingAt linePartingAt closeAt digitsFrom pdfOf pdfAt bareAt quotedAt referenceAt yesAt branchesAt lineAt afterLine lineStepAt linesAt recordsOf linesCounted linesSurveyed pastStar numberAt stateAt bodyAt headAt-tree afterTree treeStepAt treesAt saidRecords saidSurvey textAt treesCounted surveyOf surveyAt widenFields widenOf wordsAt blockAt blockRows pairsAt entryAt valuesAt askedAt lineWords linkResult treesEnd treeWords recordWords workAfter spanWords patternWords questionWords rowAt-model-questions textOf entriesOf planOf planned roomFor filled-model loadOf
+abbrev after : After
+after = loadOf data-bytes record₁ Duration before
+
+pub loads : after .answer ≡ loaded.Done 3 3 3 7 8
+unfolding littleEndian total rowsFrom paired bytes oneOf same letter digit wildcard mark inPattern inWord blank spaceOrTab inName byteAt between decimal run stop readFrom read larger total-laws largest anyOf eqZ classOf unsignedOf unsignedFrom unsignedAt signedAt patternOf patternAt emptyGlobal emptyStream emptyPosition emptyHeader filled globalRecord streamRecord positionRecord headerRecord each counted spanFits globalFits streamFits positionFits recordFits splitOf keyRow rowAt rowsFrom-groups rowsAt rowLineAt over noNames namesWith knownFrom knownIn rowsFrom-rows treeTable recordTable keyOf nameKey partOr nameAt idAt sideOf insert sorted lastBelow firstFrom countFrom refOf linesFrom pdfsOf targetOf orderFrom leafRows lineRows leavesOf recordRows linkOutcome linkedRows stepQuestion outcome goals withinOf modelOf streamModel gvModel named numbered chosenOf pastQs startsQuestion headAt afterPattern patternStepAt itemAt afterQuestion patternsAt questionStepAt questionsAt patternsCounted questionsCounted nameOf nameAt-base-spaces pastByte newlineAt partingAt linePartingAt closeAt digitsFrom pdfOf pdfAt bareAt quotedAt referenceAt yesAt branchesAt lineAt afterLine lineStepAt linesAt recordsOf linesCounted linesSurveyed pastStar numberAt stateAt bodyAt headAt-tree afterTree treeStepAt treesAt saidRecords saidSurvey textAt treesCounted surveyOf surveyAt widenFields widenOf wordsAt blockAt withBlocks pairsAt entryAt valuesAt askedAt lineWords linkResult treesEnd treeWords recordWords workAfter spanWords patternWords questionWords rowAt-model-questions textOf entriesOf planOf planned roomFor filled-model loadOf
 loads = refl
 
--- the last of two lines with id -1, the last of two questions named A
-pub tree-table : after .trees ≡ 2 ∷ 0 ∷ 6 ∷ 3 ∷ 3 ∷ 6 ∷ 1 ∷ 0 ∷ 4 ∷ 7 ∷ 0 ∷ 0 ∷ []
-unfolding littleEndian total rowsFrom paired bytes oneOf same letter digit wildcard mark inPattern inWord blank spaceOrTab inName byteAt between decimal run stop readFrom read larger total-laws largest anyOf eqZ classOf unsignedOf unsignedFrom unsignedAt signedAt patternOf patternAt emptyGlobal emptyStream emptyPosition emptyHeader filled globalRecord streamRecord positionRecord headerRecord each counted spanFits globalFits streamFits positionFits recordFits splitOf keyRow rowAt rowsFrom-groups rowsAt rowLineAt over noNames namesWith knownFrom knownIn rowsFrom-rows treeTable recordTable keyOf nameKey partOr nameAt idAt sideOf insert sorted lastBelow firstFrom countFrom refOf linesFrom pdfsOf targetOf orderFrom leafRows lineRows leavesOf recordRows linkOutcome linkedRows stepQuestion outcome goals withinOf modelOf streamModel gvModel named numbered chosenOf pastQs startsQuestion headAt afterPattern patternStepAt itemAt afterQuestion patternsAt questionStepAt questionsAt patternsCounted questionsCounted nameOf nameAt-base-spaces pastByte newlineAt partingAt linePartingAt closeAt digitsFrom pdfOf pdfAt bareAt quotedAt referenceAt yesAt branchesAt lineAt afterLine lineStepAt linesAt recordsOf linesCounted linesSurveyed pastStar numberAt stateAt bodyAt headAt-tree afterTree treeStepAt treesAt saidRecords saidSurvey textAt treesCounted surveyOf surveyAt widenFields widenOf wordsAt blockAt blockRows pairsAt entryAt valuesAt askedAt lineWords linkResult treesEnd treeWords recordWords workAfter spanWords patternWords questionWords rowAt-model-questions textOf entriesOf planOf planned roomFor filled-model loadOf
+-- the last of two lines with id -1, the last of two questions named A; blocks of three entries, of one and of none
+pub tree-table : after .tables .trees ≡ 2 ∷ 0 ∷ 6 ∷ 3 ∷ 0 ∷ 3 ∷ 3 ∷ 6 ∷ 1 ∷ 0 ∷ 6 ∷ 1 ∷ 4 ∷ 7 ∷ 0 ∷ 0 ∷ 8 ∷ 0 ∷ 7 ∷ 7 ∷ 7 ∷ 7 ∷ 7 ∷ []
+unfolding littleEndian total rowsFrom paired bytes oneOf same letter digit wildcard mark inPattern inWord blank spaceOrTab inName byteAt between decimal run stop readFrom read larger total-laws largest anyOf eqZ classOf unsignedOf unsignedFrom unsignedAt signedAt patternOf patternAt emptyGlobal emptyStream emptyPosition emptyHeader filled globalRecord streamRecord positionRecord headerRecord each counted spanFits globalFits streamFits positionFits recordFits splitOf keyRow rowAt rowsFrom-groups rowsAt rowLineAt over noNames namesWith knownFrom knownIn rowsFrom-rows treeTable recordTable keyOf nameKey partOr nameAt idAt sideOf insert sorted lastBelow firstFrom countFrom refOf linesFrom pdfsOf targetOf orderFrom leafRows lineRows leavesOf recordRows linkOutcome linkedRows stepQuestion outcome goals withinOf modelOf streamModel gvModel named numbered chosenOf pastQs startsQuestion headAt afterPattern patternStepAt itemAt afterQuestion patternsAt questionStepAt questionsAt patternsCounted questionsCounted nameOf nameAt-base-spaces pastByte newlineAt partingAt linePartingAt closeAt digitsFrom pdfOf pdfAt bareAt quotedAt referenceAt yesAt branchesAt lineAt afterLine lineStepAt linesAt recordsOf linesCounted linesSurveyed pastStar numberAt stateAt bodyAt headAt-tree afterTree treeStepAt treesAt saidRecords saidSurvey textAt treesCounted surveyOf surveyAt widenFields widenOf wordsAt blockAt withBlocks pairsAt entryAt valuesAt askedAt lineWords linkResult treesEnd treeWords recordWords workAfter spanWords patternWords questionWords rowAt-model-questions textOf entriesOf planOf planned roomFor filled-model loadOf
 tree-table = refl
 
 pub record-table :
-    after .records
+    after .tables .records
     ≡ 0 ∷ 1 ∷ 5 ∷ 2 ∷ 0 ∷ 2 ∷ 3 ∷ 0 ∷ 0 ∷ 1 ∷ 4 ∷ 0 ∷ 1 ∷ 1 ∷ 0 ∷ 0 ∷ 1 ∷ 2 ∷ 0 ∷ 0 ∷ 1 ∷ 3 ∷ 0 ∷ 0 ∷ 1 ∷ 1 ∷ 0 ∷ 0 ∷ []
-unfolding littleEndian total rowsFrom paired bytes oneOf same letter digit wildcard mark inPattern inWord blank spaceOrTab inName byteAt between decimal run stop readFrom read larger total-laws largest anyOf eqZ classOf unsignedOf unsignedFrom unsignedAt signedAt patternOf patternAt emptyGlobal emptyStream emptyPosition emptyHeader filled globalRecord streamRecord positionRecord headerRecord each counted spanFits globalFits streamFits positionFits recordFits splitOf keyRow rowAt rowsFrom-groups rowsAt rowLineAt over noNames namesWith knownFrom knownIn rowsFrom-rows treeTable recordTable keyOf nameKey partOr nameAt idAt sideOf insert sorted lastBelow firstFrom countFrom refOf linesFrom pdfsOf targetOf orderFrom leafRows lineRows leavesOf recordRows linkOutcome linkedRows stepQuestion outcome goals withinOf modelOf streamModel gvModel named numbered chosenOf pastQs startsQuestion headAt afterPattern patternStepAt itemAt afterQuestion patternsAt questionStepAt questionsAt patternsCounted questionsCounted nameOf nameAt-base-spaces pastByte newlineAt partingAt linePartingAt closeAt digitsFrom pdfOf pdfAt bareAt quotedAt referenceAt yesAt branchesAt lineAt afterLine lineStepAt linesAt recordsOf linesCounted linesSurveyed pastStar numberAt stateAt bodyAt headAt-tree afterTree treeStepAt treesAt saidRecords saidSurvey textAt treesCounted surveyOf surveyAt widenFields widenOf wordsAt blockAt blockRows pairsAt entryAt valuesAt askedAt lineWords linkResult treesEnd treeWords recordWords workAfter spanWords patternWords questionWords rowAt-model-questions textOf entriesOf planOf planned roomFor filled-model loadOf
+unfolding littleEndian total rowsFrom paired bytes oneOf same letter digit wildcard mark inPattern inWord blank spaceOrTab inName byteAt between decimal run stop readFrom read larger total-laws largest anyOf eqZ classOf unsignedOf unsignedFrom unsignedAt signedAt patternOf patternAt emptyGlobal emptyStream emptyPosition emptyHeader filled globalRecord streamRecord positionRecord headerRecord each counted spanFits globalFits streamFits positionFits recordFits splitOf keyRow rowAt rowsFrom-groups rowsAt rowLineAt over noNames namesWith knownFrom knownIn rowsFrom-rows treeTable recordTable keyOf nameKey partOr nameAt idAt sideOf insert sorted lastBelow firstFrom countFrom refOf linesFrom pdfsOf targetOf orderFrom leafRows lineRows leavesOf recordRows linkOutcome linkedRows stepQuestion outcome goals withinOf modelOf streamModel gvModel named numbered chosenOf pastQs startsQuestion headAt afterPattern patternStepAt itemAt afterQuestion patternsAt questionStepAt questionsAt patternsCounted questionsCounted nameOf nameAt-base-spaces pastByte newlineAt partingAt linePartingAt closeAt digitsFrom pdfOf pdfAt bareAt quotedAt referenceAt yesAt branchesAt lineAt afterLine lineStepAt linesAt recordsOf linesCounted linesSurveyed pastStar numberAt stateAt bodyAt headAt-tree afterTree treeStepAt treesAt saidRecords saidSurvey textAt treesCounted surveyOf surveyAt widenFields widenOf wordsAt blockAt withBlocks pairsAt entryAt valuesAt askedAt lineWords linkResult treesEnd treeWords recordWords workAfter spanWords patternWords questionWords rowAt-model-questions textOf entriesOf planOf planned roomFor filled-model loadOf
 record-table = refl
 
 -- ---- the hypotheses of demand 3 hold of it
@@ -135,13 +139,13 @@ below [] e k = omega arith
 below (b ∷ s) e zero = ltb-true b 0x100 (both (ltb b 0x100) (All256 s) e .0)
 below (b ∷ s) e (suc k) = below s (both (ltb b 0x100) (All256 s) e .1) k
 
-pub stored : Stored data-bytes record₁ Duration (replicate 12 7) (replicate 6 7) (replicate 12 7) (replicate 28 7) (replicate 6 7) (replicate 8 7) (replicate 18 (pos 7)) after
+pub stored : Stored data-bytes record₁ Duration before after
 unfolding All256
-stored = load-stored data-bytes record₁ Duration (omega arith) (below data-bytes refl) (replicate 12 7) (replicate 6 7) (replicate 12 7) (replicate 28 7) (replicate 6 7) (replicate 8 7) (replicate 18 (pos 7)) loads
+stored = load-stored data-bytes record₁ Duration (omega arith) (below data-bytes refl) before loads
 
 counts : (stored .p .trees ≡ 3) × (stored .p .records ≡ 7)
 counts =
-    let e : loaded.Done (stored .p .questions) (stored .p .patterns) (stored .p .trees) (stored .p .records) (stored .p .trees) (stored .p .entries * stored .p .width) ≡ loaded.Done 3 3 3 7 3 8 = sym (stored .counts) ∙ loads in
+    let e : loaded.Done (stored .p .questions) (stored .p .patterns) (stored .p .trees) (stored .p .records) (stored .p .entries * stored .p .width) ≡ loaded.Done 3 3 3 7 8 = sym (stored .counts) ∙ loads in
     let t : stored .p .trees ≡ 3 = cc in
     let r : stored .p .records ≡ 7 = cc in
     (t, r)
@@ -149,5 +153,5 @@ counts =
 -- each of its three trees, any answers, any limit: the loaded walk ends as the written one
 pub walks-as-written : {i : ℕ} {tree : Tree} → Nth (stored .t .trees) i tree → (bytes : List ℕ) → length (stored .t .questions) ≤ length bytes → (m : ℕ)
     → (e : Ending) × Written (stored .t .questions) (λ n. isYes (getD bytes n 0)) (tree .body) m e
-    × (answerOf (walkOf (take (4 * stored .p .trees) (after .trees)) (take (4 * stored .p .records) (after .records)) i bytes m) ≡ endingAnswer e)
+    × (answerOf (walkOf (take (6 * stored .p .trees) (after .tables .trees)) (take (4 * stored .p .records) (after .tables .records)) i bytes m) ≡ endingAnswer e)
 walks-as-written = load-walks stored (omega (arith, counts .0)) (omega (arith, counts .1))

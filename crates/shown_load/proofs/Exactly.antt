@@ -47,7 +47,7 @@ use Rattle.load_plan.specs.declared.Text.{Text}
 use Rattle.load_plan.specs.declared.Text.the-variants as text
 use Rattle.load_plan.specs.declared.Planned.{Planned}
 use Rattle.load_plan.specs.declared.Planned.the-variants as planned
-use Rattle.load_model.specs.Load.{After, roomFor, answerFor, filled, untouched, loadFor, loadOf}
+use Rattle.load_model.specs.Load.{Tables, After, roomIn, answerFor, filled, untouched, loadFor, loadOf}
 use Rattle.load_model.specs.declared.Loaded.the-variants as loaded
 use Rattle.shown_text.specs.Refusals.{RefusedAs, node, question, lone}
 use Rattle.shown_text.proofs.Text.{refused-ends}
@@ -114,17 +114,17 @@ module _ (S : List ℕ) (u : ℕ) where
 
 -- ---- every load
 
-module _ (s : List ℕ) (h : Header) (which : Which) (short : length s < 2 ^ 63) (small : Small s) (arrays : Arrays h) (q a t r b v : List ℕ) (w : List ℤ) where
+module _ (s : List ℕ) (h : Header) (which : Which) (short : length s < 2 ^ 63) (small : Small s) (arrays : Arrays h) (L : Tables) where
   -- the answer is a refusal with the number, the place and the line of z
   abbrev pub RefusedLike : Refusal → Type 0
-  RefusedLike z = (y : Refusal) × (loadOf s h which q a t r b v w .answer ≡ loaded.Refused y) × (numberOf y ≡ numberOf z) × (placeOf y ≡ placeOf z) × (lineOf y ≡ lineOf z)
+  RefusedLike z = (y : Refusal) × (loadOf s h which L .answer ≡ loaded.Refused y) × (numberOf y ≡ numberOf z) × (placeOf y ≡ placeOf z) × (lineOf y ≡ lineOf z)
 
-  itself : {z : Refusal} → loadOf s h which q a t r b v w .answer ≡ loaded.Refused z → RefusedLike z
+  itself : {z : Refusal} → loadOf s h which L .answer ≡ loaded.Refused z → RefusedLike z
   itself {z} e = (z, e, refl, refl, refl)
 
   by-plan : {z : Refusal} → planned s h which ≡ planned.Refused z → RefusedLike z
   unfolding loadOf
-  by-plan e = itself (ap (λ (o : Planned). loadFor (dataOf s h) o q a t r b v w .answer) e)
+  by-plan e = itself (ap (λ (o : Planned). loadFor (dataOf s h) o L .answer) e)
 
   by-choice : {c : Chosen} → Choice s h which c → planned s h which ≡ plannedFor (dataOf s h) c
   unfolding planned
@@ -179,36 +179,36 @@ module _ (s : List ℕ) (h : Header) (which : Which) (short : length s < 2 ^ 63)
   -- ---- with a plan
 
   module _ {p : Plan} {T : said.Text} {l : said.Layout} (c : Chose s h which p T l) where
-    with-plan : loadOf s h which q a t r b v w ≡ loadFor (dataOf s h) (planned.Model p) q a t r b v w
+    with-plan : loadOf s h which L ≡ loadFor (dataOf s h) (planned.Model p) L
     unfolding loadOf
-    with-plan = ap (λ (o : Planned). loadFor (dataOf s h) o q a t r b v w) (sym (c .plan))
+    with-plan = ap (λ (o : Planned). loadFor (dataOf s h) o L) (sym (c .plan))
 
-    short-of-room : roomFor p (length q) (length a) (length t) (length r) (length b) (length v) (length w) ≡ false → loadOf s h which q a t r b v w .answer ≡ loaded.Refused refusal.Room
+    short-of-room : roomIn p L ≡ false → loadOf s h which L .answer ≡ loaded.Refused refusal.Room
     short-of-room e =
         ap (λ (o : After). o .answer) with-plan
-        ∙ ap (λ (c : Bool). cond c (filled (dataOf s h) p q a t r b v w) (untouched refusal.Room q a t r b v w) .answer) e
+        ∙ ap (λ (c : Bool). cond c (filled (dataOf s h) p L) (untouched refusal.Room L) .answer) e
 
-    linked-so : roomFor p (length q) (length a) (length t) (length r) (length b) (length v) (length w) ≡ true
-        → loadOf s h which q a t r b v w .answer ≡ answerFor p (endAt (take (p .«text_end») (dataOf s h)) (p .text) (p .first))
+    linked-so : roomIn p L ≡ true
+        → loadOf s h which L .answer ≡ answerFor p (endAt (take (p .«text_end») (dataOf s h)) (p .text) (p .first))
     unfolding filled
     linked-so e =
         ap (λ (o : After). o .answer) with-plan
-        ∙ ap (λ (c : Bool). cond c (filled (dataOf s h) p q a t r b v w) (untouched refusal.Room q a t r b v w) .answer) e
+        ∙ ap (λ (c : Bool). cond c (filled (dataOf s h) p L) (untouched refusal.Room L) .answer) e
 
-    refused-so : (z : Refusal) → roomFor p (length q) (length a) (length t) (length r) (length b) (length v) (length w) ≡ true
+    refused-so : (z : Refusal) → roomIn p L ≡ true
         → ModelRefused (T .questions) (T .trees) (numberOf z) (placeOf z) (lineOf z) → RefusedLike z
     refused-so z room m =
         let k = says.read s h which short small p (c .plan) in
         as-is (endAt (take (p .«text_end») (dataOf s h)) (p .text) (p .first)) (linked-so room) (refused-ends (c .says) (k .begins) (says.S-short s h which short small p (c .plan)) (c .natural) m)
       where
-        as-is : (o : Linked) → loadOf s h which q a t r b v w .answer ≡ answerFor p o → {n i j : ℕ} → RefusedAs o n i j
-            → (y : Refusal) × (loadOf s h which q a t r b v w .answer ≡ loaded.Refused y) × (numberOf y ≡ n) × (placeOf y ≡ i) × (lineOf y ≡ j)
+        as-is : (o : Linked) → loadOf s h which L .answer ≡ answerFor p o → {n i j : ℕ} → RefusedAs o n i j
+            → (y : Refusal) × (loadOf s h which L .answer ≡ loaded.Refused y) × (numberOf y ≡ n) × (placeOf y ≡ i) × (lineOf y ≡ j)
         as-is _ e (node {a = i} {k = j}) = (refusal.NodeRef i j, e, refl, refl, refl)
         as-is _ e (question {a = i} {k = j}) = (refusal.QuestionRef i j, e, refl, refl, refl)
         as-is _ e (lone {a = i}) = (refusal.LoneNode i 0, e, refl, refl, refl)
 
   -- what is wrong is refused, with that number, place and line
-  pub not-load : {z : Refusal} → NotLoaded s h which (length q) (length a) (length t) (length r) (length b) (length v) (length w) z → RefusedLike z
+  pub not-load : {z : Refusal} → NotLoaded s h which L z → RefusedLike z
   not-load (not-chosen c) = by-plan (by-choice c)
   not-load (text-outside c n) = by-plan (outside c n)
   not-load (no-text {u = u} {v = v} {p = p} c i n) = by-plan (refused-text c i (text-broken (take (v + 1) (dataOf s h)) u p (breaks-broken (take (v + 1) (dataOf s h)) n)))

@@ -1,4 +1,4 @@
--- Demand 1 of a load, by number: whatever is refused with 1 to 20 leaves each of the seven slices as before; 21 to 23 leave each zero at every index; no
+-- Demand 1 of a load, by number: whatever is refused with 1 to 20 leaves everything lent as before; 21 to 23 leave each slice zero at every index; no
 -- other number comes.
 use mathlib.Core.Path.{_≡_, refl, sym, ap, _∙_, subst}
 use mathlib.Core.Bool.{Bool, true, false, cond, _&&_}
@@ -44,9 +44,8 @@ use Rattle.load_plan.specs.declared.Text.{Text}
 use Rattle.load_plan.specs.declared.Text.the-variants as text
 use Rattle.load_plan.specs.declared.Planned.{Planned}
 use Rattle.load_plan.specs.declared.Planned.the-variants.{Model, Refused}
-use Rattle.load_model.specs.Load.{After, roomFor, answerFor, filledBy, filled, untouched, loadFor, loadOf}
+use Rattle.load_model.specs.Load.{Tables, After, roomIn, answerFor, filledBy, filled, untouched, loadFor, loadOf, Loads}
 use Rattle.load_model.specs.declared.Loaded.{Loaded}
-use Rattle.load_model.proofs.Laws.{Is}
 use Rattle.load_model.specs.declared.Loaded.the-variants as loaded
 
 -- ---- before the tables are looked at, no number is above 19
@@ -159,23 +158,23 @@ planned-before s h which = go (chosenOf s h which) (chosen-early s h which)
 
 -- ---- the three ways of a load
 
-module _ (s : List ℕ) (h : Header) (which : Which) (q a t r b v : List ℕ) (w : List ℤ) where
+module _ (s : List ℕ) (h : Header) (which : Which) (L : Tables) where
   pub data Way : After → Type 0 where
     -- refused before anything is written
-    kept : (x : Refusal) → numberOf x ≤ 20 → Way (untouched x q a t r b v w)
+    kept : (x : Refusal) → numberOf x ≤ 20 → Way (untouched x L)
     -- the rows of a plan, linked or zero
-    written : (p : Plan) → Model p ≡ planned s h which → roomFor p (length q) (length a) (length t) (length r) (length b) (length v) (length w) ≡ true → Way (filled (dataOf s h) p q a t r b v w)
+    written : (p : Plan) → Model p ≡ planned s h which → roomIn p L ≡ true → Way (filled (dataOf s h) p L)
 
-  pub way : Way (loadOf s h which q a t r b v w)
+  pub way : Way (loadOf s h which L)
   unfolding loadOf
   way = go (planned s h which) refl (planned-before s h which)
     where
-      go : (o : Planned) → o ≡ planned s h which → Before o → Way (loadFor (dataOf s h) o q a t r b v w)
+      go : (o : Planned) → o ≡ planned s h which → Before o → Way (loadFor (dataOf s h) o L)
       go (Refused x) e k = kept x (omega arith)
-      go (Model p) e k = room (roomFor p (length q) (length a) (length t) (length r) (length b) (length v) (length w)) refl
+      go (Model p) e k = room (roomIn p L) refl
         where
-          room : (c : Bool) → roomFor p (length q) (length a) (length t) (length r) (length b) (length v) (length w) ≡ c
-              → Way (cond c (filled (dataOf s h) p q a t r b v w) (untouched refusal.Room q a t r b v w))
+          room : (c : Bool) → roomIn p L ≡ c
+              → Way (cond c (filled (dataOf s h) p L) (untouched refusal.Room L))
           room true m = written p e m
           room false m = kept refusal.Room (omega arith)
 
@@ -183,52 +182,50 @@ module _ (s : List ℕ) (h : Header) (which : Which) (q a t r b v : List ℕ) (w
 
   -- every slice is as before
   abbrev pub Untouched : After → Type 0
-  Untouched x = (x .questions ≡ q) × (x .patterns ≡ a) × (x .trees ≡ t) × (x .records ≡ r) × (x .blocks ≡ b) × (x .values ≡ v) × (x .work ≡ w)
+  Untouched x = x .tables ≡ L
 
   -- every slice is zero over its whole length
   abbrev pub AllZero : After → Type 0
   AllZero x =
-      (x .questions ≡ replicate (length q) 0) × (x .patterns ≡ replicate (length a) 0) × (x .trees ≡ replicate (length t) 0) × (x .records ≡ replicate (length r) 0)
-      × (x .blocks ≡ replicate (length b) 0) × (x .values ≡ replicate (length v) 0) × (x .work ≡ replicate (length w) (pos 0))
+      (x .tables .questions ≡ replicate (length (L .questions)) 0) × (x .tables .patterns ≡ replicate (length (L .patterns)) 0) × (x .tables .trees ≡ replicate (length (L .trees)) 0)
+      × (x .tables .records ≡ replicate (length (L .records)) 0) × (x .tables .values ≡ replicate (length (L .values)) 0) × (x .tables .work ≡ replicate (length (L .work)) (pos 0))
 
   -- by number
   abbrev pub ByNumber : After → Refusal → Type 0
   ByNumber x y = (numberOf y ≤ 23) × (numberOf y ≤ 20 → Untouched x) × (20 < numberOf y → AllZero x)
 
-  linked-number : (p : Plan) (e : Linked) → (y : Refusal) → answerFor p e ≡ loaded.Refused y → (c : List ℕ) (i f : ℕ) (d : List ℕ) → ByNumber (filledBy p c i f d e q a t r b v w) y
+  linked-number : (p : Plan) (e : Linked) → (y : Refusal) → answerFor p e ≡ loaded.Refused y → (c : List ℕ) (i f : ℕ) (d : List ℕ) → ByNumber (filledBy p c i f d e L) y
   linked-number p linked.Done y h c i f d = let u : _≡_ {A = ℕ} 0 1 = cc in absurd (omega arith)
   linked-number p (linked.NodeRef x k) y h c i f d =
       let u : refusal.NodeRef x k ≡ y = cc in
       let n : 21 ≡ numberOf y = ap numberOf u in
-      (omega arith, λ l. absurd (omega arith), λ l. (refl, refl, refl, refl, refl, refl, refl))
+      (omega arith, λ l. absurd (omega arith), λ l. (refl, refl, refl, refl, refl, refl))
   linked-number p (linked.QuestionRef x k) y h c i f d =
       let u : refusal.QuestionRef x k ≡ y = cc in
       let n : 22 ≡ numberOf y = ap numberOf u in
-      (omega arith, λ l. absurd (omega arith), λ l. (refl, refl, refl, refl, refl, refl, refl))
+      (omega arith, λ l. absurd (omega arith), λ l. (refl, refl, refl, refl, refl, refl))
   linked-number p (linked.LoneNode x) y h c i f d =
       let u : refusal.LoneNode x 0 ≡ y = cc in
       let n : 23 ≡ numberOf y = ap numberOf u in
-      (omega arith, λ l. absurd (omega arith), λ l. (refl, refl, refl, refl, refl, refl, refl))
+      (omega arith, λ l. absurd (omega arith), λ l. (refl, refl, refl, refl, refl, refl))
 
   way-number : (x : After) → Way x → (y : Refusal) → x .answer ≡ loaded.Refused y → ByNumber x y
   unfolding filled
   way-number x (kept z n) y k =
       let u : z ≡ y = cc in
       let m : numberOf z ≡ numberOf y = ap numberOf u in
-      (omega arith, λ l. (refl, refl, refl, refl, refl, refl, refl), λ l. absurd (omega arith))
+      (omega arith, λ l. refl, λ l. absurd (omega arith))
   way-number x (written p e m) y k =
       linked-number p (endAt (take (p .«text_end») (dataOf s h)) (p .text) (p .first)) y k (take (p .«text_end») (dataOf s h)) (p .text) (p .first) (take (p .«block_end») (dataOf s h))
 
   -- every refusal of a load has a number up to 23; up to 20 it changes nothing that is lent; above, everything lent is zero
-  pub demand₁ : (y : Refusal) → loadOf s h which q a t r b v w .answer ≡ loaded.Refused y → ByNumber (loadOf s h which q a t r b v w) y
-  demand₁ y e = way-number (loadOf s h which q a t r b v w) way y e
+  pub demand₁ : (y : Refusal) → loadOf s h which L .answer ≡ loaded.Refused y → ByNumber (loadOf s h which L) y
+  demand₁ y e = way-number (loadOf s h which L) way y e
 
-  -- ---- the contract determines the outcome: the answer and each of the seven slices
+  -- ---- the contract determines the outcome: the answer and all that is lent
 
-  pub load-once : {l l′ : Loaded} {q₁ q₂ a₁ a₂ t₁ t₂ r₁ r₂ b₁ b₂ v₁ v₂ : List ℕ} {w₁ w₂ : List ℤ}
-      → Is (loadOf s h which q a t r b v w) l q₁ a₁ t₁ r₁ b₁ v₁ w₁ → Is (loadOf s h which q a t r b v w) l′ q₂ a₂ t₂ r₂ b₂ v₂ w₂
-      → (l ≡ l′) × (q₁ ≡ q₂) × (a₁ ≡ a₂) × (t₁ ≡ t₂) × (r₁ ≡ r₂) × (b₁ ≡ b₂) × (v₁ ≡ v₂) × (w₁ ≡ w₂)
-  load-once e k = (e .0 ∙ sym (k .0), e .1 ∙ sym (k .1), e .2 ∙ sym (k .2), e .3 ∙ sym (k .3), e .4 ∙ sym (k .4), e .5 ∙ sym (k .5), e .6 ∙ sym (k .6), e .7 ∙ sym (k .7))
+  pub load-once : {l l′ : Loaded} {L₁ L₂ : Tables} → Loads s h which L l L₁ → Loads s h which L l′ L₂ → (l ≡ l′) × (L₁ ≡ L₂)
+  load-once e k = (e .0 ∙ sym (k .0), e .1 ∙ sym (k .1))
 
   pub needs-once : {o o′ : Planned} → o ≡ planned s h which → o′ ≡ planned s h which → o ≡ o′
   needs-once e k = e ∙ sym k

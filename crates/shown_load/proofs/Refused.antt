@@ -47,7 +47,7 @@ use Rattle.load_plan.specs.declared.Planned.{Planned}
 use Rattle.load_plan.specs.declared.Planned.the-variants as planned
 use Rattle.load_plan.specs.declared.Planned.the-variants.{Model}
 use Rattle.load_plan.proofs.Laws.{Was, was}
-use Rattle.load_model.specs.Load.{After, roomFor, answerFor, filledBy, filled, untouched, loadFor, loadOf}
+use Rattle.load_model.specs.Load.{After, Tables, roomIn, answerFor, filledBy, filled, untouched, loadFor, loadOf}
 use Rattle.load_model.specs.declared.Loaded.the-variants as loaded
 use Rattle.shown_load.specs.Stored.{Chose}
 use Rattle.shown_breaks.proofs.Place.{broken-breaks}
@@ -75,9 +75,9 @@ outside-is a b n e h = go (cond (leb a (b + 1) && leb (b + 1) n) (bounds.Inside 
 
 -- ---- the tree text
 
-module _ (s : List ℕ) (h : Header) (which : Which) (short : length s < 2 ^ 63) (small : Small s) (arrays : Arrays h) (n₁ n₂ n₃ n₄ n₅ n₆ n₇ : ℕ) where
+module _ (s : List ℕ) (h : Header) (which : Which) (short : length s < 2 ^ 63) (small : Small s) (arrays : Arrays h) (L : Tables) where
   abbrev Not : Refusal → Type 0
-  Not = NotLoaded s h which n₁ n₂ n₃ n₄ n₅ n₆ n₇
+  Not = NotLoaded s h which L
 
   text-not : {u v x y k : ℕ} → Choice s h which (chosen.Model u v x y k) → Within u v (dataOf s h) → {z : Refusal} → textOf (take (v + 1) (dataOf s h)) u ≡ text.Refused z → Not z
   unfolding textOf
@@ -168,19 +168,19 @@ module _ (s : List ℕ) (h : Header) (which : Which) (short : length s < 2 ^ 63)
 
 -- ---- every load
 
-pub load-not : (s : List ℕ) (h : Header) (which : Which) → length s < 2 ^ 63 → Small s → Arrays h → (q a t r b v : List ℕ) (w : List ℤ) {z : Refusal}
-    → loadOf s h which q a t r b v w .answer ≡ loaded.Refused z → NotLoaded s h which (length q) (length a) (length t) (length r) (length b) (length v) (length w) z
+pub load-not : (s : List ℕ) (h : Header) (which : Which) → length s < 2 ^ 63 → Small s → Arrays h → (L : Tables) {z : Refusal}
+    → loadOf s h which L .answer ≡ loaded.Refused z → NotLoaded s h which L z
 unfolding loadOf filled
-load-not s h which short small arrays q a t r b v w {z} e = go (planned s h which) refl e
+load-not s h which short small arrays L {z} e = go (planned s h which) refl e
   where
     N : Refusal → Type 0
-    N = NotLoaded s h which (length q) (length a) (length t) (length r) (length b) (length v) (length w)
+    N = NotLoaded s h which L
 
-    room : (p : Plan) → Model p ≡ planned s h which → (c : Bool) → roomFor p (length q) (length a) (length t) (length r) (length b) (length v) (length w) ≡ c
-        → cond c (filled (dataOf s h) p q a t r b v w) (untouched refusal.Room q a t r b v w) .answer ≡ loaded.Refused z → N z
-    room p m true c e = not-linked (says.chose s h which short small p m) c (says.refused s h which short small q a t r b v w p m (endAt (take (p .«text_end») (dataOf s h)) (p .text) (p .first)) refl z e)
+    room : (p : Plan) → Model p ≡ planned s h which → (c : Bool) → roomIn p L ≡ c
+        → cond c (filled (dataOf s h) p L) (untouched refusal.Room L) .answer ≡ loaded.Refused z → N z
+    room p m true c e = not-linked (says.chose s h which short small p m) c (says.refused s h which short small L p m (endAt (take (p .«text_end») (dataOf s h)) (p .text) (p .first)) refl z e)
     room p m false c e = let g : refusal.Room ≡ z = cc in subst N g (no-room (says.chose s h which short small p m) c)
 
-    go : (o : Planned) → planned s h which ≡ o → loadFor (dataOf s h) o q a t r b v w .answer ≡ loaded.Refused z → N z
-    go (Model p) m e = room p (sym m) (roomFor p (length q) (length a) (length t) (length r) (length b) (length v) (length w)) refl e
-    go (planned.Refused x) m e = let g : x ≡ z = cc in subst N g (needs-not s h which short small arrays (length q) (length a) (length t) (length r) (length b) (length v) (length w) m)
+    go : (o : Planned) → planned s h which ≡ o → loadFor (dataOf s h) o L .answer ≡ loaded.Refused z → N z
+    go (Model p) m e = room p (sym m) (roomIn p L) refl e
+    go (planned.Refused x) m e = let g : x ≡ z = cc in subst N g (needs-not s h which short small arrays L m)

@@ -3,7 +3,7 @@
 -- Assumes that the file is a slice: its length below 2^63, its elements bytes.
 use mathlib.Core.Path.{_≡_, refl, sym, ap, ap₂, _∙_, subst}
 use mathlib.Core.Bool.{Bool, true, false, cond}
-use mathlib.Core.List.{List, [], _∷_, map, flatten}
+use mathlib.Core.List.{List, flatten}
 use Prim.Native.Nat.{ℕ, zero, suc, _+_, _*_, _^_, _≤_, _<_}
 use native.Mathlib.Omega.{arith}
 use lib.IntN.{ℤ, pos}
@@ -13,7 +13,8 @@ use Rattle.written.specs.Bytes.{part}
 use Rattle.written.specs.Said as said
 use Rattle.written.specs.TreeText.{Says}
 use Rattle.written.specs.Linking.{Nth, Row}
-use Rattle.written.specs.Tables.{TreeRows, ModelRefused, Negative, questionRows, patternRows}
+use Rattle.written.specs.Tables.{TreeRows, folded, ModelRefused, Negative}
+use Rattle.written.proofs.Folded.{Wide, wide-text, wide-folded, length-folded}
 use Rattle.written.specs.Blocks as block
 use Rattle.written.specs.Blocks.{rowsFrom, total as total-of}
 use Rattle.pdf_widen.specs.Widening.{widenOf}
@@ -33,8 +34,10 @@ use Rattle.tree_survey.specs.declared.Survey.{Survey}
 use Rattle.tree_survey.specs.declared.Survey.the-variants as survey
 use Rattle.tree_survey.proofs.Joined.{Spoken, whole-says}
 use Rattle.tree_survey.proofs.Said.{survey-said, said-negative}
-use Rattle.pdf_blocks.specs.Values.{wordsAt, blockRows, valuesAt}
-use Rattle.pdf_blocks.proofs.Joined.{Small, flatRows, rows-flat, fits-block}
+use Rattle.pdf_blocks.specs.Values.{wordsAt, valuesAt}
+use Rattle.pdf_blocks.proofs.Joined.{Small, length-rows, length-words, fits-block}
+use Rattle.pdf_values.specs.Folded.{withBlocks}
+use Rattle.pdf_values.proofs.Folded.{fold-stored}
 use Rattle.load_trees.specs.declared.Linked.{Linked}
 use Rattle.load_trees.specs.declared.Linked.the-variants as linked
 use Rattle.load_text.specs.Text.{wordsAt as questionWordsAt, endAt, treesStored, recordsStored, kept}
@@ -42,7 +45,7 @@ use Rattle.load_plan.specs.Plans.{Sound, dataOf, planned}
 use Rattle.load_plan.specs.declared.Plan.{Plan}
 use Rattle.load_plan.specs.declared.Planned.the-variants.{Model}
 use Rattle.load_plan.proofs.Laws.{Was, was, needs-sound}
-use Rattle.load_model.specs.Load.{After, roomFor, answerFor, filledBy, filled, loadOf}
+use Rattle.load_model.specs.Load.{Tables, After, answerFor, blocksOf, keptTrees, filled, loadOf}
 use Rattle.load_model.specs.declared.Loaded.{Loaded}
 use Rattle.load_model.specs.declared.Loaded.the-variants as loaded
 use Rattle.load_model.proofs.Laws.{part-short, take-short}
@@ -50,20 +53,15 @@ use Rattle.shown_text.specs.Refusals.{node, question, lone}
 use Rattle.shown_text.proofs.Text.{text-questions, text-patterns, text-done, text-refused}
 use Rattle.shown_text.proofs.Walks.{bytes-answer}
 use Rattle.tree_survey.proofs.Rows.{rows-counted}
-use Rattle.table_rows.proofs.Stand.{Fours, length-flat}
+use Rattle.table_rows.proofs.Stand.{length-flat}
 use Rattle.table_rows.proofs.Fours.{fours-model}
 use Rattle.walk.proofs.Demand.{flat-walk}
 use Rattle.walk.specs.Walking.{walkOf}
 use Rattle.walk.specs.Answer.{answerOf, endingAnswer}
-use Rattle.shown_load.specs.Stored.{blockRow, Chose, Stored, Unlinked}
+use Rattle.shown_load.specs.Stored.{Chose, Stored, Unlinked}
 use Rattle.shown_load.proofs.Texts as text
 use Rattle.shown_load.proofs.Texts.{small-take, small-drop}
 use Rattle.shown_load.proofs.Numbers.{Way, kept as untouched, written, way}
-
-flat-rows : (rs : List block.Row) → flatRows rs ≡ flatten (map blockRow rs)
-unfolding flatRows flatten
-flat-rows [] = refl
-flat-rows (r ∷ rs) = ap (λ (l : List ℕ). r .first ∷ r .entries ∷ l) (flat-rows rs)
 
 module _ (s : List ℕ) (h : Header) (which : Which) (short : length s < 2 ^ 63) (small : Small s) where
   -- ---- the text of a plan
@@ -104,9 +102,9 @@ module _ (s : List ℕ) (h : Header) (which : Which) (short : length s < 2 ^ 63)
 
   -- ---- the ways of linking
 
-  module _ (q a t r b v : List ℕ) (w : List ℤ) where
+  module _ (L : Tables) where
     module _ (p : Plan) (e : Model p ≡ planned s h which) where
-      stored : endAt (S p e) (p .text) (p .first) ≡ linked.Done → Stored s h which q a t r b v w (filled (dataOf s h) p q a t r b v w)
+      stored : endAt (S p e) (p .text) (p .first) ≡ linked.Done → Stored s h which L (filled (dataOf s h) p L)
       unfolding filled
       stored d =
           let m = read p e in
@@ -120,25 +118,30 @@ module _ (s : List ℕ) (h : Header) (which : Which) (short : length s < 2 ^ 63)
             chose = chose p e;
             tree-rows = k .0;
             record-rows = k .1;
-            block-rows = rowsFrom (p .width) 0 (wordsAt (B p e) (p .block) (p .trees));
+            block-rows = blocksOf p (B p e);
             read = valuesAt (B p e) (p .block + 4 * p .trees) (p .width) (total-of (wordsAt (B p e) (p .block) (p .trees)));
             linked = k .2;
             block = z .1;
             tree-count = counted p e .1 ∙ sym (rows-counted (k .2) .0);
+            block-count = blocks (k .2);
             record-count = counted p e .2 ∙ sym (rows-counted (k .2) .1);
             counts = ap (answerFor p) d;
-            at-questions = ap (λ (o : Linked). kept o q (questionWordsAt (S p e) (p .text))) d ∙ ap (sets q 0) (text-questions (T .says) (m .begins) (S-short p e));
-            at-patterns = ap (λ (o : Linked). kept o a (patternWords (questionsAt (S p e) (p .text) .items))) d ∙ ap (sets a 0) (text-patterns (T .says) (m .begins) (S-short p e));
-            at-trees = ap (λ (o : Linked). kept o t (treesStored (S p e) (p .text) (p .first))) d ∙ ap (sets t 0) (k .3);
-            at-records = ap (λ (o : Linked). kept o r (recordsStored (S p e) (p .text) (p .first))) d ∙ ap (sets r 0) (k .4);
-            at-blocks =
-                ap (λ (o : Linked). kept o b (blockRows (p .width) 0 (wordsAt (B p e) (p .block) (p .trees)))) d
-                ∙ ap (sets b 0) (sym (rows-flat (p .width) 0 (wordsAt (B p e) (p .block) (p .trees))) ∙ flat-rows (rowsFrom (p .width) 0 (wordsAt (B p e) (p .block) (p .trees))));
+            at-questions = ap (λ (o : Linked). kept o (L .questions) (questionWordsAt (S p e) (p .text))) d ∙ ap (sets (L .questions) 0) (text-questions (T .says) (m .begins) (S-short p e));
+            at-patterns = ap (λ (o : Linked). kept o (L .patterns) (patternWords (questionsAt (S p e) (p .text) .items))) d ∙ ap (sets (L .patterns) 0) (text-patterns (T .says) (m .begins) (S-short p e));
+            at-trees =
+                ap (λ (o : Linked). keptTrees o (L .trees) (treesStored (S p e) (p .text) (p .first)) (blocksOf p (B p e))) d
+                ∙ ap (λ (l : List ℕ). withBlocks (sets (L .trees) 0 l) 0 (blocksOf p (B p e))) (k .3)
+                ∙ fold-stored (L .trees) 0 (k .0) (blocksOf p (B p e)) (wide-text (k .2)) (blocks (k .2));
+            at-records = ap (λ (o : Linked). kept o (L .records) (recordsStored (S p e) (p .text) (p .first))) d ∙ ap (sets (L .records) 0) (k .4);
             at-values =
-                ap (λ (o : Linked). kept o v (valuesAt (B p e) (p .block + 4 * p .trees) (p .width) (p .entries))) d
-                ∙ ap (λ (j : ℕ). sets v 0 (valuesAt (B p e) (p .block + 4 * p .trees) (p .width) j)) (z .0);
+                ap (λ (o : Linked). kept o (L .values) (valuesAt (B p e) (p .block + 4 * p .trees) (p .width) (p .entries))) d
+                ∙ ap (λ (j : ℕ). sets (L .values) 0 (valuesAt (B p e) (p .block + 4 * p .trees) (p .width) j)) (z .0);
             at-work = refl;
           }
+        where
+          -- a block row for each tree
+          blocks : {trees records : List Row} → TreeRows (spoken p e .text .questions) 0 (spoken p e .text .trees) trees records → length (blocksOf p (B p e)) ≡ length trees
+          blocks r = length-rows (p .width) 0 (wordsAt (B p e) (p .block) (p .trees)) ∙ length-words (B p e) (p .block) (p .trees) ∙ counted p e .1 ∙ sym (rows-counted r .0)
 
       abbrev of : Refusal → Type 0
       of y = ModelRefused (spoken p e .text .questions) (spoken p e .text .trees) (numberOf y) (placeOf y) (lineOf y)
@@ -157,46 +160,46 @@ module _ (s : List ℕ) (h : Header) (which : Which) (short : length s < 2 ^ 63)
     -- ---- every load
 
     -- where it is done, the tables hold what the text and the block say
-    pub load-stored : {n₁ n₂ n₃ n₄ n₅ n₆ : ℕ} → loadOf s h which q a t r b v w .answer ≡ loaded.Done n₁ n₂ n₃ n₄ n₅ n₆ → Stored s h which q a t r b v w (loadOf s h which q a t r b v w)
+    pub load-stored : {n₁ n₂ n₃ n₄ n₅ : ℕ} → loadOf s h which L .answer ≡ loaded.Done n₁ n₂ n₃ n₄ n₅ → Stored s h which L (loadOf s h which L)
     unfolding filled
-    load-stored {n₁} {n₂} {n₃} {n₄} {n₅} {n₆} k = go (loadOf s h which q a t r b v w) (way s h which q a t r b v w) k
+    load-stored {n₁} {n₂} {n₃} {n₄} {n₅} k = go (loadOf s h which L) (way s h which L) k
       where
-        ended : (p : Plan) (e : Model p ≡ planned s h which) (o : Linked) → endAt (S p e) (p .text) (p .first) ≡ o → answerFor p o ≡ loaded.Done n₁ n₂ n₃ n₄ n₅ n₆
-            → Stored s h which q a t r b v w (filled (dataOf s h) p q a t r b v w)
+        ended : (p : Plan) (e : Model p ≡ planned s h which) (o : Linked) → endAt (S p e) (p .text) (p .first) ≡ o → answerFor p o ≡ loaded.Done n₁ n₂ n₃ n₄ n₅
+            → Stored s h which L (filled (dataOf s h) p L)
         ended p e linked.Done d k = stored p e d
         ended p e (linked.NodeRef i j) d k = let u : _≡_ {A = ℕ} 0 1 = cc in absurd (omega arith)
         ended p e (linked.QuestionRef i j) d k = let u : _≡_ {A = ℕ} 0 1 = cc in absurd (omega arith)
         ended p e (linked.LoneNode i) d k = let u : _≡_ {A = ℕ} 0 1 = cc in absurd (omega arith)
 
-        go : (x : After) → Way s h which q a t r b v w x → x .answer ≡ loaded.Done n₁ n₂ n₃ n₄ n₅ n₆ → Stored s h which q a t r b v w x
+        go : (x : After) → Way s h which L x → x .answer ≡ loaded.Done n₁ n₂ n₃ n₄ n₅ → Stored s h which L x
         go x (untouched y n) k = let u : _≡_ {A = ℕ} 0 1 = cc in absurd (omega arith)
         go x (written p e m) k = ended p e (endAt (S p e) (p .text) (p .first)) refl k
 
     -- where linking is refused, so is what the text says
-    pub load-unlinked : (y : Refusal) → loadOf s h which q a t r b v w .answer ≡ loaded.Refused y → 20 < numberOf y → Unlinked s h which y
+    pub load-unlinked : (y : Refusal) → loadOf s h which L .answer ≡ loaded.Refused y → 20 < numberOf y → Unlinked s h which y
     unfolding filled
-    load-unlinked y k l = go (loadOf s h which q a t r b v w) (way s h which q a t r b v w) k
+    load-unlinked y k l = go (loadOf s h which L) (way s h which L) k
       where
-        go : (x : After) → Way s h which q a t r b v w x → x .answer ≡ loaded.Refused y → Unlinked s h which y
+        go : (x : After) → Way s h which L x → x .answer ≡ loaded.Refused y → Unlinked s h which y
         go x (untouched z n) k = let u : z ≡ y = cc in let m : numberOf z ≡ numberOf y = ap numberOf u in absurd (omega arith)
         go x (written p e m) k = unlinked p e (endAt (S p e) (p .text) (p .first)) refl y k
 
 -- ---- demand 3
 
 -- rows that stand in the front of a table are the table, cut to them
-cut-rows : (t : List ℕ) (rows : List Row) (n : ℕ) {t₁ : List ℕ} → Fours rows → n ≡ length rows → 4 * n ≤ length t → t₁ ≡ sets t 0 (flatten rows) → take (4 * n) t₁ ≡ flatten rows
-cut-rows t rows n f e h u =
-    let l : 4 * n ≡ length (flatten rows) = omega (arith, length-flat rows f) in
-    ap₂ take l u ∙ part-sets t 0 (flatten rows) (omega arith)
+cut-rows : {w : ℕ} (t : List ℕ) (rows : List Row) (n : ℕ) {t₁ : List ℕ} → Wide w rows → n ≡ length rows → w * n ≤ length t → t₁ ≡ sets t 0 (flatten rows) → take (w * n) t₁ ≡ flatten rows
+cut-rows {w} t rows n f e h u =
+    let l : w * n ≡ length (flatten rows) = ap (λ (m : ℕ). w * m) e ∙ sym (length-flat rows f) in
+    ap₂ take l u ∙ part-sets t 0 (flatten rows) (omega (arith, l, h))
 
 -- whatever a load has stored: every tree, every assignment of a byte to each question, every limit; over the tables cut to the rows that the load returned
-module _ {s : List ℕ} {h : Header} {which : Which} {q a t r b v : List ℕ} {w : List ℤ} {x : After} (k : Stored s h which q a t r b v w x)
-    (room : 4 * k .p .trees ≤ length t) (room-records : 4 * k .p .records ≤ length r) where
+module _ {s : List ℕ} {h : Header} {which : Which} {L : Tables} {x : After} (k : Stored s h which L x) (room : 6 * k .p .trees ≤ length (L .trees)) (room-records : 4 * k .p .records ≤ length (L .records)) where
   pub load-walks : {i : ℕ} {tree : said.Tree} → Nth (k .t .trees) i tree → (bytes : List ℕ) → length (k .t .questions) ≤ length bytes → (m : ℕ)
       → (e : Ending) × Written (k .t .questions) (λ n. isYes (getD bytes n 0)) (tree .body) m e
-      × (answerOf (walkOf (take (4 * k .p .trees) (x .trees)) (take (4 * k .p .records) (x .records)) i bytes m) ≡ endingAnswer e)
+      × (answerOf (walkOf (take (6 * k .p .trees) (x .tables .trees)) (take (4 * k .p .records) (x .tables .records)) i bytes m) ≡ endingAnswer e)
   load-walks {i} h bytes n m =
-      let f = fours-model (k .linked) in
-      let T = cut-rows t (k .tree-rows) (k .p .trees) (f .0) (k .tree-count) room (k .at-trees) in
-      let R = cut-rows r (k .record-rows) (k .p .records) (f .1) (k .record-count) room-records (k .at-records) in
-      flat-walk (bytes-answer (k .t .questions) bytes n) (k .linked) h m (ap₂ (λ (T R : List ℕ). walkOf T R i bytes m) T R)
+      let F = folded (k .tree-rows) (k .block-rows) in
+      let many : k .p .trees ≡ length F = k .tree-count ∙ sym (length-folded (k .tree-rows) (k .block-rows) (sym (k .block-count))) in
+      let T = cut-rows (L .trees) F (k .p .trees) (wide-folded (k .tree-rows) (k .block-rows) (wide-text (k .linked))) many room (k .at-trees) in
+      let R = cut-rows (L .records) (k .record-rows) (k .p .records) (fours-model (k .linked)) (k .record-count) room-records (k .at-records) in
+      flat-walk (bytes-answer (k .t .questions) bytes n) (k .linked) (k .block-rows) (k .block-count) h m (ap₂ (λ (T R : List ℕ). walkOf T R i bytes m) T R)

@@ -21,37 +21,37 @@ use Rattle.load_choose.specs.declared.Which.{Which}
 use Rattle.load_choose.specs.declared.Chosen.the-variants.{Model, Refused}
 use Rattle.load_plan.specs.Plans.{dataOf}
 use Rattle.load_plan.specs.declared.Plan.{Plan}
-use Rattle.load_model.specs.Load.{roomFor}
+use Rattle.load_model.specs.Load.{Tables, roomIn}
 use Rattle.shown_load.specs.Stored.{Chose}
 
 -- a range, whose end belongs to it, lies inside the data
 abbrev pub Within : ℕ → ℕ → List ℕ → Type 0
 Within a b d = (a ≤ b + 1) × (b + 1 ≤ length d)
 
--- Of a file s with the record h, where the seven slices have so many elements. The model asked for has its tree text from u to v in the data, and its block, of width w, from x to y.
-pub data NotLoaded (s : List ℕ) (h : Header) (which : Which) (questions patterns trees records blocks values work : ℕ) : Refusal → Type 0 where
-  not-chosen : {z : Refusal} → Choice s h which (Refused z) → NotLoaded s h which questions patterns trees records blocks values work z
+-- Of a file s with the record h, where L is lent. The model asked for has its tree text from u to v in the data, and its block, of width w, from x to y.
+pub data NotLoaded (s : List ℕ) (h : Header) (which : Which) (L : Tables) : Refusal → Type 0 where
+  not-chosen : {z : Refusal} → Choice s h which (Refused z) → NotLoaded s h which L z
   text-outside :
       {u v x y w : ℕ} → Choice s h which (Model u v x y w) → ¬ Within u v (dataOf s h)
-      → NotLoaded s h which questions patterns trees records blocks values work refusal.Range
+      → NotLoaded s h which L refusal.Range
   no-text :
       {u v x y w p : ℕ} → Choice s h which (Model u v x y w) → Within u v (dataOf s h) → Breaks (take (v + 1) (dataOf s h)) u p
-      → NotLoaded s h which questions patterns trees records blocks values work (refusal.Text p)
+      → NotLoaded s h which L (refusal.Text p)
   negative-state :
       {u v x y w : ℕ} {t : Text} {l : Layout} → Choice s h which (Model u v x y w) → Within u v (dataOf s h) → Says (take (v + 1) (dataOf s h)) u t l → Negative (t .trees)
-      → NotLoaded s h which questions patterns trees records blocks values work refusal.State
+      → NotLoaded s h which L refusal.State
   block-outside :
       {u v x y w : ℕ} {t : Text} {l : Layout} → Choice s h which (Model u v x y w) → Within u v (dataOf s h) → Says (take (v + 1) (dataOf s h)) u t l → ¬ Negative (t .trees)
-      → ¬ Within x y (dataOf s h) → NotLoaded s h which questions patterns trees records blocks values work refusal.Range
+      → ¬ Within x y (dataOf s h) → NotLoaded s h which L refusal.Range
   no-block :
       {u v x y w : ℕ} {t : Text} {l : Layout} → Choice s h which (Model u v x y w) → Within u v (dataOf s h) → Says (take (v + 1) (dataOf s h)) u t l → ¬ Negative (t .trees)
       → Within x y (dataOf s h)
       → ((rows : List block.Row) (read : List ℕ) → ¬ block.Block (widenOf 8 23 11 52) (length (t .trees)) w (drop x (take (y + 1) (dataOf s h))) rows read)
-      → NotLoaded s h which questions patterns trees records blocks values work refusal.Block
+      → NotLoaded s h which L refusal.Block
   no-room :
-      {p : Plan} {t : Text} {l : Layout} → Chose s h which p t l → roomFor p questions patterns trees records blocks values work ≡ false
-      → NotLoaded s h which questions patterns trees records blocks values work refusal.Room
+      {p : Plan} {t : Text} {l : Layout} → Chose s h which p t l → roomIn p L ≡ false
+      → NotLoaded s h which L refusal.Room
   not-linked :
-      {z : Refusal} {p : Plan} {t : Text} {l : Layout} → Chose s h which p t l → roomFor p questions patterns trees records blocks values work ≡ true
+      {z : Refusal} {p : Plan} {t : Text} {l : Layout} → Chose s h which p t l → roomIn p L ≡ true
       → ModelRefused (t .questions) (t .trees) (numberOf z) (placeOf z) (lineOf z)
-      → NotLoaded s h which questions patterns trees records blocks values work z
+      → NotLoaded s h which L z

@@ -1,7 +1,7 @@
--- What is stored of a list of trees is their `TreeRows`, and where linking ends at a tree it is `ModelRefused` there, with that number and line.
+-- What is stored of a list of trees is their `TreeRows`, with 0, 0 where their blocks go, and where linking ends at a tree it is `ModelRefused` there, with that number and line.
 -- Assumes of the questions what `OneTree` does, and that no state is negative.
 use mathlib.Core.Path.{_≡_, refl, sym, ap₂, _∙_, subst}
-use mathlib.Core.List.{List, [], _∷_, _++_, zipWith, flatten}
+use mathlib.Core.List.{List, [], _∷_, _++_, map, zipWith, flatten}
 use Prim.Native.Nat.{ℕ, suc, _+_, _^_, _<_}
 use native.Mathlib.Omega.{arith}
 use lib.IntN.{ℤ, pos, negsuc}
@@ -13,6 +13,7 @@ use Rattle.written.specs.Linking.{Nth, Row, Records, Refused}
 use Rattle.written.specs.Tables as T
 use Rattle.written.specs.Tables.{TreeRows, ModelRefused, Negative, negative}
 use Rattle.laws.proofs.Nth.{flatten-append}
+use Rattle.pdf_values.specs.Folded.{begun}
 use Rattle.link_order.specs.Keys.{nameAt}
 use Rattle.tree_body.specs.Trees.{treeOf}
 use Rattle.link_targets.specs.Lines.{natOf}
@@ -30,7 +31,7 @@ Refusal qs ts k c a j = (i : ℕ) × (a ≡ k + i) × ModelRefused qs ts c i j
 
 -- what `written` says of trees that end so, with these words, where k is the number of the first and f its first record
 abbrev pub ModelVerdict : List Question → List Tree → ℕ → ℕ → Linked → List ℕ → List ℕ → Type 0
-ModelVerdict qs ts k f Done trees records = (t : List Row) × (r : List Row) × TreeRows qs f ts t r × (flatten t ≡ trees) × (flatten r ≡ records)
+ModelVerdict qs ts k f Done trees records = (t : List Row) × (r : List Row) × TreeRows qs f ts t r × (flatten (map begun t) ≡ trees) × (flatten r ≡ records)
 ModelVerdict qs ts k f (NodeRef a j) trees records = Refusal qs ts k 21 a j
 ModelVerdict qs ts k f (QuestionRef a j) trees records = Refusal qs ts k 22 a j
 ModelVerdict qs ts k f (LoneNode a) trees records = Refusal qs ts k 23 a 0
@@ -52,13 +53,13 @@ module _ (qs : List Question) (x : Tree) (ts : List Tree) where
       go (negsuc n) e = absurd (h (negative L.Nth.here e))
 
   then : (¬ Negative (x ∷ ts)) → (k f m n : ℕ) (w : List ℕ) → Verdict qs (x .body) (filled.Done m n) w → (o : Linked) (trees records : List ℕ) → ModelVerdict qs ts (suc k) (f + m) o trees records
-      → ModelVerdict qs (x ∷ ts) k f o (natOf (x .state) ∷ f ∷ m ∷ n ∷ trees) (w ++ records)
+      → ModelVerdict qs (x ∷ ts) k f o (natOf (x .state) ∷ f ∷ m ∷ n ∷ 0 ∷ 0 ∷ trees) (w ++ records)
   unfolding flatten
   then h k f m n w (rows, r, e, l, d) Done trees records (t, u, v, a, b) = (
     (natOf (x .state) ∷ f ∷ length rows ∷ n ∷ []) ∷ t,
     rows ++ u,
     T.TreeRows.more (natural h) r d (subst (λ (i : ℕ). TreeRows qs (f + i) ts t u) (sym l) v),
-    ap₂ (λ (i : ℕ) (y : List ℕ). natOf (x .state) ∷ f ∷ i ∷ n ∷ y) l a,
+    ap₂ (λ (i : ℕ) (y : List ℕ). natOf (x .state) ∷ f ∷ i ∷ n ∷ 0 ∷ 0 ∷ y) l a,
     flatten-append rows u ∙ ap₂ _++_ e b,
   )
   then h k f m n w (rows, r, e, l, d) (NodeRef a j) trees records g = further k r g

@@ -40,14 +40,14 @@ module _ (s words : List ℕ) (n : ℕ) where
   body-size (lone r) e = lone-size s words n r e
   body-size (braces ls) e = lines-size s words n ls e
 
-  pub stored-length : (k f : ℕ) (zs : List Tree) → treesEnd s words n k zs ≡ Done → (length (treeWords s words n f zs) ≡ 4 * length zs) × (length (recordWords s words n zs) ≡ 4 * total treeRecords zs)
+  pub stored-length : (k f : ℕ) (zs : List Tree) → treesEnd s words n k zs ≡ Done → (length (treeWords s words n f zs) ≡ 6 * length zs) × (length (recordWords s words n zs) ≡ 4 * total treeRecords zs)
   unfolding treesEnd treeWords recordWords total
   stored-length k f [] e = (refl, refl)
   stored-length k f (z ∷ zs) e = go (bodyResult s words n (z .body) .ends) refl e (λ g. stored-length (suc k) g zs)
     where
       go : (r : Filled) → bodyResult s words n (z .body) .ends ≡ r → thenRest r (endedAt k r) (λ m. treesEnd s words n (suc k) zs) ≡ Done
-          → ((g : ℕ) → treesEnd s words n (suc k) zs ≡ Done → (length (treeWords s words n g zs) ≡ 4 * length zs) × (length (recordWords s words n zs) ≡ 4 * total treeRecords zs))
-          → (length (rowWords (natOf (z .state)) f r ++ thenRest r [] (λ m. treeWords s words n (f + m) zs)) ≡ 4 * suc (length zs))
+          → ((g : ℕ) → treesEnd s words n (suc k) zs ≡ Done → (length (treeWords s words n g zs) ≡ 6 * length zs) × (length (recordWords s words n zs) ≡ 4 * total treeRecords zs))
+          → (length (rowWords (natOf (z .state)) f r ++ thenRest r [] (λ m. treeWords s words n (f + m) zs)) ≡ 6 * suc (length zs))
           × (length (bodyResult s words n (z .body) .rows ++ thenRest r [] (λ m. recordWords s words n zs)) ≡ 4 * (bodyRecords (z .body) + total treeRecords zs))
       go (filled.Done a j) q e rest =
           let b = body-size (z .body) q in
@@ -60,7 +60,7 @@ module _ (s words : List ℕ) (n : ℕ) where
 -- ---- the tables that filling leaves, where it is done: `fill_text`'s contract has `is` and the two equations
 
 module _ (s : List ℕ) (i f n : ℕ) (trees₀ records₀ : List ℕ) {q p w : ℕ} (h : Fits s i f n q p (length trees₀) (length records₀) w) {o : Linked} (is : o ≡ endAt s i f) (done : o ≡ Done) where
-  sizes : (length (treesStored s i f) ≡ 4 * length (treesAt s f .items)) × (length (recordsStored s i f) ≡ 4 * total treeRecords (treesAt s f .items))
+  sizes : (length (treesStored s i f) ≡ 6 * length (treesAt s f .items)) × (length (recordsStored s i f) ≡ 4 * total treeRecords (treesAt s f .items))
   sizes = stored-length s (wordsAt s i) (length (questionsAt s i .items)) 0 0 (treesAt s f .items) (sym is ∙ done)
 
   pub trees-front : (trees : List ℕ) → trees ≡ kept o trees₀ (treesStored s i f) → Front (treesStored s i f) trees

@@ -1,7 +1,7 @@
--- What loading a tree text stores is the rows of what the text says, and it is refused exactly where `written` refuses the model: each tree, all trees, both ways.
+-- What loading a tree text stores is the rows of what the text says, with 0, 0 where each tree's block goes, and it is refused exactly where `written` refuses the model: each tree, all trees, both ways.
 -- Assumes of the text only that s from i on says t, that its first tree stands at f, that no state is negative and that s is shorter than 2^63 bytes.
 use mathlib.Core.Path.{_≡_, refl, sym, ap, _∙_, subst}
-use mathlib.Core.List.{List, zipWith, flatten}
+use mathlib.Core.List.{List, map, zipWith, flatten}
 use Prim.Native.Nat.{ℕ, _+_, _^_, _<_}
 use native.Mathlib.Omega.{arith}
 use lib.ListN.{length}
@@ -20,6 +20,7 @@ use Rattle.tree_survey.specs.Survey.{textRead, textAt}
 use Rattle.tree_survey.specs.Said.{textOf}
 use Rattle.tree_survey.proofs.Joined.{says-read}
 use Rattle.tree_survey.proofs.Said.{same-length}
+use Rattle.pdf_values.specs.Folded.{begun}
 use Rattle.load_questions.specs.Words.{patternWords, questionWords}
 use Rattle.load_questions.proofs.Rows.{questions-joined, patterns-joined}
 use Rattle.load_tree.specs.Bodies.{Result, bodyResult}
@@ -138,9 +139,9 @@ module _ {s : List ℕ} {i f : ℕ} {t : Text} {l : Layout} (says : Says s i t l
     all-ended : {e : Linked} → endAt s i f ≡ e → ModelVerdict (t .questions) (t .trees) 0 0 e (treesStored s i f) (recordsStored s i f)
     all-ended e = subst (λ (o : Linked). ModelVerdict (t .questions) (t .trees) 0 0 o (treesStored s i f) (recordsStored s i f)) e text-said
 
-    -- 2. what is stored is the model's rows
+    -- 2. what is stored is what the text says of the model's rows
     pub text-done : endAt s i f ≡ Done
-        → (trees : List Row) × (records : List Row) × TreeRows (t .questions) 0 (t .trees) trees records × (treesStored s i f ≡ flatten trees) × (recordsStored s i f ≡ flatten records)
+        → (trees : List Row) × (records : List Row) × TreeRows (t .questions) 0 (t .trees) trees records × (treesStored s i f ≡ flatten (map begun trees)) × (recordsStored s i f ≡ flatten records)
     text-done e = let v = all-ended e in (v .0, v .1, v .2, sym (v .3), sym (v .4))
 
     -- 3. where linking is refused, so is the model, with that number, tree and line
@@ -175,12 +176,12 @@ module _ {s : List ℕ} {i f : ℕ} {t : Text} {l : Layout} (says : Says s i t l
 
     -- a model that has rows is linked, and its rows are stored
     pub rows-stored : {trees records : List Row} → TreeRows (t .questions) 0 (t .trees) trees records
-        → (endAt s i f ≡ Done) × (treesStored s i f ≡ flatten trees) × (recordsStored s i f ≡ flatten records)
+        → (endAt s i f ≡ Done) × (treesStored s i f ≡ flatten (map begun trees)) × (recordsStored s i f ≡ flatten records)
     rows-stored rs = done-or-refused (endAt s i f) refl
         (λ e.
         let d = text-done e in
         let z = model-rows-once (d .2) rs refl in
-        (e, d .3 ∙ ap flatten (z .0), d .4 ∙ ap flatten (z .1)))
+        (e, d .3 ∙ ap (λ (l : List Row). flatten (map begun l)) (z .0), d .4 ∙ ap flatten (z .1)))
         (λ c a k r m. absurd (model-never-both rs m))
 
     -- a model that is refused ends so, with that number, tree and line

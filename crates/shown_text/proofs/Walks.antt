@@ -1,43 +1,35 @@
--- Demand 3 of a loaded tree text: over tables in whose front the stored words stand, every tree's records are linked to what the text says of it, and the walk
--- ends as the written walk of it, for every assignment and limit. The tables may be longer than the words, or exactly them.
--- Assumes of the text what `Text` does, and that linking it is done.
+-- Demand 3 over tables in whose front a model's rows stand, whatever blocks are folded into its tree rows: every tree's records are linked to what the text says of it, and the walk
+-- ends as the written walk of it, for every assignment and limit. The tables may be longer than the rows, or exactly them.
 use mathlib.Core.Path.{_≡_, refl, sym, ap, _∙_, subst}
 use mathlib.Core.Bool.{Bool}
 use mathlib.Core.List.{List, [], _∷_, _++_, flatten}
-use Prim.Native.Nat.{ℕ, suc, _+_, _*_, _^_, _≤_, _<_}
+use Prim.Native.Nat.{ℕ, suc, _+_, _*_, _≤_}
 use native.Mathlib.Omega.{arith}
 use lib.Dec.{ltb}
 use lib.ListN.{length, getD, take}
 use lib.Seq.{take-all, drop-at}
 use Rattle.written.specs.Said as said
-use Rattle.written.specs.Said.{Text, Layout}
-use Rattle.written.specs.TreeText.{Says}
+use Rattle.written.specs.Blocks as block
 use Rattle.written.specs.Linking.{Nth, here, there, Row, Records, Linked}
-use Rattle.written.specs.Tables.{TreeRows, more, Negative}
+use Rattle.written.specs.Tables.{TreeRows, more, folded}
 use Rattle.written.specs.Walks.{Ending, Written, isYes, Answers}
 use Rattle.written.proofs.Link.{records-linked}
 use Rattle.written.proofs.Walk.{nth-append}
-use Rattle.laws.specs.Steps.{doneAt}
+use Rattle.written.proofs.Folded.{Wide, wide-text, wide-folded, folded-there}
 use Rattle.laws.proofs.Nth.{nth-inside}
-use Rattle.tree_question.specs.Questions.{questionsAt}
-use Rattle.load_trees.specs.declared.Linked.the-variants.{Done}
-use Rattle.load_text.specs.Text.{endAt, treesStored, recordsStored}
-use Rattle.table_rows.specs.Rows.{recordRows, recordRow, Standing, HasTree}
-use Rattle.table_rows.proofs.Stand.{Fours, nth-at, cut-nth, length-flat, flat-stands}
+use Rattle.table_rows.specs.Rows.{recordRows, recordRow, treeFirst, TreesStand, Standing, HasTree}
+use Rattle.table_rows.proofs.Stand.{Fours, nth-at, cut-nth, length-flat, flat-stands, trees-stand}
 use Rattle.table_rows.proofs.Fours.{fours-model}
 use Rattle.walk.specs.Walking.{walkOf}
 use Rattle.walk.specs.Answer.{answerOf, endingAnswer}
 use Rattle.walk.specs.declared.Walked.{Walked}
 use Rattle.walk.proofs.Demand.{walk-demand₃}
-use Rattle.shown_text.proofs.Text.{text-done}
 use Rattle.shown_text.proofs.Tables.{Front}
 
--- ---- words in the front of a table
+-- ---- rows in the front of a table
 
-front-stands : {words t : List ℕ} (rows : List Row) → Fours rows → words ≡ flatten rows → Front words t → Standing t 0 rows
-front-stands {words} {t} rows f e h =
-    let n : 4 * length rows ≡ length words = sym (ap length e ∙ length-flat rows f) in
-    flat-stands t 0 rows f (ap (λ (k : ℕ). take k t) n ∙ h ∙ e)
+front-cut : {w : ℕ} (t : List ℕ) (rows : List Row) → Wide w rows → Front (flatten rows) t → take (w * length rows) t ≡ flatten rows
+front-cut t rows f h = ap (λ (k : ℕ). take k t) (sym (length-flat rows f)) ∙ h
 
 -- ---- tree a among a model's rows
 
@@ -82,19 +74,19 @@ among {a = suc a} (more {f = f} {n = n} {m = m} {rows = rows} {trees = trees} {r
     }
 
 -- tables in which a model's rows stand have its trees
-has-tree : {qs : List said.Question} {T R : List ℕ} {trees records : List Row} {a : ℕ} {x : said.Tree} → Standing T 0 trees → Standing R 0 records → (g : Among qs 0 trees records a x) → HasTree T R a (g .rows)
-has-tree {T = T} {R = R} {a = a} p q g =
-    let e = p .each a (g .state ∷ (0 + g .j) ∷ length (g .rows) ∷ g .lines ∷ []) (g .row) in
-    let z : 0 + a ≡ a = omega arith in
-    let row : (g .state ∷ (0 + g .j) ∷ length (g .rows) ∷ g .lines ∷ []) ≡ recordRow T a = e .1 ∙ ap (recordRow T) z in
-    let first : getD T (4 * a + 1) 0 ≡ 0 + g .j = sym (ap (λ (r : Row). getD r 1 0) row) in
+has-tree : {qs : List said.Question} {T R : List ℕ} {trees records : List Row} (bs : List block.Row) {a : ℕ} {x : said.Tree} → length bs ≡ length trees
+    → TreesStand T (folded trees bs) → Standing R 0 records → (g : Among qs 0 trees records a x) → HasTree T R a (g .rows)
+has-tree {T = T} {R = R} bs {a = a} many p q g =
+    let n = folded-there bs many (g .row) in
+    let e = p .each a _ (n .1) in
+    let first : treeFirst T a ≡ 0 + g .j = sym (ap (λ (r : Row). getD r 1 0) (e .1)) in
     record {
-      there = ap (λ (i : ℕ). ltb i (recordRows T)) (sym z) ∙ e .0;
-      count = sym (ap (λ (r : Row). getD r 2 0) row);
+      there = e .0;
+      count = sym (ap (λ (r : Row). getD r 2 0) (e .1));
       stands = record {
         each = λ k r h.
             let d = q .each (g .j + k) r (g .stand k r h) in
-            let y : 0 + (g .j + k) ≡ getD T (4 * a + 1) 0 + k = omega (arith, first) in
+            let y : 0 + (g .j + k) ≡ treeFirst T a + k = omega (arith, first) in
             (ap (λ (i : ℕ). ltb i (recordRows R)) (sym y) ∙ d .0, d .1 ∙ ap (recordRow R) y);
       };
     }
@@ -107,23 +99,23 @@ bytes-answer qs bytes h q x n = (getD bytes q 0, nth-at bytes q 0 (omega (arith,
 
 -- ---- demand 3
 
-module _ {s : List ℕ} {i f : ℕ} {t : Text} {l : Layout} (says : Says s i t l) (begins : questionsAt s i .ending ≡ doneAt f) (short : length s < 2 ^ 63) (natural : ¬ Negative (t .trees))
-    (done : endAt s i f ≡ Done) (T R : List ℕ) (trees : Front (treesStored s i f) T) (records : Front (recordsStored s i f) R) {a : ℕ} {x : said.Tree} (h : Nth (t .trees) a x) where
+module _ {qs : List said.Question} {ts : List said.Tree} {trees records : List Row} (rows : TreeRows qs 0 ts trees records) (bs : List block.Row) (many : length bs ≡ length trees) (T R : List ℕ)
+    (front : Front (flatten (folded trees bs)) T) (front-records : Front (flatten records) R) {a : ℕ} {x : said.Tree} (h : Nth ts a x) where
   -- (i) the records of a loaded tree are linked to what the text says
-  pub loaded-linked : (rows : List Row) × HasTree T R a rows × Linked (t .questions) (x .body) rows
+  pub loaded-linked : (rows : List Row) × HasTree T R a rows × Linked qs (x .body) rows
   loaded-linked =
-      let d = text-done says begins short natural done in
-      let fours = fours-model (d .2) in
-      let g = among (d .2) h in
-      (g .rows, has-tree (front-stands (d .0) (fours .0) (d .3) trees) (front-stands (d .1) (fours .1) (d .4) records) g, records-linked (g .linked))
+      let wide = wide-folded trees bs (wide-text rows) in
+      let fours = fours-model rows in
+      let g = among rows h in
+      (g .rows, has-tree bs many (trees-stand T (folded trees bs) wide (front-cut T (folded trees bs) wide front)) (flat-stands R 0 records fours (front-cut R records fours front-records)) g, records-linked (g .linked))
 
   -- (i) and (ii) how the written walk ends, so the loaded one ends; and the written one ends in one way
-  pub loaded-walks : {answer : ℕ → Bool} {bytes : List ℕ} → Answers (t .questions) answer bytes → (m : ℕ) {r : Walked} → r ≡ walkOf T R a bytes m
-      → (e : Ending) × Written (t .questions) answer (x .body) m e × (answerOf r ≡ endingAnswer e) × ((g : Ending) → Written (t .questions) answer (x .body) m g → g ≡ e)
+  pub loaded-walks : {answer : ℕ → Bool} {bytes : List ℕ} → Answers qs answer bytes → (m : ℕ) {r : Walked} → r ≡ walkOf T R a bytes m
+      → (e : Ending) × Written qs answer (x .body) m e × (answerOf r ≡ endingAnswer e) × ((g : Ending) → Written qs answer (x .body) m g → g ≡ e)
   loaded-walks given m q = let k = loaded-linked in walk-demand₃ given (k .1) (k .2) m q
 
   -- the same of any bytes, as many as questions at least
-  pub loaded-walks-bytes : (bytes : List ℕ) → length (t .questions) ≤ length bytes → (m : ℕ)
-      → (e : Ending) × Written (t .questions) (λ q. isYes (getD bytes q 0)) (x .body) m e × (answerOf (walkOf T R a bytes m) ≡ endingAnswer e)
-      × ((g : Ending) → Written (t .questions) (λ q. isYes (getD bytes q 0)) (x .body) m g → g ≡ e)
-  loaded-walks-bytes bytes n m = loaded-walks (bytes-answer (t .questions) bytes n) m refl
+  pub loaded-walks-bytes : (bytes : List ℕ) → length qs ≤ length bytes → (m : ℕ)
+      → (e : Ending) × Written qs (λ q. isYes (getD bytes q 0)) (x .body) m e × (answerOf (walkOf T R a bytes m) ≡ endingAnswer e)
+      × ((g : Ending) → Written qs (λ q. isYes (getD bytes q 0)) (x .body) m g → g ≡ e)
+  loaded-walks-bytes bytes n m = loaded-walks (bytes-answer qs bytes n) m refl
