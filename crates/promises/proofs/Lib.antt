@@ -6,3 +6,4 @@ pub mod Plans
 pub mod NoModel
 pub mod Loading
 pub mod Walking
+pub mod Walked

@@ -9,9 +9,12 @@ use lib.Dec.{ltb}
 use lib.ListN.{length}
 use lib.Seq.{sets}
 use Rattle.written.specs.Record.{Header, Says}
+use Rattle.written.specs.Faults.{Refused}
 use Rattle.written.proofs.OneFile.{says-one}
 use Rattle.written.proofs.ApartFile.{refused-one, says-never}
-use Rattle.error.specs.Numbers.{numberOf, placeOf}
+use Rattle.error.specs.Numbers.{numberOf}
+use Rattle.error.specs.declared.Refusal.{Refusal}
+use Rattle.error.specs.declared.Refusal.the-variants as refusal
 use Rattle.head_record.specs.Record.{headerRecord}
 use Rattle.head_words.specs.Words.{headerWords}
 use Rattle.head_de.proofs.Sound.{Bytes}
@@ -84,3 +87,38 @@ open-short (short-out a) h = (refl, refl, refl)
 open-short (opened a x l) h = absurd (omega arith)
 open-short (few-words a x l) h = absurd (omega arith)
 open-short (refused a x) h = absurd (omega arith)
+
+-- ---- no refusal is 0
+
+above-zero : (r : Refusal) → 0 < numberOf r
+above-zero refusal.Split = omega arith
+above-zero (refusal.Utf8 p) = omega arith
+above-zero (refusal.Eof p) = omega arith
+above-zero (refusal.ExpectedBool p) = omega arith
+above-zero (refusal.ExpectedInteger p) = omega arith
+above-zero (refusal.ExpectedArrayComma p) = omega arith
+above-zero (refusal.ExpectedMapColon p) = omega arith
+above-zero (refusal.ExpectedMapNewline p) = omega arith
+above-zero refusal.Field = omega arith
+above-zero (refusal.Number p) = omega arith
+above-zero refusal.Limit = omega arith
+above-zero refusal.NoPosition = omega arith
+above-zero refusal.NoStream = omega arith
+above-zero refusal.UseGv = omega arith
+above-zero refusal.Range = omega arith
+above-zero (refusal.Text p) = omega arith
+above-zero refusal.State = omega arith
+above-zero refusal.Block = omega arith
+above-zero refusal.Room = omega arith
+above-zero (refusal.NodeRef t k) = omega arith
+above-zero (refusal.QuestionRef t k) = omega arith
+above-zero (refusal.LoneNode t k) = omega arith
+above-zero refusal.WalkTable = omega arith
+above-zero refusal.Steps = omega arith
+
+pub never-zero : {s : List ℕ} → Bytes s → {n p : ℕ} → Refused s n p → ¬ (n ≡ 0)
+never-zero {s} bytes {n} {p} x e = go (open-sound bytes)
+  where
+    go : {o : Opened} → OpenAnswer s o → ⊥
+    go (answer.says h y) = says-never y x
+    go (answer.refused r y) = let k = above-zero r in let z = refused-one y x in omega (arith, k, z .0, e)

@@ -21,7 +21,7 @@ use Rattle.promises.proofs.Moved.{moved₂}
 use Rattle.promises.specs.Walking.{AfterWalk, short-out, ended, stopped}
 
 module _ (T R : List ℕ) (t : ℕ) (bytes : List ℕ) (most : ℕ) (out : List ℕ) where
-  of-walk : 3 ≤ length out → (w : Walked) → LoadedTree bytes (treeTable T) (recordTable R) t most (outcomeOf w)
+  pub of-walk : 3 ≤ length out → (w : Walked) → LoadedTree bytes (treeTable T) (recordTable R) t most (outcomeOf w)
       → AfterWalk T R t bytes most out (endedBy w .number) (sets out 0 (endedNumbers (endedBy w)))
   of-walk l (walked.Pdf n k) x = ended l x
   of-walk l (walked.Refused r) x = stopped l x

@@ -187,7 +187,7 @@ module _ (s : List ℕ) (h : Header) (which : Which) (short : length s < 2 ^ 63)
 -- ---- demand 3
 
 -- rows that stand in the front of a table are the table, cut to them
-cut-rows : {w : ℕ} (t : List ℕ) (rows : List Row) (n : ℕ) {t₁ : List ℕ} → Wide w rows → n ≡ length rows → w * n ≤ length t → t₁ ≡ sets t 0 (flatten rows) → take (w * n) t₁ ≡ flatten rows
+pub cut-rows : {w : ℕ} (t : List ℕ) (rows : List Row) (n : ℕ) {t₁ : List ℕ} → Wide w rows → n ≡ length rows → w * n ≤ length t → t₁ ≡ sets t 0 (flatten rows) → take (w * n) t₁ ≡ flatten rows
 cut-rows {w} t rows n f e h u =
     let l : w * n ≡ length (flatten rows) = ap (λ (m : ℕ). w * m) e ∙ sym (length-flat rows f) in
     ap₂ take l u ∙ part-sets t 0 (flatten rows) (omega (arith, l, h))
