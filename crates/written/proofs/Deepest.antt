@@ -57,9 +57,20 @@ module _ {rows : List Row} where
   rounds p zero = (0, omega arith, stay)
   rounds {n = n} p (suc k) = let r = rounds p k in (suc n + r .0, omega (arith, r .1), then p (r .2))
 
+  -- no path leads from a record of some depth to itself
+  pub deep-round : {k d n : ℕ} → Deep rows k d → Path rows k k (suc n) → ⊥
+  deep-round {d = d} x p = let r = rounds p (suc d) in omega (arith, r .1, deep-most x (r .2))
+
   -- no path meets a record twice
   pub deep-straight : {d : ℕ} → Deep rows 0 d → Round rows → ⊥
   deep-straight {d} x (twice m p) = let r = rounds p (suc d) in omega (arith, r .1, deep-most x (then (m .1) (r .2)))
+
+  -- a way: each of its first m records refers to the next
+  pub way-path : (f : ℕ → ℕ) (m : ℕ) → ((i : ℕ) → i < m → Refers rows (f i) (f (suc i))) → (i n : ℕ) → i + n ≤ m → Path rows (f i) (f (i + n)) n
+  way-path f m step i zero h = let e : i ≡ i + 0 = omega arith in subst (λ k. Path rows (f i) (f k) 0) e stay
+  way-path f m step i (suc n) h =
+      let e : suc i + n ≡ i + suc n = omega arith in
+      on (step i (omega arith)) (subst (λ k. Path rows (f (suc i)) (f k) n) e (way-path f m step (suc i) n (omega arith)))
 
   -- a way of as many references as there are records goes round
   pub long-round : (f : ℕ → ℕ) (m : ℕ) → Met rows (f 0) → ((i : ℕ) → i < m → Refers rows (f i) (f (suc i))) → ((i : ℕ) → i ≤ m → f i < m) → Round rows
@@ -69,18 +80,12 @@ module _ {rows : List Row} where
       let n = t .j - suc i in
       let a = along i (omega (arith, t .before, t .up-to)) in
       let e : suc i + n ≡ t .j = omega (arith, t .before) in
-      let b = part i (suc n) (omega (arith, t .up-to, e)) in
+      let b = way-path f m step i (suc n) (omega (arith, t .up-to, e)) in
       let v : i + suc n ≡ t .j = omega (arith, e) in
       twice {n = n} a (subst (λ k. Path rows (f i) k (suc n)) (ap f v ∙ sym (t .same)) b)
     where
-      part : (i n : ℕ) → i + n ≤ m → Path rows (f i) (f (i + n)) n
-      part i zero h = let e : i ≡ i + 0 = omega arith in subst (λ k. Path rows (f i) (f k) 0) e stay
-      part i (suc n) h =
-          let e : suc i + n ≡ i + suc n = omega arith in
-          on (step i (omega arith)) (subst (λ k. Path rows (f (suc i)) (f k) n) e (part (suc i) n (omega arith)))
-
       along : (i : ℕ) → i ≤ m → Met rows (f i)
-      along i h = let p = part 0 i (omega arith) in let e : 0 + i ≡ i = omega arith in (start .0 + i, then (start .1) (subst (λ k. Path rows (f 0) (f k) i) e p))
+      along i h = let p = way-path f m step 0 i (omega arith) in let e : 0 + i ≡ i = omega arith in (start .0 + i, then (start .1) (subst (λ k. Path rows (f 0) (f k) i) e p))
 
   -- what a check that knows both passes says
   pub depth-deep : {d : ℕ} → ((j : ℕ) → Met rows j → Good rows j) → Deep rows 0 d → Depth rows (deep d)
@@ -147,10 +152,7 @@ module _ {rows : List Row} where
   straight-lines {j} {d} straight p = go (decLt (lineRecords rows) d)
     where
       part : (i n : ℕ) → i + n ≤ d → Path rows (metAt p i) (metAt p (i + n)) n
-      part i zero h = let e : i ≡ i + 0 = omega arith in subst (λ k. Path rows (metAt p i) (metAt p k) 0) e stay
-      part i (suc n) h =
-          let e : suc i + n ≡ i + suc n = omega arith in
-          on (metAt-step p i (omega arith)) (subst (λ k. Path rows (metAt p (suc i)) (metAt p k) n) e (part (suc i) n (omega arith)))
+      part i n h = way-path (metAt p) d (metAt-step p) i n h
 
       line : (i : ℕ) → i < d → (q : ℕ) × (y : ℕ) × (n : ℕ) × Nth rows (metAt p i) (branch q y n)
       line i h = from-line (metAt-step p i h)

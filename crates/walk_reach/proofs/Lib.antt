@@ -1,0 +1,5 @@
+pub mod Slots
+pub mod Rows
+pub mod Queue
+pub mod Laws
+pub mod Visiting
