@@ -1,4 +1,4 @@
--- In reading order: words for bytes and places; the two public documents; header files; PDF blocks; tree text; linking, tables and walks.
+-- In reading order: words for bytes and places; the two public documents; header files; PDF blocks; tree text; linking, tables and walks; tables back to text.
 pub mod Bytes
 pub mod Rfc3629
 pub mod Interchange
@@ -13,3 +13,4 @@ pub mod TreeText
 pub mod Linking
 pub mod Tables
 pub mod Walks
+pub mod Writing

@@ -1,0 +1,5 @@
+pub mod Spelled
+pub mod Plain
+pub mod Again
+pub mod ReadBack
+pub mod Example
