@@ -1,13 +1,13 @@
 // Whether the names and patterns of question and pattern rows have no byte that the grammar doesn't (02, Wish 6: 22). Any tables; of a row that points
 // outside the data the bytes inside count.
-use text_base::is_name;
-use text_base::is_pattern;
 use table_rows::pattern_len;
 use table_rows::pattern_rows;
 use table_rows::pattern_start;
 use table_rows::question_len;
 use table_rows::question_rows;
 use table_rows::question_start;
+use text_base::is_name;
+use text_base::is_pattern;
 ghost use mathlib.Core.Path.{_≡_};
 ghost use Prim.Native.Nat.{_<_};
 ghost use Rattle.written.specs.Bytes.{part};

@@ -1,10 +1,6 @@
 // The parts of a tree text out of the rows of lent tables (02, Wish 6): names, patterns, references, lines. Any tables: a row that isn't there says
 // nothing, so that nothing is required here; whether the rows can be written is judged before.
-use write_figures::put_figures;
 use link_order::name_of;
-use write_put::put_part;
-use write_put::put1;
-use write_put::put3;
 use table_rows::pattern_len;
 use table_rows::pattern_rows;
 use table_rows::pattern_start;
@@ -15,6 +11,10 @@ use table_rows::record_question;
 use table_rows::record_rows;
 use table_rows::record_yes;
 use table_rows::row_there;
+use write_figures::put_figures;
+use write_put::put_part;
+use write_put::put1;
+use write_put::put3;
 ghost use mathlib.Core.Path.{_≡_};
 ghost use lib.IntN.{pos, negℤ};
 ghost use Rattle.written.specs.Said.{pdf};

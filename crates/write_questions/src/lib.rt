@@ -1,6 +1,5 @@
 // Whether some text reads back to question and pattern rows (02, Wish 6: 17), and which question a line can ask: the last of its name. Any tables.
 //
-use text_numbers::same_bytes;
 use link_order::name_of;
 use table_rows::pattern_len;
 use table_rows::pattern_rows;
@@ -8,6 +7,7 @@ use table_rows::question_first;
 use table_rows::question_len;
 use table_rows::question_patterns;
 use table_rows::question_rows;
+use text_numbers::same_bytes;
 ghost use mathlib.Core.Path.{_≡_};
 ghost use Prim.Native.Nat.{_<_, _≤_};
 ghost use Rattle.laws.specs.Every.{all};

@@ -1,10 +1,5 @@
 // The tree text of all rows of lent tables (02, Wish 6), put into a buffer from a place on; the place behind it says its length, also without a
 // buffer. Any tables; whether they can be written is judged before.
-use write_figures::put_figures;
-use write_put::put1;
-use write_put::put2;
-use write_put::put3;
-use write_put::put5;
 use table_rows::question_first;
 use table_rows::question_patterns;
 use table_rows::question_rows;
@@ -13,10 +8,15 @@ use table_rows::tree_lines;
 use table_rows::tree_records;
 use table_rows::tree_rows;
 use table_rows::tree_state;
+use write_figures::put_figures;
 use write_parts::put_leaf;
 use write_parts::put_line;
 use write_parts::put_name;
 use write_parts::put_quoted;
+use write_put::put1;
+use write_put::put2;
+use write_put::put3;
+use write_put::put5;
 ghost use mathlib.Core.Path.{_≡_};
 ghost use mathlib.Core.List.{map, flatten};
 ghost use Prim.Native.Nat.{_<_};

@@ -123,6 +123,7 @@ pub questions-same : {c d : List ℕ} {k m : ℕ} {Q N P O : List Row} {qs : Lis
 questions-same QuestionsSay.none QuestionsSay.none e = (refl, refl)
 questions-same (QuestionsSay.more {own = own} {rest = rest} a p x) (QuestionsSay.more {own = other} {rest = left} b q y) e =
     let n = patterns-many p ∙ sym (patterns-many q) in
-    let r = questions-same x y (ap₂ _+_ e n) in
-    (λ i. ((sym (a .all-there) ∙ b .all-there) i ∷ e i ∷ n i ∷ []) ∷ r .0 i,
-    map-append withoutStart own rest ∙ ap₂ _++_ (patterns-same p q) (r .1) ∙ sym (map-append withoutStart other left))
+    let r = questions-same x y (ap₂ _+_ e n) in (
+      λ i. ((sym (a .all-there) ∙ b .all-there) i ∷ e i ∷ n i ∷ []) ∷ r .0 i,
+      map-append withoutStart own rest ∙ ap₂ _++_ (patterns-same p q) (r .1) ∙ sym (map-append withoutStart other left),
+    )

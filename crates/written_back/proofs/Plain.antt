@@ -21,7 +21,7 @@ use Rattle.written_back.proofs.Spelled.{Every, All, Fits, RefFits, Line
 -- ---- ids
 
 -- the id of line k
-abbrev idOf : ℕ → ℤ
+abbrev pub idOf : ℕ → ℤ
 idOf k = negℤ (pos k)
 
 -- how far below 0 a number is
@@ -45,11 +45,11 @@ nth-there [] k h = absurd (omega arith)
 nth-there (x ∷ xs) zero h = (x, Nth.here)
 nth-there (x ∷ xs) (suc k) h = let r = nth-there xs k (omega arith) in (r .0, Nth.there (r .1))
 
-nth-inside : {A : Type 0} {xs : List A} {k : ℕ} {x : A} → Nth xs k x → k < length xs
+pub nth-inside : {A : Type 0} {xs : List A} {k : ℕ} {x : A} → Nth xs k x → k < length xs
 nth-inside Nth.here = omega arith
 nth-inside (Nth.there s) = omega (arith, nth-inside s)
 
-numbered-from : {k : ℕ} {ls : List Line} {l : Line} → Numbered 0 ls → Nth ls k l → l .id ≡ idOf k
+pub numbered-from : {k : ℕ} {ls : List Line} {l : Line} → Numbered 0 ls → Nth ls k l → l .id ≡ idOf k
 numbered-from {k = k} n s = numbered-at n s ∙ ap idOf (let u : 0 + k ≡ k = omega arith in u)
 
 -- the last line that bears the id of line k is line k
@@ -149,10 +149,12 @@ plain-body {qs} (Records.lines {ls = ls} leaves ns asc tm f e) (LinesOf.lines _)
     let us = again qs ls leaves 0 f in
     let numbered = again-numbered qs ls leaves 0 f in
     let long = again-long qs ls leaves 0 f in
-    let unlike = again-unlike qs ls leaves f ns in
-    (braces us, PlainBody.lines unlike numbered,
-    Records.lines leaves unlike asc (λ n. tm n ∙ ap (times n) (sym (again-pdfs qs ls leaves 0 f))) (again-rows qs ls leaves us numbered long 0 f) e,
-    subst (LinesOf (braces us)) long (LinesOf.lines unlike))
+    let unlike = again-unlike qs ls leaves f ns in (
+      braces us,
+      PlainBody.lines unlike numbered,
+      Records.lines leaves unlike asc (λ n. tm n ∙ ap (times n) (sym (again-pdfs qs ls leaves 0 f))) (again-rows qs ls leaves us numbered long 0 f) e,
+      subst (LinesOf (braces us)) long (LinesOf.lines unlike),
+    )
 
 -- ---- what a text says fits
 

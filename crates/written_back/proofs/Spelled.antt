@@ -273,17 +273,19 @@ module _ {s : List ℕ} where
                 where
                   go-yes : (j : ℕ) × Word s (spelledRef (l .yes)) (suc e) j × Word s (newline ∷ []) j k → (j : ℕ) × (w : Span) × LineAt s i j l w × Byte s newline j k
                   go-yes (j, wyes, wend) =
-                      let named = word-between wname (bytes-of name-small (f .question)) in
-                      (j, spanning (suc a) c,
-                      subst (λ (q : List ℕ). LineAt s i j (record { id = l .id; question = q; no = l .no; yes = l .yes }) (spanning (suc a) c)) named
-                      (LineAt.line (number-word (l .id) (f .id) wid (ap digit q₁))
-                      (Run₁.some (ap blank q₁) (Run.stop (name-unblank (byteAt s (suc a)) (first-of wname (f .question) (f .named)))))
-                      (word-run₁ wname (f .question) (f .named) (ap inName q₂))
-                      (Run₁.some (ap blank q₂) (Run.stop (ref-first (l .no) wno)))
-                      (ref-word (l .no) (f .no-ref) wno (ap digit q₃))
-                      (Run₁.some (ap blank q₃) (Run.stop (ref-first (l .yes) wyes)))
-                      (ref-word (l .yes) (f .yes-ref) wyes (ap digit (word-first wend)))),
-                      wend)
+                      let named = word-between wname (bytes-of name-small (f .question)) in (
+                        j,
+                        spanning (suc a) c,
+                        subst (λ (q : List ℕ). LineAt s i j (record { id = l .id; question = q; no = l .no; yes = l .yes }) (spanning (suc a) c)) named
+                            (LineAt.line (number-word (l .id) (f .id) wid (ap digit q₁))
+                            (Run₁.some (ap blank q₁) (Run.stop (name-unblank (byteAt s (suc a)) (first-of wname (f .question) (f .named)))))
+                            (word-run₁ wname (f .question) (f .named) (ap inName q₂))
+                            (Run₁.some (ap blank q₂) (Run.stop (ref-first (l .no) wno)))
+                            (ref-word (l .no) (f .no-ref) wno (ap digit q₃))
+                            (Run₁.some (ap blank q₃) (Run.stop (ref-first (l .yes) wyes)))
+                            (ref-word (l .yes) (f .yes-ref) wyes (ap digit (word-first wend)))),
+                        wend,
+                      )
 
 digit-unspace : (b : ℕ) → digit b ≡ true → spaceOrTab b ≡ false
 unfolding digit spaceOrTab
@@ -323,9 +325,12 @@ module _ {s : List ℕ} where
       go (b, x, y) rest =
           let r = line-word l f x in
           let t = rest b y in
-          let h = line-first m (flatten (map spelledLine ms)) y in
-          (t .0, r .1 ∷ t .1,
-          Parted.next (r .2) (LineParting.parting (Run.stop (ap spaceOrTab (word-first (r .3)))) (r .3) (Run.stop (h .1)) (Run.stop (h .0))) (t .2), t .3)
+          let h = line-first m (flatten (map spelledLine ms)) y in (
+            t .0,
+            r .1 ∷ t .1,
+            Parted.next (r .2) (LineParting.parting (Run.stop (ap spaceOrTab (word-first (r .3)))) (r .3) (Run.stop (h .1)) (Run.stop (h .0))) (t .2),
+            t .3,
+          )
 
 -- ---- trees
 
@@ -370,11 +375,13 @@ module _ {s : List ℕ} where
         where
           go-body : (j : ℕ) × Word s (spelledBody (t .body)) (suc (suc m)) j × Word s (newline ∷ []) j k → (j : ℕ) × (u : TreePlace) × TreeAt s i j t u × Byte s newline j k
           go-body (j, z, shut) =
-              let r = body-word (t .body) (f .body) z (ap digit (word-first shut)) in
-              (j, record { star = i; names = r .0 },
-              TreeAt.tree (Word.byte a (Word.byte b (Word.byte c Word.end))) (Run.more (ap blank d) (Run.stop (ap blank e))) (Word.byte e Word.end)
-              (number-word (t .state) (f .state) x (ap digit g)) (Word.byte g Word.end) (Run.more (ap blank h) (Run.stop (body-first (t .body) z))) (r .1),
-              shut)
+              let r = body-word (t .body) (f .body) z (ap digit (word-first shut)) in (
+                j,
+                record { star = i; names = r .0 },
+                TreeAt.tree (Word.byte a (Word.byte b (Word.byte c Word.end))) (Run.more (ap blank d) (Run.stop (ap blank e))) (Word.byte e Word.end)
+                    (number-word (t .state) (f .state) x (ap digit g)) (Word.byte g Word.end) (Run.more (ap blank h) (Run.stop (body-first (t .body) z))) (r .1),
+                shut,
+              )
 
   tree-first : (t : Tree) (v : List ℕ) {i k : ℕ} → Word s (spelledTree t ++ v) i k → blank (byteAt s i) ≡ false
   unfolding spelledTree blank
@@ -394,9 +401,12 @@ module _ {s : List ℕ} where
           → (j : ℕ) × (us : List TreePlace) × Parted (Parting s) (TreeAt s) i j (t ∷ (m ∷ ms)) us × Byte s newline j k
       go (b, x, y) rest =
           let r = tree-word t f x in
-          let q = rest b y in
-          (q .0, r .1 ∷ q .1,
-          Parted.next (r .2) (Parting.parting (Run.stop (ap spaceOrTab (word-first (r .3)))) (r .3) (Run.stop (tree-first m (flatten (map spelledTree ms)) y))) (q .2), q .3)
+          let q = rest b y in (
+            q .0,
+            r .1 ∷ q .1,
+            Parted.next (r .2) (Parting.parting (Run.stop (ap spaceOrTab (word-first (r .3)))) (r .3) (Run.stop (tree-first m (flatten (map spelledTree ms)) y))) (q .2),
+            q .3,
+          )
 
 -- ---- questions
 
@@ -444,9 +454,10 @@ module _ {s : List ℕ} where
           → ((c : ℕ) → Word s (spelledPatterns (v ∷ ws)) c k → (ps : List Span) × Parted (Comma s) (PatternAt s) c k (v ∷ ws) ps)
           → (ps : List Span) × Parted (Comma s) (PatternAt s) i k (w ∷ (v ∷ ws)) ps
       go (b, y, Word.byte a (Word.byte c (Word.byte d z))) rest =
-          let r = rest (suc (suc (suc b))) z in
-          (spanning (suc i) b ∷ r .0,
-          Parted.next (quoted-word w f q y (Word.byte a Word.end)) (Comma.parting (Word.byte c Word.end) (Run.more (ap blank d) (Run.stop (ap blank (patterns-first v ws z))))) (r .1))
+          let r = rest (suc (suc (suc b))) z in (
+            spanning (suc i) b ∷ r .0,
+            Parted.next (quoted-word w f q y (Word.byte a Word.end)) (Comma.parting (Word.byte c Word.end) (Run.more (ap blank d) (Run.stop (ap blank (patterns-first v ws z))))) (r .1),
+          )
 
   pub question-word : (q : Question) → QuestionFits q → {i k : ℕ} → Word s (spelledQuestion q) i k → (j : ℕ) × (p : QuestionPlace) × QuestionAt s i j q p × Byte s newline j k
   unfolding spelledQuestion blank inName
@@ -462,17 +473,19 @@ module _ {s : List ℕ} where
           go-patterns (w ∷ ws) u (m, z, Word.byte o (Word.byte t shut)) =
               let z′ = subst (λ (ps : List (List ℕ)). Word s (spelledPatterns ps) (suc (suc (suc e))) m) u z in
               let r = patterns-word w ws (subst (All PatternFits) u (f .patterns)) z′ in
-              let named = word-between x (bytes-of name-small (f .name)) in
-              (suc (suc m), record { name = spanning (suc (suc (suc i))) e; patterns = r .0 },
-              subst (λ (n : List ℕ). QuestionAt s i (suc (suc m)) (record { name = n; patterns = q .patterns }) (record { name = spanning (suc (suc (suc i))) e; patterns = r .0 })) named
-              (QuestionAt.question (Word.byte a (Word.byte b Word.end))
-              (Run₁.some (ap blank c) (Run.stop (name-unblank (byteAt s (suc (suc (suc i)))) (first-of x (f .name) (f .named)))))
-              (word-run₁ x (f .name) (f .named) (ap inName d))
-              (Run₁.some (ap blank d) (Run.stop (ap blank g)))
-              (Word.byte g Word.end) (Run.more (ap blank h) (Run.stop (ap blank (patterns-first w ws z′))))
-              (subst (λ (ps : List (List ℕ)). Parted (Comma s) (PatternAt s) (suc (suc (suc e))) m ps (r .0)) (sym u) (r .1))
-              (Run.more (ap blank o) (Run.stop (ap blank t))) (Word.byte t Word.end)),
-              shut)
+              let named = word-between x (bytes-of name-small (f .name)) in (
+                suc (suc m),
+                record { name = spanning (suc (suc (suc i))) e; patterns = r .0 },
+                subst (λ (n : List ℕ). QuestionAt s i (suc (suc m)) (record { name = n; patterns = q .patterns }) (record { name = spanning (suc (suc (suc i))) e; patterns = r .0 })) named
+                    (QuestionAt.question (Word.byte a (Word.byte b Word.end))
+                    (Run₁.some (ap blank c) (Run.stop (name-unblank (byteAt s (suc (suc (suc i)))) (first-of x (f .name) (f .named)))))
+                    (word-run₁ x (f .name) (f .named) (ap inName d))
+                    (Run₁.some (ap blank d) (Run.stop (ap blank g)))
+                    (Word.byte g Word.end) (Run.more (ap blank h) (Run.stop (ap blank (patterns-first w ws z′))))
+                    (subst (λ (ps : List (List ℕ)). Parted (Comma s) (PatternAt s) (suc (suc (suc e))) m ps (r .0)) (sym u) (r .1))
+                    (Run.more (ap blank o) (Run.stop (ap blank t))) (Word.byte t Word.end)),
+                shut,
+              )
 
   question-first : (q : Question) (v : List ℕ) {i k : ℕ} → Word s (spelledQuestion q ++ v) i k → blank (byteAt s i) ≡ false
   unfolding spelledQuestion blank
@@ -493,9 +506,12 @@ module _ {s : List ℕ} where
           → (j : ℕ) × (ps : List QuestionPlace) × Parted (Parting s) (QuestionAt s) i j (q ∷ (m ∷ ms)) ps × Byte s newline j k
       go (b, x, y) rest =
           let r = question-word q f x in
-          let t = rest b y in
-          (t .0, r .1 ∷ t .1,
-          Parted.next (r .2) (Parting.parting (Run.stop (ap spaceOrTab (word-first (r .3)))) (r .3) (Run.stop (question-first m (flatten (map spelledQuestion ms)) y))) (t .2), t .3)
+          let t = rest b y in (
+            t .0,
+            r .1 ∷ t .1,
+            Parted.next (r .2) (Parting.parting (Run.stop (ap spaceOrTab (word-first (r .3)))) (r .3) (Run.stop (question-first m (flatten (map spelledQuestion ms)) y))) (t .2),
+            t .3,
+          )
 
 -- ---- a text
 
@@ -526,17 +542,19 @@ spelled-says before t f = go (t .questions) (t .trees) refl refl (f .questions) 
     go qs [] e h fq ft l = let z = ap length h in absurd (omega arith)
     go [] (m ∷ ms) e h fq ft l =
         let w = word-ends S before (flatten (map spelledTree (m ∷ ms)))
-                (ap₂ (λ (a : List Question) (b : List Tree). before ++ (flatten (map spelledQuestion a) ++ flatten (map spelledTree b))) e h) in
-        let r = trees-at (length before) m ms (subst (All TreeFits) h ft) (length before) (Run.stop (tree-first m (flatten (map spelledTree ms)) w)) w in
-        (record { questions = []; trees = r .0 },
-        subst (λ (x : Text). Says S (length before) x (record { questions = []; trees = r .0 }))
-        (ap₂ (λ (a : List Question) (b : List Tree). record { questions = a; trees = b }) (sym e) (sym h)) (Says.without (r .1)))
+        (ap₂ (λ (a : List Question) (b : List Tree). before ++ (flatten (map spelledQuestion a) ++ flatten (map spelledTree b))) e h) in
+        let r = trees-at (length before) m ms (subst (All TreeFits) h ft) (length before) (Run.stop (tree-first m (flatten (map spelledTree ms)) w)) w in (
+          record { questions = []; trees = r .0 },
+          subst (λ (x : Text). Says S (length before) x (record { questions = []; trees = r .0 }))
+              (ap₂ (λ (a : List Question) (b : List Tree). record { questions = a; trees = b }) (sym e) (sym h)) (Says.without (r .1)),
+        )
     go (q ∷ qs) (m ∷ ms) e h fq ft l =
         let w = word-ends S before (flatten (map spelledQuestion (q ∷ qs)) ++ flatten (map spelledTree (m ∷ ms)))
-                (ap₂ (λ (a : List Question) (b : List Tree). before ++ (flatten (map spelledQuestion a) ++ flatten (map spelledTree b))) e h) in
+        (ap₂ (λ (a : List Question) (b : List Tree). before ++ (flatten (map spelledQuestion a) ++ flatten (map spelledTree b))) e h) in
         let p = parts (flatten (map spelledQuestion (q ∷ qs))) w in
         let k = questions-word q qs (subst (All QuestionFits) e fq) (p .1) in
-        let r = trees-at (k .0) m ms (subst (All TreeFits) h ft) (p .0) (newline-then (k .3) (tree-first m (flatten (map spelledTree ms)) (p .2))) (p .2) in
-        (record { questions = k .1; trees = r .0 },
-        subst (λ (x : Text). Says S (length before) x (record { questions = k .1; trees = r .0 }))
-        (ap₂ (λ (a : List Question) (b : List Tree). record { questions = a; trees = b }) (sym e) (sym h)) (Says.with-questions (k .2) (r .1)))
+        let r = trees-at (k .0) m ms (subst (All TreeFits) h ft) (p .0) (newline-then (k .3) (tree-first m (flatten (map spelledTree ms)) (p .2))) (p .2) in (
+          record { questions = k .1; trees = r .0 },
+          subst (λ (x : Text). Says S (length before) x (record { questions = k .1; trees = r .0 }))
+              (ap₂ (λ (a : List Question) (b : List Tree). record { questions = a; trees = b }) (sym e) (sym h)) (Says.with-questions (k .2) (r .1)),
+        )
