@@ -17,7 +17,8 @@ use Rattle.laws.specs.Every.{all}
 use Rattle.laws.proofs.Every.{first-of, second-of, all-each}
 use Rattle.link_order.specs.Keys.{nameAt}
 use Rattle.table_rows.specs.Rows.{questionRows, recordRows, recordKind, recordQuestion, recordPdf, recordYes, recordNo, recordRow, rowsFrom}
-use Rattle.write_parts.specs.Parts.{each, ofRecord, refOf, lineOf, questionOf}
+use Rattle.write_parts.specs.Parts.{each, refOf, lineOf, questionOf}
+use Rattle.write_records.specs.Records.{ofRecord}
 use Rattle.write_parts.proofs.Laws.{ref-line, ref-leaf}
 use Rattle.write_questions.specs.Tests.{notLater, lastNamed}
 use Rattle.write_links.specs.Tests.{leafIn, refIn, lineIn, countedIn, unlike}

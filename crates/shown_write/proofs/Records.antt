@@ -20,8 +20,10 @@ use Rattle.laws.proofs.Every.{first-of, second-of, all-each}
 use Rattle.link_order.specs.Keys.{nameAt}
 use Rattle.table_rows.specs.Rows.{questionRows, recordRows, recordKind, recordQuestion, recordPdf, recordYes, recordNo, recordRow, rowsFrom}
 use Rattle.table_rows.proofs.Stand.{nth-below}
-use Rattle.write_parts.specs.Parts.{each, ofRecord, refOf, lineOf, questionOf}
-use Rattle.write_parts.proofs.Laws.{record-says, ref-line, ref-leaf}
+use Rattle.write_parts.specs.Parts.{each, refOf, lineOf, questionOf}
+use Rattle.write_records.specs.Records.{ofRecord}
+use Rattle.write_records.proofs.Laws.{record-says}
+use Rattle.write_parts.proofs.Laws.{ref-line, ref-leaf}
 use Rattle.write_questions.specs.Tests.{notLater, lastNamed}
 use Rattle.write_links.specs.Tests.{leafAt, leafIn, refIn, lineIn, countedIn}
 

@@ -17,7 +17,8 @@ use Rattle.laws.specs.Every.{all}
 use Rattle.laws.proofs.Every.{first-of, second-of, all-each}
 use Rattle.link_order.specs.Keys.{nameAt}
 use Rattle.table_rows.specs.Rows.{questionRows, questionStart, questionLen, questionFirst, questionPatterns, patternRows, patternStart, patternLen, treeRows, treeState, treeFirst, treeRecords, treeLines, recordRows, recordKind, recordQuestion, recordPdf, recordYes, recordNo, questionTable, patternTable, treeTable, recordTable}
-use Rattle.write_parts.specs.Parts.{each, patternOf, questionOf, ofRecord, refOf, lineOf, bodyOf, treeOf}
+use Rattle.write_parts.specs.Parts.{each, patternOf, questionOf, refOf, lineOf, bodyOf, treeOf}
+use Rattle.write_records.specs.Records.{ofRecord}
 use Rattle.write_parts.proofs.Laws.{pattern-there, ref-line, ref-leaf}
 use Rattle.write_text.specs.Text.{textOf}
 use Rattle.write_rows.specs.Tests.{rowsIn}

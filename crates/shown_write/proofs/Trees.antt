@@ -16,7 +16,8 @@ use Rattle.laws.specs.Every.{all}
 use Rattle.laws.proofs.Every.{first-of, second-of}
 use Rattle.table_rows.specs.Rows.{questionRows, treeRows, treeState, treeFirst, treeRecords, treeLines, treeRow, recordRows, recordKind, recordQuestion, recordPdf, recordRow, rowsFrom, questionTable, patternTable, treeTable, recordTable}
 use Rattle.table_rows.proofs.Stand.{length-from}
-use Rattle.write_parts.specs.Parts.{each, ofRecord, questionOf, lineOf, bodyOf, treeOf}
+use Rattle.write_parts.specs.Parts.{each, questionOf, lineOf, bodyOf, treeOf}
+use Rattle.write_records.specs.Records.{ofRecord}
 use Rattle.write_text.specs.Text.{textOf}
 use Rattle.write_rows.specs.Tests.{rowsIn}
 use Rattle.write_rows.proofs.Outside.{question-in}

@@ -8,7 +8,7 @@ use native.Mathlib.Omega.{arith}
 use lib.ListN.{length, getD, take, drop, length-take, length-drop}
 use lib.Seq.{getD-take, getD-drop}
 use Rattle.written.specs.Bytes.{inName, inPattern, part}
-use Rattle.written.specs.Writing.{Among, OddByte, in-name, in-pattern}
+use Rattle.written.specs.Writing.{Among, OddByte, in-name, in-pattern, firstFour}
 use Rattle.laws.specs.Every.{all}
 use Rattle.laws.proofs.Every.{first-of, second-of, not-first, then-second, all-each}
 use Rattle.table_rows.specs.Rows.{questionRows, questionStart, questionLen, patternRows, patternStart, patternLen, questionRow, patternRow, questionTable, patternTable, treeTable, recordTable}
@@ -101,7 +101,7 @@ at j r = getD r j 0
 
 module _ (d Q P T R : List ℕ) where
   abbrev Odd-there : Type 0
-  Odd-there = OddByte d (questionTable Q) (patternTable P) (treeTable T) (recordTable R)
+  Odd-there = OddByte d (questionTable Q) (patternTable P) (firstFour (treeTable T)) (recordTable R)
 
   pub some-odd : bytesFit d Q P ≡ false → Odd-there
   unfolding bytesFit nameFits patternFits fits questionTable patternTable

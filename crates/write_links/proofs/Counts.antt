@@ -10,7 +10,8 @@ use lib.IntN.{pos, negℤ}
 use Rattle.written.specs.Said.{Ref, node, pdf, Line}
 use Rattle.written.specs.Linking.{times, pdfs, pdfOf}
 use Rattle.table_rows.specs.Rows.{recordPdf}
-use Rattle.write_parts.specs.Parts.{each, ofRecord, refOf}
+use Rattle.write_parts.specs.Parts.{each, refOf}
+use Rattle.write_records.specs.Records.{ofRecord}
 use Rattle.write_parts.proofs.Laws.{each-more, each-done, ref-line, ref-leaf}
 
 times-append : (x : ℕ) (a b : List ℕ) → times x (a ++ b) ≡ times x a + times x b

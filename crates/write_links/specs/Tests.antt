@@ -7,7 +7,8 @@ use lib.Dec.{ltb, leb, eqb}
 use Rattle.written.specs.Linking.{times, pdfs}
 use Rattle.laws.specs.Every.{all}
 use Rattle.table_rows.specs.Rows.{treeRows, treeState, treeFirst, treeRecords, treeLines, recordRows, recordKind, recordQuestion, recordPdf, recordYes, recordNo}
-use Rattle.write_parts.specs.Parts.{each, ofRecord, lineOf}
+use Rattle.write_parts.specs.Parts.{each, lineOf}
+use Rattle.write_records.specs.Records.{ofRecord}
 use Rattle.write_questions.specs.Tests.{questionsFit, lastNamed}
 
 -- ---- leaves

@@ -20,7 +20,8 @@ ghost use lib.Dec.{eqb};
 ghost use Rattle.written.specs.Linking.{times, pdfs, pdfOf};
 ghost use Rattle.laws.specs.Every.{all};
 ghost use Rattle.table_rows.specs.Rows.{treeRows, recordRows, recordPdf};
-ghost use Rattle.write_parts.specs.Parts.{each, ofRecord, refOf, lineOf};
+ghost use Rattle.write_parts.specs.Parts.{each, refOf, lineOf}
+use Rattle.write_records.specs.Records.{ofRecord};
 ghost use Rattle.write_links.specs.Tests.{leafAt, leafIn, refIn, lineIn, countedIn, unlike, bareIn, linesIn, bodyIn, treeIn, grown, linksFit};
 
 // Whether record k is a leaf that a text can have.

@@ -13,8 +13,9 @@ use Rattle.written.specs.Bytes.{newline, dash, part}
 use Rattle.written.specs.Said.{Ref, node, pdf}
 use Rattle.written.specs.Writing.{figures, figuresIn, spelledNumber, spelledRef, spelledLine}
 use Rattle.link_order.specs.Keys.{nameAt}
-use Rattle.table_rows.specs.Rows.{patternRows, patternStart, patternLen, recordRows, recordQuestion, recordPdf, recordYes, recordNo}
-use Rattle.write_parts.specs.Parts.{each, patternOf, ofRecord, refOf, lineOf}
+use Rattle.table_rows.specs.Rows.{patternRows, patternStart, patternLen, recordQuestion, recordPdf, recordYes, recordNo}
+use Rattle.write_records.specs.Records.{ofRecord}
+use Rattle.write_parts.specs.Parts.{each, patternOf, refOf, lineOf}
 
 -- ---- what it says
 
@@ -30,15 +31,6 @@ module _ (d P : List ℕ) (f k : ℕ) where
   pub pattern-missing : ltb (f + k) (patternRows P) ≡ false → [] ≡ patternOf d P f k
   unfolding patternOf
   pattern-missing h = sym (ap (λ (x : Bool). cond x (part d (patternStart P (f + k)) (patternLen P (f + k))) []) h)
-
-module _ (field : List ℕ → ℕ → ℕ) (R : List ℕ) (f k : ℕ) where
-  pub record-says : ltb (f + k) (recordRows R) ≡ true → {x : ℕ} → x ≡ field R (f + k) → x ≡ ofRecord field R f k
-  unfolding ofRecord
-  record-says h u = u ∙ sym (ap (λ (x : Bool). cond x (field R (f + k)) 0) h)
-
-  pub record-missing : ltb (f + k) (recordRows R) ≡ false → 0 ≡ ofRecord field R f k
-  unfolding ofRecord
-  record-missing h = sym (ap (λ (x : Bool). cond x (field R (f + k)) 0) h)
 
 -- ---- ids and references
 

@@ -8,7 +8,8 @@ use lib.IntN.{ℤ, pos, negℤ}
 use Rattle.written.specs.Bytes.{quote, comma, part}
 use Rattle.written.specs.Said.{Ref, node, pdf, Line, Body, lone, braces, Tree, Question, Text}
 use Rattle.link_order.specs.Keys.{nameAt}
-use Rattle.table_rows.specs.Rows.{questionFirst, questionPatterns, patternRows, patternStart, patternLen, treeState, treeFirst, treeRecords, treeLines, recordRows, recordQuestion, recordPdf, recordYes, recordNo}
+use Rattle.table_rows.specs.Rows.{questionFirst, questionPatterns, patternRows, patternStart, patternLen, treeState, treeFirst, treeRecords, treeLines, recordQuestion, recordPdf, recordYes, recordNo}
+use Rattle.write_records.specs.Records.{ofRecord}
 
 -- n things by their number, from thing k on
 unfoldable pub each : {A : Type 0} → (ℕ → A) → ℕ → ℕ → List A
@@ -29,10 +30,6 @@ abbrev pub questionOf : List ℕ → List ℕ → List ℕ → ℕ → Question
 questionOf d Q P q = record { name = nameAt d Q q; patterns = each (patternOf d P (questionFirst Q q)) 0 (questionPatterns Q q) }
 
 -- ---- records of a tree whose first stands in row f
-
--- a number of record k
-unfoldable pub ofRecord : (List ℕ → ℕ → ℕ) → List ℕ → ℕ → ℕ → ℕ
-ofRecord field R f k = cond (ltb (f + k) (recordRows R)) (field R (f + k)) 0
 
 -- a reference to record k of a tree with n lines: a line by its id, a leaf by its PDF number
 unfoldable pub refOf : List ℕ → ℕ → ℕ → ℕ → Ref

@@ -4,25 +4,24 @@ use link_order::name_of;
 use table_rows::pattern_len;
 use table_rows::pattern_rows;
 use table_rows::pattern_start;
-use table_rows::record_kind;
-use table_rows::record_no;
-use table_rows::record_pdf;
-use table_rows::record_question;
-use table_rows::record_rows;
-use table_rows::record_yes;
 use table_rows::row_there;
 use write_figures::put_figures;
 use write_put::put_part;
 use write_put::put1;
 use write_put::put3;
+use write_records::asked;
+use write_records::goes_no;
+use write_records::goes_yes;
+use write_records::number;
 ghost use mathlib.Core.Path.{_≡_};
 ghost use lib.IntN.{pos, negℤ};
 ghost use Rattle.written.specs.Said.{pdf};
 ghost use Rattle.written.specs.Writing.{spelledNumber, spelledRef, spelledLine};
 ghost use Rattle.write_put.specs.Puts.{Put};
 ghost use Rattle.link_order.specs.Keys.{nameAt};
-ghost use Rattle.table_rows.specs.Rows.{recordKind, recordQuestion, recordPdf, recordYes, recordNo};
-ghost use Rattle.write_parts.specs.Parts.{patternOf, quoted, ofRecord, refOf, lineOf};
+ghost use Rattle.table_rows.specs.Rows.{recordPdf};
+ghost use Rattle.write_records.specs.Records.{ofRecord};
+ghost use Rattle.write_parts.specs.Parts.{patternOf, quoted, refOf, lineOf};
 
 // The name of question q.
 pub fn put_name(b: &mut [u8], at: usize, s: &[u8], questions: &[u64], q: u64) -> usize
@@ -63,54 +62,6 @@ pub fn put_quoted(
     } else {
         put1(b, end, 34)
     }
-}
-
-// The kind of record k of the tree whose first record stands in row `first`.
-pub fn kind(records: &[u64], first: u64, k: u64) -> u64
-    ensures { λ r. ⌜ r ≡ ofRecord recordKind (now (records .entry)) first k ⌝ }
-{
-    if row_there(record_rows(records), first, k) {
-        return record_kind(records, first + k);
-    }
-    0
-}
-
-// The question of line k of the tree whose first record stands in row `first`; and where its answers go.
-pub fn asked(records: &[u64], first: u64, k: u64) -> u64
-    ensures { λ r. ⌜ r ≡ ofRecord recordQuestion (now (records .entry)) first k ⌝ }
-{
-    if row_there(record_rows(records), first, k) {
-        return record_question(records, first + k);
-    }
-    0
-}
-
-pub fn goes_yes(records: &[u64], first: u64, k: u64) -> u64
-    ensures { λ r. ⌜ r ≡ ofRecord recordYes (now (records .entry)) first k ⌝ }
-{
-    if row_there(record_rows(records), first, k) {
-        return record_yes(records, first + k);
-    }
-    0
-}
-
-pub fn goes_no(records: &[u64], first: u64, k: u64) -> u64
-    ensures { λ r. ⌜ r ≡ ofRecord recordNo (now (records .entry)) first k ⌝ }
-{
-    if row_there(record_rows(records), first, k) {
-        return record_no(records, first + k);
-    }
-    0
-}
-
-// The PDF number of leaf k.
-pub fn number(records: &[u64], first: u64, k: u64) -> u64
-    ensures { λ r. ⌜ r ≡ ofRecord recordPdf (now (records .entry)) first k ⌝ }
-{
-    if row_there(record_rows(records), first, k) {
-        return record_pdf(records, first + k);
-    }
-    0
 }
 
 // The id of line k: 0, -1, -2 and on.

@@ -1,17 +1,15 @@
 -- Questions whose patterns follow one another: one question, and the loop.
 use mathlib.Core.Path.{_≡_, refl, sym, ap, ap₂, _∙_}
-use mathlib.Core.Bool.{Bool, true, false, not, _&&_}
+use mathlib.Core.Bool.{Bool, true, false, _&&_}
 use mathlib.Core.List.{List}
 use Prim.Native.Nat.{ℕ, zero, suc, _+_, _-_, _≤_, _<_}
 use native.Mathlib.Decide.{decLe}
 use native.Mathlib.Omega.{arith}
 use borrow.Author.Tests.{lt-ltb, le-ltb, le-leb, lt-leb, leb-true, eq-eqb, ne-eqb, eqb-true}
 use lib.Dec.{ltb, leb, eqb}
-use Rattle.written.specs.Bytes.{same}
 use Rattle.laws.proofs.Every.{first-of, second-of, not-first, then-second}
-use Rattle.link_order.specs.Keys.{nameAt}
 use Rattle.table_rows.specs.Rows.{questionRows, questionLen, questionFirst, questionPatterns, patternRows}
-use Rattle.write_questions.specs.Tests.{nextIn, chained, notLater}
+use Rattle.write_questions.specs.Tests.{nextIn, chained}
 
 -- ---- one question: each way through
 
@@ -86,14 +84,3 @@ module _ (Q P : List ℕ) where
     pub following-end : n ≤ q → {x : ℕ} → x ≡ patternRows P → eqb k x ≡ chained Q P 0 0 n
     unfolding chained
     following-end h u = let e : n - q ≡ 0 = omega arith in ap (eqb k) u ∙ sym (ap (chained Q P k q) e) ∙ f .rest
-
--- ---- names
-
-module _ (d Q : List ℕ) (q j : ℕ) where
-  pub not-behind : j ≤ q → true ≡ notLater d Q q j
-  unfolding notLater
-  not-behind h = sym (ap (λ (b : Bool). not (b && same (nameAt d Q j) (nameAt d Q q))) (le-ltb q j h))
-
-  pub behind : q < j → {u v : List ℕ} → u ≡ nameAt d Q j → v ≡ nameAt d Q q → not (same u v) ≡ notLater d Q q j
-  unfolding notLater
-  behind h a b = ap not (ap₂ same a b) ∙ sym (ap (λ (c : Bool). not (c && same (nameAt d Q j) (nameAt d Q q))) (lt-ltb q j h))

@@ -7,12 +7,16 @@ use table_rows::question_first;
 use table_rows::question_len;
 use table_rows::question_patterns;
 use table_rows::question_rows;
+use table_rows::record_kind;
+use table_rows::record_question;
+use table_rows::record_rows;
 use text_numbers::same_bytes;
 ghost use mathlib.Core.Path.{_≡_};
+ghost use mathlib.Core.Bool.{not};
 ghost use Prim.Native.Nat.{_<_, _≤_};
 ghost use Rattle.laws.specs.Every.{all};
-ghost use Rattle.table_rows.specs.Rows.{questionRows, patternRows};
-ghost use Rattle.write_questions.specs.Tests.{nextIn, chained, someByte, questionsFit, notLater, lastNamed};
+ghost use Rattle.table_rows.specs.Rows.{questionRows, patternRows, recordRows};
+ghost use Rattle.write_questions.specs.Tests.{nextIn, chained, someByte, questionsFit, lastNamed, asksOther, notHidden, noneHidden};
 
 // Whether question q has a name, and patterns that begin behind the k before them.
 fn next_in(questions: &[u64], patterns: &[u64], k: u64, q: u64) -> bool
@@ -81,27 +85,68 @@ pub fn questions_fit(questions: &[u64], patterns: &[u64]) -> bool
     some_bytes(patterns)
 }
 
-// Whether question j is no later one of the name of q.
-fn not_later(s: &[u8], questions: &[u64], q: u64, j: u64) -> bool
-    ensures { λ r. ⌜ r ≡ notLater (now (s .entry)) (now (questions .entry)) q j ⌝ }
-{
-    if j <= q {
-        return true;
-    }
-    !same_bytes(name_of(s, questions, j), name_of(s, questions, q))
-}
-
 // Whether q is the last question of its name.
-pub fn last_named(s: &[u8], questions: &[u64], q: u64) -> bool
+fn last_named(s: &[u8], questions: &[u64], q: u64) -> bool
+    requires { ⌜ q < questionRows (now questions) ⌝ }
     ensures { λ r. ⌜ r ≡ lastNamed (now (s .entry)) (now (questions .entry)) q ⌝ }
 {
     let n = question_rows(questions);
-    let mut j = 0;
+    let name = name_of(s, questions, q);
+    let mut j = q + 1;
     while j < n {
-        if !not_later(s, questions, q, j) {
+        if same_bytes(name_of(s, questions, j), name) {
             return false;
         }
         j = j + 1;
+    }
+    true
+}
+
+// Whether record i asks q.
+fn asks(records: &[u64], q: u64, i: u64) -> bool
+    requires { ⌜ i < recordRows (now records) ⌝ }
+    ensures { λ r. ⌜ not r ≡ asksOther (now (records .entry)) q i ⌝ }
+{
+    record_kind(records, i) == 0 && record_question(records, i) == q
+}
+
+// Whether no record asks q.
+fn none_asks(records: &[u64], q: u64) -> bool
+    ensures { λ r. ⌜ r ≡ all (asksOther (now (records .entry)) q) 0 (recordRows (now (records .entry))) ⌝ }
+{
+    let n = record_rows(records);
+    let mut i = 0;
+    while i < n {
+        if asks(records, q, i) {
+            return false;
+        }
+        i = i + 1;
+    }
+    true
+}
+
+// Question q: nothing asks it, if a later one has its name.
+fn not_hidden(s: &[u8], questions: &[u64], records: &[u64], q: u64) -> bool
+    requires { ⌜ q < questionRows (now questions) ⌝ }
+    ensures { λ r. ⌜ r ≡ notHidden (now (s .entry)) (now (questions .entry)) (now (records .entry)) q ⌝ }
+{
+    if last_named(s, questions, q) {
+        return true;
+    }
+    none_asks(records, q)
+}
+
+// Whether every question that a record asks is the last of its name. Questions by questions, not records by questions: a tree asks the same ones often.
+pub fn none_hidden(s: &[u8], questions: &[u64], records: &[u64]) -> bool
+    ensures { λ r. ⌜ r ≡ noneHidden (now (s .entry)) (now (questions .entry)) (now (records .entry)) ⌝ }
+{
+    let n = question_rows(questions);
+    let mut q = 0;
+    while q < n {
+        if !not_hidden(s, questions, records, q) {
+            return false;
+        }
+        q = q + 1;
     }
     true
 }

@@ -10,11 +10,12 @@ use borrow.Author.Tests.{lt-ltb, le-ltb, ltb-true, ltb-false, le-leb, lt-leb, le
 use lib.Dec.{ltb, leb, eqb}
 use lib.ListN.{length, getD}
 use Rattle.written.specs.Linking.{Nth, Row, branch}
-use Rattle.written.specs.Writing.{Among, Outside, name, patterns, pattern, records, question, goes-yes, goes-no}
+use Rattle.written.specs.Writing.{Among, Outside, name, patterns, pattern, records, question, goes-yes, goes-no, firstFour}
 use Rattle.laws.specs.Every.{all}
 use Rattle.laws.proofs.Every.{first-of, second-of, not-first, then-second, all-each}
-use Rattle.table_rows.specs.Rows.{questionRows, questionThere, questionStart, questionLen, questionFirst, questionPatterns, patternRows, patternStart, patternLen, treeRows, treeFirst, treeRecords, recordRows, recordKind, recordQuestion, recordYes, recordNo, questionRow, patternRow, treeRow, recordRow, rowsFrom, questionTable, patternTable, treeTable, recordTable}
+use Rattle.table_rows.specs.Rows.{questionRows, questionThere, questionStart, questionLen, questionFirst, questionPatterns, patternRows, patternStart, patternLen, treeRows, treeFirst, treeRecords, recordRows, recordKind, recordQuestion, recordYes, recordNo, questionRow, patternRow, recordRow, rowsFrom, questionTable, patternTable, treeTable, recordTable}
 use Rattle.table_rows.proofs.Stand.{row-of, all-there, length-from}
+use Rattle.write_rows.proofs.Four.{textRow, text-rows}
 use Rattle.write_rows.specs.Tests.{among, questionIn, patternIn, asksIn, goesIn, treeIn, rowsIn}
 
 -- ---- tests that fail
@@ -178,42 +179,45 @@ module _ (d Q P T R : List ℕ) where
         pub no-in : treeFirst T t + recordNo R (treeFirst T t + k) < recordRows R
         no-in = ltb-true _ _ (second-of (ltb (treeFirst T t + recordYes R (treeFirst T t + k)) (recordRows R)) _ both-in)
 
-    pub none-outside : ¬ Outside d (questionTable Q) (patternTable P) (treeTable T) (recordTable R)
-    unfolding questionTable patternTable treeTable recordTable
-    none-outside (name {i} {a} {n} h u) =
+    none-out : ¬ Outside d (questionTable Q) (patternTable P) (rowsFrom (textRow T) 0 (treeRows T)) (recordTable R)
+    unfolding questionTable patternTable recordTable
+    none-out (name {i} {a} {n} h u) =
         let r = row-of (questionRow Q) (questionRows Q) h in
         u (λ k l. omega (arith, name-in i (r .0) k (omega (arith, ap (at 1) (r .1))), ap (at 0) (r .1)))
-    none-outside (patterns {i} {a} {n} {f} {m} h u) =
+    none-out (patterns {i} {a} {n} {f} {m} h u) =
         let r = row-of (questionRow Q) (questionRows Q) h in
         u (λ k l. omega (arith, its-patterns-in i (r .0) k (omega (arith, ap (at 3) (r .1))), ap (at 2) (r .1), length-from (patternRow P) 0 (patternRows P)))
-    none-outside (pattern {i} {a} {n} h u) =
+    none-out (pattern {i} {a} {n} h u) =
         let r = row-of (patternRow P) (patternRows P) h in
         u (λ k l. omega (arith, pattern-in i (r .0) k (omega (arith, ap (at 1) (r .1))), ap (at 0) (r .1)))
-    none-outside (records {i} {x} {f} {m} h u) =
-        let r = row-of (treeRow T) (treeRows T) h in
+    none-out (records {i} {x} {f} {m} h u) =
+        let r = row-of (textRow T) (treeRows T) h in
         u (λ k l. omega (arith, record-in i k (r .0) (omega (arith, ap (at 2) (r .1))), ap (at 1) (r .1), length-from (recordRow R) 0 (recordRows R)))
-    none-outside (question {i} {q} h u) =
+    none-out (question {i} {q} h u) =
         let r = row-of (recordRow R) (recordRows R) h in
         omega (arith, u, question-in i (r .0) (sym (ap (at 0) (r .1))), ap (at 1) (r .1), length-from (questionRow Q) 0 (questionRows Q))
-    none-outside (goes-yes {i = i} {f = f} {k = k} {q = q} {y = y} {n = n} h l v u) =
-        let r = row-of (treeRow T) (treeRows T) h in
+    none-out (goes-yes {i = i} {f = f} {k = k} {q = q} {y = y} {n = n} h l v u) =
+        let r = row-of (textRow T) (treeRows T) h in
         let w = row-of (recordRow R) (recordRows R) v in
         let c : k < treeRecords T i = omega (arith, ap (at 2) (r .1)) in
         let j : f + k ≡ treeFirst T i + k = omega (arith, ap (at 1) (r .1)) in
         let s : (0 ∷ q ∷ y ∷ n ∷ []) ≡ recordRow R (treeFirst T i + k) = w .1 ∙ ap (recordRow R) j in
         omega (arith, u, yes-in i k (r .0) c (sym (ap (at 0) s)), ap (at 2) s, ap (at 1) (r .1), length-from (recordRow R) 0 (recordRows R))
-    none-outside (goes-no {i = i} {f = f} {k = k} {q = q} {y = y} {n = n} h l v u) =
-        let r = row-of (treeRow T) (treeRows T) h in
+    none-out (goes-no {i = i} {f = f} {k = k} {q = q} {y = y} {n = n} h l v u) =
+        let r = row-of (textRow T) (treeRows T) h in
         let w = row-of (recordRow R) (recordRows R) v in
         let c : k < treeRecords T i = omega (arith, ap (at 2) (r .1)) in
         let j : f + k ≡ treeFirst T i + k = omega (arith, ap (at 1) (r .1)) in
         let s : (0 ∷ q ∷ y ∷ n ∷ []) ≡ recordRow R (treeFirst T i + k) = w .1 ∙ ap (recordRow R) j in
         omega (arith, u, no-in i k (r .0) c (sym (ap (at 0) s)), ap (at 3) s, ap (at 1) (r .1), length-from (recordRow R) 0 (recordRows R))
 
+    pub none-outside : ¬ Outside d (questionTable Q) (patternTable P) (firstFour (treeTable T)) (recordTable R)
+    none-outside o = none-out (subst (λ (x : List Row). Outside d (questionTable Q) (patternTable P) x (recordTable R)) (text-rows T) o)
+
   -- ---- a row points outside
 
   abbrev Out : Type 0
-  Out = Outside d (questionTable Q) (patternTable P) (treeTable T) (recordTable R)
+  Out = Outside d (questionTable Q) (patternTable P) (rowsFrom (textRow T) 0 (treeRows T)) (recordTable R)
 
   -- a record of kind 0 as it stands in the table
   line-row : (i : ℕ) → i < recordRows R → recordKind R i ≡ 0 → Nth (recordTable R) i (branch (recordQuestion R i) (recordYes R i) (recordNo R i))
@@ -240,11 +244,11 @@ module _ (d Q P T R : List ℕ) where
       question (line-row (f .i) (omega (arith, f .below)) (z .0)) (omega (arith, ltb-false (recordQuestion R (f .i)) (questionRows Q) (z .1), length-from (questionRow Q) 0 (questionRows Q)))
 
   record-out : (t k : ℕ) → t < treeRows T → k < treeRecords T t → goesIn R (treeFirst T t) k ≡ false → Out
-  unfolding treeTable recordTable goesIn
+  unfolding recordTable goesIn
   record-out t k h l e = go (ltb (treeFirst T t + k) (recordRows R)) refl e
     where
-      tree-row : Nth (rowsFrom (treeRow T) 0 (treeRows T)) t (treeRow T t)
-      tree-row = all-there (treeRow T) (treeRows T) t h
+      tree-row : Nth (rowsFrom (textRow T) 0 (treeRows T)) t (textRow T t)
+      tree-row = all-there (textRow T) (treeRows T) t h
 
       many : length (rowsFrom (recordRow R) 0 (recordRows R)) ≡ recordRows R
       many = length-from (recordRow R) 0 (recordRows R)
@@ -263,9 +267,12 @@ module _ (d Q P T R : List ℕ) where
   unfolding treeIn
   tree-out f = let g = all-fails (goesIn R (treeFirst T (f .i))) 0 (treeRecords T (f .i)) (f .fails) in record-out (f .i) (g .i) (omega (arith, f .below)) (omega (arith, g .below)) (g .fails)
 
-  pub some-outside : rowsIn d Q P T R ≡ false → Out
+  some-out : rowsIn d Q P T R ≡ false → Out
   unfolding rowsIn
-  some-outside e =
+  some-out e =
       ⊎-elim (λ u. question-out (all-fails _ _ _ u))
       (λ v. ⊎-elim (λ u. pattern-out (all-fails _ _ _ u)) (λ w. ⊎-elim (λ u. asks-out (all-fails _ _ _ u)) (λ u. tree-out (all-fails _ _ _ u)) (either-fails _ _ w)) (either-fails _ _ v))
       (either-fails _ _ e)
+
+  pub some-outside : rowsIn d Q P T R ≡ false → Outside d (questionTable Q) (patternTable P) (firstFour (treeTable T)) (recordTable R)
+  some-outside e = subst (λ (x : List Row). Outside d (questionTable Q) (patternTable P) x (recordTable R)) (sym (text-rows T)) (some-out e)

@@ -16,7 +16,8 @@ use Rattle.table_rows.specs.Rows.{questionFirst, questionPatterns, treeState, t
 use Rattle.write_put.specs.Puts.{Put}
 use Rattle.write_put.proofs.Puts.{put-as, Leads}
 use Rattle.write_parts.proofs.Laws.{each-more, each-done}
-use Rattle.write_parts.specs.Parts.{each, patternOf, quoted, questionOf, ofRecord, lineOf, bodyOf, treeOf}
+use Rattle.write_parts.specs.Parts.{each, patternOf, quoted, questionOf, lineOf, bodyOf, treeOf}
+use Rattle.write_records.specs.Records.{ofRecord}
 
 -- a loop begins: what is left is the whole, by another name
 pub leads-begin : (b : List ℕ) (at : ℕ) {w v : List ℕ} → w ≡ v → length b ≤ 18446744073709551615 → at ≤ 18446744073709551615 → Leads b at w b at v

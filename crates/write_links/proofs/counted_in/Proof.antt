@@ -4,7 +4,8 @@ use Rattle.laws.proofs.Every.{not-first, then-second}
 use Rattle.table_rows.specs.Rows.{recordPdf}
 use Rattle.write_links.proofs.Ways.{is, is-not, is-below, not-below, or-first, or-second}
 use Rattle.write_links.specs.Tests.{countedIn}
-use Rattle.write_parts.specs.Parts.{each, ofRecord, lineOf}
+use Rattle.write_parts.specs.Parts.{each, lineOf}
+use Rattle.write_records.specs.Records.{ofRecord}
 use Rattle.written.specs.Linking.{times, pdfs}
 use borrow.Author.Needs.{needs}
 use borrow.Author.Tests.{not-true, not-false, lt-ltb, le-ltb, le-leb, lt-leb, eq-eqb, ne-eqb}
