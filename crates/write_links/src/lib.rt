@@ -1,28 +1,26 @@
 // Whether some text reads back to the rows of lent tables (02, Wish 6: 17). Any tables; of tables whose rows point inside it is the whole answer.
-// Counting references takes lines times leaves: no memory is lent for it.
 use table_rows::record_rows;
 use table_rows::tree_first;
 use table_rows::tree_lines;
 use table_rows::tree_records;
 use table_rows::tree_rows;
 use table_rows::tree_state;
-use write_parts::asked;
-use write_parts::goes_no;
-use write_parts::goes_yes;
-use write_parts::kind;
-use write_parts::number;
-use write_questions::last_named;
+use write_counts::all_counted;
+use write_counts::first_leaf;
+use write_questions::none_hidden;
 use write_questions::questions_fit;
+use write_records::goes_no;
+use write_records::goes_yes;
+use write_records::kind;
+use write_records::number;
 ghost use mathlib.Core.Path.{_≡_};
-ghost use mathlib.Core.Bool.{cond};
 ghost use Prim.Native.Nat.{_-_, _<_, _≤_};
-ghost use lib.Dec.{eqb};
-ghost use Rattle.written.specs.Linking.{times, pdfs, pdfOf};
 ghost use Rattle.laws.specs.Every.{all};
-ghost use Rattle.table_rows.specs.Rows.{treeRows, recordRows, recordPdf};
-ghost use Rattle.write_parts.specs.Parts.{each, refOf, lineOf}
-use Rattle.write_records.specs.Records.{ofRecord};
-ghost use Rattle.write_links.specs.Tests.{leafAt, leafIn, refIn, lineIn, countedIn, unlike, bareIn, linesIn, bodyIn, treeIn, grown, linksFit};
+ghost use Rattle.table_rows.specs.Rows.{treeRows, recordRows};
+ghost use Rattle.write_links.specs.Tests.{leafAt, leafIn, refIn, lineIn, unlike, bareIn, linesIn, bodyIn, treeIn, grown, linksFit};
+
+// 2^63: a state or a number of a PDF that a text can have is below it.
+const TOO_LARGE: u64 = 9223372036854775808;
 
 // Whether record k is a leaf that a text can have.
 fn leaf_at(records: &[u64], first: u64, k: u64) -> bool
@@ -31,7 +29,7 @@ fn leaf_at(records: &[u64], first: u64, k: u64) -> bool
     if kind(records, first, k) != 1 {
         return false;
     }
-    if 9223372036854775808 <= number(records, first, k) {
+    if TOO_LARGE <= number(records, first, k) {
         return false;
     }
     if goes_yes(records, first, k) != 0 {
@@ -40,13 +38,11 @@ fn leaf_at(records: &[u64], first: u64, k: u64) -> bool
     goes_no(records, first, k) == 0
 }
 
-// Record k, if it is no line: a leaf, and not below the one before it.
+// Record k behind the lines: a leaf, and not below the one before it.
 fn leaf_in(records: &[u64], first: u64, lines: u64, k: u64) -> bool
+    requires { ⌜ lines ≤ k ⌝ }
     ensures { λ r. ⌜ r ≡ leafIn (now (records .entry)) first lines k ⌝ }
 {
-    if k < lines {
-        return true;
-    }
     if !leaf_at(records, first, k) {
         return false;
     }
@@ -57,9 +53,9 @@ fn leaf_in(records: &[u64], first: u64, lines: u64, k: u64) -> bool
 }
 
 fn leaves_in(records: &[u64], first: u64, count: u64, lines: u64) -> bool
-    ensures { λ r. ⌜ r ≡ all (leafIn (now (records .entry)) first lines) 0 count ⌝ }
+    ensures { λ r. ⌜ r ≡ all (leafIn (now (records .entry)) first lines) lines (count - lines) ⌝ }
 {
-    let mut k = 0;
+    let mut k = lines;
     while k < count {
         if !leaf_in(records, first, lines, k) {
             return false;
@@ -79,27 +75,13 @@ fn ref_in(records: &[u64], first: u64, count: u64, lines: u64, k: u64) -> bool
     if k < lines {
         return true;
     }
-    if k == lines {
-        return true;
-    }
-    number(records, first, k - 1) != number(records, first, k)
+    first_leaf(records, first, lines, k)
 }
 
-fn line_in(
-    s: &[u8],
-    questions: &[u64],
-    records: &[u64],
-    first: u64,
-    count: u64,
-    lines: u64,
-    k: u64,
-) -> bool
-    ensures { λ r. ⌜ r ≡ lineIn (now (s .entry)) (now (questions .entry)) (now (records .entry)) first count lines k ⌝ }
+fn line_in(records: &[u64], first: u64, count: u64, lines: u64, k: u64) -> bool
+    ensures { λ r. ⌜ r ≡ lineIn (now (records .entry)) first count lines k ⌝ }
 {
     if kind(records, first, k) != 0 {
-        return false;
-    }
-    if !last_named(s, questions, asked(records, first, k)) {
         return false;
     }
     if !ref_in(records, first, count, lines, goes_yes(records, first, k)) {
@@ -108,111 +90,12 @@ fn line_in(
     ref_in(records, first, count, lines, goes_no(records, first, k))
 }
 
-fn lines_stand(
-    s: &[u8],
-    questions: &[u64],
-    records: &[u64],
-    first: u64,
-    count: u64,
-    lines: u64,
-) -> bool
-    ensures { λ r. ⌜ r ≡ all (lineIn (now (s .entry)) (now (questions .entry)) (now (records .entry)) first count lines) 0 lines ⌝ }
+fn lines_stand(records: &[u64], first: u64, count: u64, lines: u64) -> bool
+    ensures { λ r. ⌜ r ≡ all (lineIn (now (records .entry)) first count lines) 0 lines ⌝ }
 {
     let mut k = 0;
     while k < lines {
-        if !line_in(s, questions, records, first, count, lines, k) {
-            return false;
-        }
-        k = k + 1;
-    }
-    true
-}
-
-// 1 for two like numbers, else 0.
-fn hit(y: u64, x: u64) -> u64
-    ensures { λ r. ⌜ (r ≡ cond (eqb y x) 1 0) × (r ≤ 1) ⌝ }
-{
-    if y == x {
-        return 1;
-    }
-    0
-}
-
-// How many leaves bear the number x.
-fn count_leaves(records: &[u64], first: u64, count: u64, lines: u64, x: u64) -> u64
-    requires { ⌜ lines ≤ count ⌝ }
-    ensures { λ r. ⌜ r ≡ times x (each (ofRecord recordPdf (now (records .entry)) first) lines (count - lines)) ⌝ }
-{
-    let mut n = 0;
-    let mut k = lines;
-    while k < count {
-        n = n + hit(number(records, first, k), x);
-        k = k + 1;
-    }
-    n
-}
-
-// 1 where a reference to record k is one to a leaf of the number x, else 0.
-fn refers(records: &[u64], first: u64, lines: u64, k: u64, x: u64) -> u64
-    ensures { λ r. ⌜ (r ≡ times x (pdfOf (refOf (now (records .entry)) first lines k))) × (r ≤ 1) ⌝ }
-{
-    if k < lines {
-        return 0;
-    }
-    hit(number(records, first, k), x)
-}
-
-// How many references of the lines go to a leaf of the number x.
-fn count_refs(s: &[u8], questions: &[u64], records: &[u64], first: u64, lines: u64, x: u64) -> u64
-    requires { ⌜ lines ≤ recordRows (now records) ⌝ }
-    ensures { λ r. ⌜ r ≡ times x (pdfs (each (lineOf (now (s .entry)) (now (questions .entry)) (now (records .entry)) first lines) 0 lines)) ⌝ }
-{
-    let mut n = 0;
-    let mut k = 0;
-    while k < lines {
-        let yes = refers(records, first, lines, goes_yes(records, first, k), x);
-        let no = refers(records, first, lines, goes_no(records, first, k), x);
-        n = n + (yes + no);
-        k = k + 1;
-    }
-    n
-}
-
-// The number of leaf k stands as often as lines refer to it.
-fn counted_in(
-    s: &[u8],
-    questions: &[u64],
-    records: &[u64],
-    first: u64,
-    count: u64,
-    lines: u64,
-    k: u64,
-) -> bool
-    requires { ⌜ (lines ≤ count) × (lines ≤ recordRows (now records)) ⌝ }
-    ensures { λ r. ⌜ r ≡ countedIn (now (s .entry)) (now (questions .entry)) (now (records .entry)) first count lines k ⌝ }
-{
-    if k < lines {
-        return true;
-    }
-    let x = number(records, first, k);
-    count_leaves(records, first, count, lines, x)
-        == count_refs(s, questions, records, first, lines, x)
-}
-
-fn all_counted(
-    s: &[u8],
-    questions: &[u64],
-    records: &[u64],
-    first: u64,
-    count: u64,
-    lines: u64,
-) -> bool
-    requires { ⌜ (lines ≤ count) × (lines ≤ recordRows (now records)) ⌝ }
-    ensures { λ r. ⌜ r ≡ all (countedIn (now (s .entry)) (now (questions .entry)) (now (records .entry)) first count lines) 0 count ⌝ }
-{
-    let mut k = 0;
-    while k < count {
-        if !counted_in(s, questions, records, first, count, lines, k) {
+        if !line_in(records, first, count, lines, k) {
             return false;
         }
         k = k + 1;
@@ -244,49 +127,41 @@ fn bare_in(records: &[u64], first: u64, count: u64) -> bool
 }
 
 // Lines, then leaves.
-fn lines_in(
-    s: &[u8],
-    questions: &[u64],
-    records: &[u64],
-    first: u64,
-    count: u64,
-    lines: u64,
-) -> bool
-    ensures { λ r. ⌜ r ≡ linesIn (now (s .entry)) (now (questions .entry)) (now (records .entry)) first count lines ⌝ }
+fn lines_in(records: &[u64], first: u64, count: u64, lines: u64) -> bool
+    requires { ⌜ count ≤ recordRows (now records) ⌝ }
+    ensures { λ r. ⌜ r ≡ linesIn (now (records .entry)) first count lines ⌝ }
 {
     if count < lines {
-        return false;
-    }
-    if record_rows(records) < lines {
         return false;
     }
     if !unlike_refs(records, first, lines) {
         return false;
     }
-    if !lines_stand(s, questions, records, first, count, lines) {
+    if !lines_stand(records, first, count, lines) {
         return false;
     }
     if !leaves_in(records, first, count, lines) {
         return false;
     }
-    all_counted(s, questions, records, first, count, lines)
+    all_counted(records, first, count, lines)
 }
 
-fn body_in(s: &[u8], questions: &[u64], records: &[u64], first: u64, count: u64, lines: u64) -> bool
-    ensures { λ r. ⌜ r ≡ bodyIn (now (s .entry)) (now (questions .entry)) (now (records .entry)) first count lines ⌝ }
+fn body_in(records: &[u64], first: u64, count: u64, lines: u64) -> bool
+    requires { ⌜ count ≤ recordRows (now records) ⌝ }
+    ensures { λ r. ⌜ r ≡ bodyIn (now (records .entry)) first count lines ⌝ }
 {
     if lines == 0 {
         return bare_in(records, first, count);
     }
-    lines_in(s, questions, records, first, count, lines)
+    lines_in(records, first, count, lines)
 }
 
 // Tree t, whose records begin behind the k before them.
-fn tree_in(s: &[u8], questions: &[u64], trees: &[u64], records: &[u64], k: u64, t: u64) -> bool
+fn tree_in(trees: &[u64], records: &[u64], k: u64, t: u64) -> bool
     requires { ⌜ (t < treeRows (now trees)) × (k ≤ recordRows (now records)) ⌝ }
-    ensures { λ r. ⌜ r ≡ treeIn (now (s .entry)) (now (questions .entry)) (now (trees .entry)) (now (records .entry)) k t ⌝ }
+    ensures { λ r. ⌜ r ≡ treeIn (now (trees .entry)) (now (records .entry)) k t ⌝ }
 {
-    if 9223372036854775808 <= tree_state(trees, t) {
+    if TOO_LARGE <= tree_state(trees, t) {
         return false;
     }
     let first = tree_first(trees, t);
@@ -297,18 +172,18 @@ fn tree_in(s: &[u8], questions: &[u64], trees: &[u64], records: &[u64], k: u64, 
     if record_rows(records) - k < count {
         return false;
     }
-    body_in(s, questions, records, first, count, tree_lines(trees, t))
+    body_in(records, first, count, tree_lines(trees, t))
 }
 
 // All trees one behind the other, and no record left.
-fn grow(s: &[u8], questions: &[u64], trees: &[u64], records: &[u64]) -> bool
-    ensures { λ r. ⌜ r ≡ grown (now (s .entry)) (now (questions .entry)) (now (trees .entry)) (now (records .entry)) 0 0 (treeRows (now (trees .entry))) ⌝ }
+fn grow(trees: &[u64], records: &[u64]) -> bool
+    ensures { λ r. ⌜ r ≡ grown (now (trees .entry)) (now (records .entry)) 0 0 (treeRows (now (trees .entry))) ⌝ }
 {
     let n = tree_rows(trees);
     let mut k = 0;
     let mut t = 0;
     while t < n {
-        if !tree_in(s, questions, trees, records, k, t) {
+        if !tree_in(trees, records, k, t) {
             return false;
         }
         k = k + tree_records(trees, t);
@@ -317,7 +192,7 @@ fn grow(s: &[u8], questions: &[u64], trees: &[u64], records: &[u64]) -> bool
     k == record_rows(records)
 }
 
-// All rows.
+// All rows. Names last: looking for a later question of the same name takes the longest.
 pub fn links_fit(
     s: &[u8],
     questions: &[u64],
@@ -333,5 +208,8 @@ pub fn links_fit(
     if !questions_fit(questions, patterns) {
         return false;
     }
-    grow(s, questions, trees, records)
+    if !grow(trees, records) {
+        return false;
+    }
+    none_hidden(s, questions, records)
 }

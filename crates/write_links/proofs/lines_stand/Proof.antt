@@ -9,10 +9,10 @@ use Rattle.write_links.proofs.lines_stand.Statement.{statement}
 use Rattle.write_links.proofs.lines_stand.Tie as tie
 
 abbrev Inv-loop : tie.InvT-loop
-Inv-loop s questions records first count lines k₀ k = Passing (lineIn s questions records first count lines) lines k
+Inv-loop records first count lines k₀ k = Passing (lineIn records first count lines) lines k
 
 abbrev μ-loop : tie.MeasureT-loop
-μ-loop s questions records first count lines k₀ k = lines - k
+μ-loop records first count lines k₀ k = lines - k
 
 loop-holds : tie.Need-loop-holds Inv-loop μ-loop
 loop-holds c = passing-none _ _

@@ -1,14 +1,11 @@
--- `write_links::links_fit`: a tree, the questions, the trees.
-use Prim.Native.Nat.{ℕ, _+_, _-_, _*_}
+-- `write_links::links_fit`: one test after the other.
+use Prim.Native.Nat.{_-_}
 use Rattle.laws.proofs.Every.{not-first, then-second}
 use Rattle.table_rows.specs.Rows.{treeRows}
-use Rattle.write_links.proofs.Ways.{is, is-not, is-below, not-below, or-first, or-second}
 use Rattle.write_links.specs.Tests.{linksFit}
 use borrow.Author.Needs.{needs}
-use borrow.Author.Tests.{not-true, not-false, lt-ltb, le-ltb, le-leb, lt-leb, eq-eqb, ne-eqb}
-use lib.Dec.{ltb, leb, eqb}
-use mathlib.Core.Bool.{not}
-use mathlib.Core.Path.{_≡_, refl, sym, ap, ap₂, _∙_}
+use borrow.Author.Tests.{not-true, not-false, lt-ltb, le-ltb}
+use mathlib.Core.Path.{sym, _∙_}
 use native.Mathlib.Omega.{arith}
 use Rattle.write_links.proofs.links_fit.Statement.{statement}
 use Rattle.write_links.proofs.links_fit.Tie as tie
@@ -32,7 +29,14 @@ grow-requires c κs = search needs
 
 returns-3 : tie.Need-returns-3
 unfolding linksFit
-returns-3 c = then-second (lt-ltb 0 (treeRows (c .before .before .before .before .before .before .before .before .before .before .args .trees .now)) (omega (arith, c .before .before .before .before .tree-rows .ensures, c .before .before .before .if1 .left))) (then-second (sym (c .before .before .questions-fit .ensures) ∙ not-false _ (c .before .if2 .left)) (c .grow .ensures))
+returns-3 c = then-second (lt-ltb 0 (treeRows (c .before .before .before .before .before .before .before .before .before .before .before .args .trees .now)) (omega (arith, c .before .before .before .before .before .tree-rows .ensures, c .before .before .before .before .if1 .left))) (then-second (sym (c .before .before .before .questions-fit .ensures) ∙ not-false _ (c .before .before .if2 .left)) (not-first _ (sym (c .before .grow .ensures) ∙ not-true _ (c .if3 .taken))))
+
+none-hidden-requires : tie.Need-none-hidden-requires
+none-hidden-requires c κs = search needs
+
+returns-4 : tie.Need-returns-4
+unfolding linksFit
+returns-4 c = then-second (lt-ltb 0 (treeRows (c .before .before .before .before .before .before .before .before .before .before .before .before .args .trees .now)) (omega (arith, c .before .before .before .before .before .before .tree-rows .ensures, c .before .before .before .before .before .if1 .left))) (then-second (sym (c .before .before .before .before .questions-fit .ensures) ∙ not-false _ (c .before .before .before .if2 .left)) (then-second (sym (c .before .before .grow .ensures) ∙ not-false _ (c .before .if3 .left)) (c .none-hidden .ensures)))
 
 pub links-fit-spec : {M : Type 1} → statement M
 links-fit-spec =
@@ -43,4 +47,6 @@ links-fit-spec =
     questions-fit-requires
     returns-2
     grow-requires
-    returns-3)
+    returns-3
+    none-hidden-requires
+    returns-4)
