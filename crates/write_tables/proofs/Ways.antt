@@ -18,35 +18,38 @@ use Rattle.write_tables.specs.declared.Judged.{Judged}
 use Rattle.write_tables.specs.declared.Judged.the-variants as judged
 use Rattle.write_tables.specs.declared.Answer.{Answer}
 use Rattle.write_tables.specs.declared.Answer.the-variants as answer
-use Rattle.write_tables.specs.Answers.{judgedOf, bytesOf, answerOf, bufferOf, Answered}
+use Rattle.write_tables.specs.Answers.{judgedBy, judgedOf, bytesOf, measuredBy, measureOf, answerOf, bufferOf, Answered}
 
 module _ (d Q P T R : List ℕ) where
-  pub is-outside : rowsIn d Q P T R ≡ false → judged.Outside ≡ judgedOf d Q P T R
+  -- what the tests that were made say, and those that weren't
+  judged-so : {a b c : Bool} → rowsIn d Q P T R ≡ a → bytesFit d Q P ≡ b → linksFit d Q P T R ≡ c → judgedBy a b c ≡ judgedOf d Q P T R
   unfolding judgedOf
-  is-outside h = sym (ap (λ (x : Bool). cond x (cond (bytesFit d Q P) (cond (linksFit d Q P T R) judged.Fits judged.Unread) judged.OddByte) judged.Outside) h)
+  judged-so u v w = sym (λ i. judgedBy (u i) (v i) (w i))
 
-  module _ (h : rowsIn d Q P T R ≡ true) where
-    inside : judgedOf d Q P T R ≡ cond (bytesFit d Q P) (cond (linksFit d Q P T R) judged.Fits judged.Unread) judged.OddByte
-    unfolding judgedOf
-    inside = ap (λ (x : Bool). cond x (cond (bytesFit d Q P) (cond (linksFit d Q P T R) judged.Fits judged.Unread) judged.OddByte) judged.Outside) h
+  pub is-outside : rowsIn d Q P T R ≡ false → judged.Outside ≡ judgedOf d Q P T R
+  is-outside u = judged-so u refl refl
 
+  module _ (u : rowsIn d Q P T R ≡ true) where
     pub is-odd : bytesFit d Q P ≡ false → judged.OddByte ≡ judgedOf d Q P T R
-    is-odd e = sym (inside ∙ ap (λ (x : Bool). cond x (cond (linksFit d Q P T R) judged.Fits judged.Unread) judged.OddByte) e)
+    is-odd v = judged-so u v refl
 
-    module _ (e : bytesFit d Q P ≡ true) where
-      even : judgedOf d Q P T R ≡ cond (linksFit d Q P T R) judged.Fits judged.Unread
-      even = inside ∙ ap (λ (x : Bool). cond x (cond (linksFit d Q P T R) judged.Fits judged.Unread) judged.OddByte) e
-
+    module _ (v : bytesFit d Q P ≡ true) where
       pub is-unread : linksFit d Q P T R ≡ false → judged.Unread ≡ judgedOf d Q P T R
-      is-unread u = sym (even ∙ ap (λ (x : Bool). cond x judged.Fits judged.Unread) u)
+      is-unread w = judged-so u v w
 
       pub is-fit : linksFit d Q P T R ≡ true → judged.Fits ≡ judgedOf d Q P T R
-      is-fit u = sym (even ∙ ap (λ (x : Bool). cond x judged.Fits judged.Unread) u)
+      is-fit w = judged-so u v w
 
   -- the place behind a text put anywhere is its length
   pub long : {b e : List ℕ} {r : ℕ} → Put b 0 (spelled (textOf d Q P T R)) r e → r ≡ min (length (bytesOf d Q P T R)) 18446744073709551615
   unfolding bytesOf
   long p = omega (arith, p .next)
+
+  -- ---- how long it is
+
+  pub measured : (j : Judged) {r : Answer} → j ≡ judgedOf d Q P T R → r ≡ measuredBy (bytesOf d Q P T R) j → r ≡ measureOf d Q P T R
+  unfolding measureOf
+  measured j q e = e ∙ ap (measuredBy (bytesOf d Q P T R)) q
 
   -- ---- the writer
 

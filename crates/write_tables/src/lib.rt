@@ -7,7 +7,7 @@ use write_text::put_text;
 ghost use mathlib.Core.Path.{_≡_};
 ghost use Prim.Native.Nat.{min};
 ghost use lib.ListN.{length};
-ghost use Rattle.write_tables.specs.Answers.{judgedOf, bytesOf, Answered};
+ghost use Rattle.write_tables.specs.Answers.{judgedOf, bytesOf, measureOf, Answered};
 
 pub enum Judged {
     Fits,
@@ -20,7 +20,7 @@ pub enum Judged {
 }
 
 pub enum Answer {
-    // how many bytes were written
+    // how many bytes the text has
     Done(usize),
     Outside,
     OddByte,
@@ -30,7 +30,7 @@ pub enum Answer {
 }
 
 // Whether the rows can be written; each test over all rows before the next.
-pub fn judge(
+fn judge(
     s: &[u8],
     questions: &[u64],
     patterns: &[u64],
@@ -52,7 +52,7 @@ pub fn judge(
 }
 
 // The text's length, or 2^64 - 1 where that is no number: the text put where no buffer is.
-pub fn text_len(
+fn text_len(
     s: &[u8],
     questions: &[u64],
     patterns: &[u64],
@@ -63,6 +63,27 @@ pub fn text_len(
 {
     let mut none = [0u8; 1];
     put_text(&mut none, s, questions, patterns, trees, records)
+}
+
+// How long the text is, or why there is none.
+pub fn measure(
+    s: &[u8],
+    questions: &[u64],
+    patterns: &[u64],
+    trees: &[u64],
+    records: &[u64],
+) -> Answer
+    ensures { λ r. ⌜ r ≡ measureOf (now (s .entry)) (now (questions .entry)) (now (patterns .entry)) (now (trees .entry)) (now (records .entry)) ⌝ }
+{
+    match judge(s, questions, patterns, trees, records) {
+        Judged::Fits => {
+            let n = text_len(s, questions, patterns, trees, records);
+            Answer::Done(n)
+        }
+        Judged::Outside => Answer::Outside,
+        Judged::OddByte => Answer::OddByte,
+        Judged::Unread => Answer::Unread,
+    }
 }
 
 // Writes the text to the front of the buffer.
