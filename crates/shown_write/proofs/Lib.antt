@@ -1,7 +1,5 @@
 pub mod Questions
 pub mod Records
+pub mod Counts
 pub mod Lines
 pub mod Trees
-pub mod Sound
-pub mod Call
-pub mod Back

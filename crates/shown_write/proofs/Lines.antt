@@ -20,10 +20,12 @@ use Rattle.table_rows.specs.Rows.{questionRows, recordRows, recordKind, recordQ
 use Rattle.write_parts.specs.Parts.{each, refOf, lineOf, questionOf}
 use Rattle.write_records.specs.Records.{ofRecord}
 use Rattle.write_parts.proofs.Laws.{ref-line, ref-leaf}
-use Rattle.write_questions.specs.Tests.{notLater, lastNamed}
-use Rattle.write_links.specs.Tests.{leafIn, refIn, lineIn, countedIn, unlike}
+use Rattle.write_questions.specs.Tests.{unlikeName, lastNamed, asksOther, notHidden, noneHidden}
+use Rattle.write_counts.specs.Counts.{counted}
+use Rattle.write_links.specs.Tests.{leafIn, refIn, lineIn, unlike}
 use Rattle.shown_write.proofs.Questions.{rows-split}
 use Rattle.shown_write.proofs.Records.{stands-at, or-says, differ, each-long, from-zero, is-zero, each-is, each-at, says, ref-below, goes-first, leaf-rows, ascending}
+use Rattle.shown_write.proofs.Counts.{hit-none, times-append, FirstAt, NoneAt, look, times-none, due-times, pdfs-goals}
 
 -- ---- ids
 
@@ -42,11 +44,6 @@ same-same : (w : List ℕ) → same w w ≡ true
 unfolding same
 same-same [] = refl
 same-same (b ∷ w) = ap₂ _&&_ (eq-eqb b b refl) (same-same w)
-
-times-append : (x : ℕ) (a b : List ℕ) → times x (a ++ b) ≡ times x a + times x b
-unfolding times
-times-append x [] b = omega arith
-times-append x (y ∷ a) b = let e = times-append x a b in omega arith
 
 -- ---- references and lines by themselves
 
@@ -72,26 +69,36 @@ single-line (Single.alike {l = l} a b) ls e = (l, cc, a, b)
 
 module _ (d Q P : List ℕ) (q : ℕ) (l : q < questionRows Q) (e : lastNamed d Q q ≡ true) where
   pub last-question : LastQuestion (each (questionOf d Q P) 0 (questionRows Q)) (nameAt d Q q) q
-  unfolding lastNamed notLater
-  last-question = record {
-    at = questionOf d Q P q;
-    stands = from-zero (questionOf d Q P) (questionRows Q) q l;
-    true-of = refl;
-    after = λ m x h s u. later m h (is-zero (questionOf d Q P) (questionRows Q) s .0) (sym (ap (λ (y : Question). y .name) (is-zero (questionOf d Q P) (questionRows Q) s .1)) ∙ u);
-  }
+  unfolding lastNamed unlikeName
+  last-question =
+      record {
+        at = questionOf d Q P q;
+        stands = from-zero (questionOf d Q P) (questionRows Q) q l;
+        true-of = refl;
+        after = λ m x h s u. later m h (is-zero (questionOf d Q P) (questionRows Q) s .0) (sym (ap (λ (y : Question). y .name) (is-zero (questionOf d Q P) (questionRows Q) s .1)) ∙ u);
+      }
     where
       later : (m : ℕ) → q < m → m < questionRows Q → nameAt d Q m ≡ nameAt d Q q → ⊥
       later m h k u =
-          let t = all-each (notLater d Q q) 0 (questionRows Q) e m (omega arith) (omega arith) in
+          let t = all-each (unlikeName d Q q) (q + 1) (questionRows Q - (q + 1)) e m (omega arith) (omega arith) in
           let s : same (nameAt d Q m) (nameAt d Q q) ≡ true = ap (λ (w : List ℕ). same w (nameAt d Q q)) u ∙ same-same (nameAt d Q q) in
-          differ (ltb q m && same (nameAt d Q m) (nameAt d Q q)) (ap₂ _&&_ (lt-ltb q m h) s) t
+          differ (same (nameAt d Q m) (nameAt d Q q)) s t
+
+-- a question that a record asks is the last of its name
+pub asked-last : (d Q R : List ℕ) → noneHidden d Q R ≡ true → (i : ℕ) → i < recordRows R → recordKind R i ≡ 0 → recordQuestion R i < questionRows Q → lastNamed d Q (recordQuestion R i) ≡ true
+unfolding noneHidden notHidden asksOther
+asked-last d Q R e i h z l =
+    ⊎-elim (λ u. u) (λ u. absurd (differ (eqb (recordKind R i) 0 && eqb (recordQuestion R i) (recordQuestion R i))
+    (ap₂ _&&_ (eq-eqb (recordKind R i) 0 z) (eq-eqb (recordQuestion R i) (recordQuestion R i) refl))
+    (all-each (asksOther R (recordQuestion R i)) 0 (recordRows R) u i (omega arith) (omega arith))))
+    (or-says _ _ (all-each (notHidden d Q R) 0 (questionRows Q) e (recordQuestion R i) (omega arith) (omega arith)))
 
 -- ---- a tree
 
 module _ (d Q P R : List ℕ) (f m n : ℕ) (in-table : f + m ≤ recordRows R) (few : n ≤ m)
-    (asks : (k : ℕ) → k < m → recordKind R (f + k) ≡ 0 → recordQuestion R (f + k) < questionRows Q)
-    (leaves : all (leafIn R f n) 0 m ≡ true) (lines : all (lineIn d Q R f m n) 0 n ≡ true) where
-  abbrev pub numbers : List ℕ
+    (asks : (k : ℕ) → k < m → recordKind R (f + k) ≡ 0 → (recordQuestion R (f + k) < questionRows Q) × (lastNamed d Q (recordQuestion R (f + k)) ≡ true))
+    (leaves : all (leafIn R f n) n (m - n) ≡ true) (lines : all (lineIn R f m n) 0 n ≡ true) where
+  abbrev numbers : List ℕ
   numbers = each (ofRecord recordPdf R f) n (m - n)
 
   abbrev pub texts : List Line
@@ -120,25 +127,31 @@ module _ (d Q P R : List ℕ) (f m n : ℕ) (in-table : f + m ≤ recordRows R) 
   -- ---- the tests of line k
 
   module _ (k : ℕ) (h : k < n) where
-    test : lineIn d Q R f m n k ≡ true
-    test = all-each (lineIn d Q R f m n) 0 n lines k (omega arith) (omega arith)
+    test : lineIn R f m n k ≡ true
+    test = all-each (lineIn R f m n) 0 n lines k (omega arith) (omega arith)
 
     kind-is : recordKind R (f + k) ≡ 0
     unfolding lineIn
     kind-is = sym (says R f m n in-table few recordKind k (omega arith)) ∙ eqb-true (ofRecord recordKind R f k) 0 (first-of _ _ test)
 
-    behind-kind : (lastNamed d Q (ofRecord recordQuestion R f k) && (refIn R f m n (ofRecord recordYes R f k) && refIn R f m n (ofRecord recordNo R f k))) ≡ true
+    behind-kind : (refIn R f m n (ofRecord recordYes R f k) && refIn R f m n (ofRecord recordNo R f k)) ≡ true
     unfolding lineIn
     behind-kind = second-of (eqb (ofRecord recordKind R f k) 0) _ test
 
     pub yes-in : refIn R f m n (ofRecord recordYes R f k) ≡ true
-    yes-in = first-of _ _ (second-of (lastNamed d Q (ofRecord recordQuestion R f k)) _ behind-kind)
+    yes-in = first-of _ _ behind-kind
 
     pub no-in : refIn R f m n (ofRecord recordNo R f k) ≡ true
-    no-in = second-of (refIn R f m n (ofRecord recordYes R f k)) _ (second-of (lastNamed d Q (ofRecord recordQuestion R f k)) _ behind-kind)
+    no-in = second-of (refIn R f m n (ofRecord recordYes R f k)) _ behind-kind
+
+    asked-is : ofRecord recordQuestion R f k ≡ recordQuestion R (f + k)
+    asked-is = says R f m n in-table few recordQuestion k (omega arith)
 
     pub asked-there : ofRecord recordQuestion R f k < questionRows Q
-    asked-there = omega (arith, asks k (omega arith) kind-is, says R f m n in-table few recordQuestion k (omega arith))
+    asked-there = omega (arith, asks k (omega arith) kind-is .0, asked-is)
+
+    asked-final : lastNamed d Q (ofRecord recordQuestion R f k) ≡ true
+    asked-final = ap (lastNamed d Q) asked-is ∙ asks k (omega arith) kind-is .1
 
     -- its row is that of its numbers
     row-is : branch (ofRecord recordQuestion R f k) (ofRecord recordYes R f k) (ofRecord recordNo R f k) ≡ recordRow R (f + k)
@@ -149,7 +162,7 @@ module _ (d Q P R : List ℕ) (f m n : ℕ) (in-table : f + m ≤ recordRows R) 
     line-row : LineRow (each (questionOf d Q P) 0 (questionRows Q)) (ToFirst texts numbers) (lineOf d Q R f n k) (recordRow R (f + k))
     line-row =
         subst (LineRow (each (questionOf d Q P) 0 (questionRows Q)) (ToFirst texts numbers) (lineOf d Q R f n k)) row-is
-        (LineRow.row (last-question d Q P (ofRecord recordQuestion R f k) asked-there (first-of _ _ behind-kind)) (goes (ofRecord recordYes R f k) yes-in) (goes (ofRecord recordNo R f k) no-in))
+        (LineRow.row (last-question d Q P (ofRecord recordQuestion R f k) asked-there asked-final) (goes (ofRecord recordYes R f k) yes-in) (goes (ofRecord recordNo R f k) no-in))
 
   line-rows : (k j : ℕ) → k + j ≡ n → Forall₂ (LineRow (each (questionOf d Q P) 0 (questionRows Q)) (ToFirst texts numbers)) (each (lineOf d Q R f n) k j) (rowsFrom (recordRow R) (f + k) j)
   unfolding each rowsFrom
@@ -161,47 +174,20 @@ module _ (d Q P R : List ℕ) (f m n : ℕ) (in-table : f + m ≤ recordRows R) 
 
   -- ---- each number as often as lines refer to it
 
-  module _ (counts : all (countedIn d Q R f m n) 0 m ≡ true) (x : ℕ) where
-    -- some leaf bears x, or none does
-    abbrev None : ℕ → ℕ → Type 0
-    None k j = (times x (each (ofRecord recordPdf R f) k j) ≡ 0) × ((i : ℕ) → k ≤ i → i < k + j → ofRecord recordPdf R f i ≡ x → ⊥)
-
-    record Bears (k j : ℕ) : Type 0 where
-      i : ℕ
-      from : k ≤ i
-      below : i < k + j
-      is : ofRecord recordPdf R f i ≡ x
-
-    look : (k j : ℕ) → Bears k j ⊎ None k j
-    unfolding each times
-    look k zero = inr (refl, λ i a b e. omega arith)
-    look k (suc j) = go (ℕ-discrete (ofRecord recordPdf R f k) x) (look (suc k) j)
-      where
-        go : Dec (ofRecord recordPdf R f k ≡ x) → Bears (suc k) j ⊎ None (suc k) j → Bears k (suc j) ⊎ None k (suc j)
-        go (yes u) r = inl (record { i = k; from = omega arith; below = omega arith; is = u })
-        go (no u) (inl b) = inl (record { i = b .i; from = omega (arith, b .from); below = omega (arith, b .below); is = b .is })
-        go (no u) (inr b) =
-            let z : _≡_ {A = ℕ} (cond (eqb (ofRecord recordPdf R f k) x) 1 0) 0 = ap (λ (c : Bool). cond c 1 0) (ne-eqb (ofRecord recordPdf R f k) x u) in
-            inr (omega (arith, z, b .0), λ i a h e. pick i a h e (ℕ-discrete i k))
-          where
-            pick : (i : ℕ) → k ≤ i → i < k + suc j → ofRecord recordPdf R f i ≡ x → Dec (i ≡ k) → ⊥
-            pick i a h e (yes q) = u (ap (ofRecord recordPdf R f) (sym q) ∙ e)
-            pick i a h e (no q) = b .1 i (omega (arith, q)) (omega arith) e
-
+  module _ (counts : all (counted R f m n) n (m - n) ≡ true) (x : ℕ) where
     -- a reference that is passed goes to a line, or bears the number of a leaf
-    refers-none : (k : ℕ) → refIn R f m n k ≡ true → None n (m - n) → times x (pdfOf (refOf R f n k)) ≡ 0
+    refers-none : (k : ℕ) → refIn R f m n k ≡ true → NoneAt (ofRecord recordPdf R f) x n (m - n) → times x (pdfOf (refOf R f n k)) ≡ 0
     unfolding times
     refers-none k t b = go (decLt k n)
       where
         go : Dec (k < n) → times x (pdfOf (refOf R f n k)) ≡ 0
         go (yes h) = ap (λ (r : Ref). times x (pdfOf r)) (sym (ref-line R f n k h))
         go (no h) =
-            let u : ofRecord recordPdf R f k ≡ x → ⊥ = b .1 k (omega arith) (omega (arith, ref-below R f m n in-table few leaves k t)) in
-            let z : _≡_ {A = ℕ} (cond (eqb (ofRecord recordPdf R f k) x) 1 0) 0 = ap (λ (c : Bool). cond c 1 0) (ne-eqb (ofRecord recordPdf R f k) x u) in
+            let z = hit-none {y = ofRecord recordPdf R f k} {x = x} (b k (omega arith) (omega (arith, ref-below R f m n in-table few leaves k t))) in
             let y : times x (ofRecord recordPdf R f k ∷ []) ≡ 0 = omega (arith, z) in
             ap (λ (r : Ref). times x (pdfOf r)) (sym (ref-leaf R f n k (omega arith))) ∙ y
 
-    lines-none : None n (m - n) → (k j : ℕ) → k + j ≡ n → times x (pdfs (each (lineOf d Q R f n) k j)) ≡ 0
+    lines-none : NoneAt (ofRecord recordPdf R f) x n (m - n) → (k j : ℕ) → k + j ≡ n → times x (pdfs (each (lineOf d Q R f n) k j)) ≡ 0
     unfolding each pdfs times
     lines-none b k zero e = refl
     lines-none b k (suc j) e =
@@ -217,15 +203,17 @@ module _ (d Q P R : List ℕ) (f m n : ℕ) (in-table : f + m ≤ recordRows R) 
           lines-none b (suc k) j (omega arith),
         )
 
-    pub counted : times x numbers ≡ times x (pdfs texts)
-    unfolding countedIn
-    counted = ⊎-elim found (λ b. b .0 ∙ sym (lines-none b 0 n (omega arith))) (look n (m - n))
+    pub counted-so : times x numbers ≡ times x (pdfs texts)
+    unfolding counted
+    counted-so = ⊎-elim found (λ b. times-none (ofRecord recordPdf R f) x n (m - n) b ∙ sym (lines-none b 0 n (omega arith))) (look (ofRecord recordPdf R f) x n (m - n))
       where
-        found : Bears n (m - n) → times x numbers ≡ times x (pdfs texts)
+        found : FirstAt (ofRecord recordPdf R f) x n (m - n) → times x numbers ≡ times x (pdfs texts)
         found b =
-            let t = all-each (countedIn d Q R f m n) 0 m counts (b .i) (omega arith) (omega (arith, b .below)) in
-            let u = ⊎-elim (λ v. absurd (omega (arith, ltb-true (b .i) n v, b .from))) (λ v. eqb-true _ _ v) (or-says _ _ t) in
-            ap (λ (y : ℕ). times y numbers) (sym (b .is)) ∙ u ∙ ap (λ (y : ℕ). times y (pdfs texts)) (b .is)
+            let w : b .i < m = omega (arith, b .below) in
+            let c = eqb-true _ _ (all-each (counted R f m n) n (m - n) counts (b .i) (b .from) (b .below)) in
+            let u = due-times R f m n in-table few leaves (b .i) (b .from) w (λ h p q e. b .before h p q (e ∙ b .is)) in
+            let v = pdfs-goals R f m n in-table few leaves x (b .i) (b .from) (b .is) (b .before) w d Q lines in
+            sym (ap (λ (y : ℕ). times y numbers) (b .is)) ∙ sym u ∙ sym c ∙ sym v
 
   -- ---- like references go to one record
 
@@ -266,10 +254,10 @@ module _ (d Q P R : List ℕ) (f m n : ℕ) (in-table : f + m ≤ recordRows R) 
 
   -- ---- the records that linking makes of the lines
 
-  pub lines-records : unlike R f n ≡ true → all (countedIn d Q R f m n) 0 m ≡ true → Records (each (questionOf d Q P) 0 (questionRows Q)) (braces texts) (rowsFrom (recordRow R) f m)
+  pub lines-records : unlike R f n ≡ true → all (counted R f m n) n (m - n) ≡ true → Records (each (questionOf d Q P) 0 (questionRows Q)) (braces texts) (rowsFrom (recordRow R) f m)
   lines-records u c =
       let z : f + 0 ≡ f = omega arith in
       let s : n + (m - n) ≡ m = omega arith in
-      Records.lines numbers (not-single u) (ascending R f m n in-table few leaves n (m - n) (omega arith) s) (counted c)
+      Records.lines numbers (not-single u) (ascending R f m n in-table few leaves n (m - n) (omega arith) s) (counted-so c)
       (subst (λ (i : ℕ). Forall₂ (LineRow (each (questionOf d Q P) 0 (questionRows Q)) (ToFirst texts numbers)) texts (rowsFrom (recordRow R) i n)) z (line-rows 0 n (omega arith)))
       (ap (rowsFrom (recordRow R) f) (sym s) ∙ rows-split (recordRow R) f n (m - n) ∙ ap (λ (x : List Row). rowsFrom (recordRow R) f n ++ x) (leaf-rows R f m n in-table few leaves n (m - n) (omega arith) s))

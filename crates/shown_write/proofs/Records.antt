@@ -24,8 +24,8 @@ use Rattle.write_parts.specs.Parts.{each, refOf, lineOf, questionOf}
 use Rattle.write_records.specs.Records.{ofRecord}
 use Rattle.write_records.proofs.Laws.{record-says}
 use Rattle.write_parts.proofs.Laws.{ref-line, ref-leaf}
-use Rattle.write_questions.specs.Tests.{notLater, lastNamed}
-use Rattle.write_links.specs.Tests.{leafAt, leafIn, refIn, lineIn, countedIn}
+use Rattle.write_counts.specs.Counts.{firstLeaf}
+use Rattle.write_links.specs.Tests.{leafAt, leafIn, refIn}
 
 -- ---- tests of which one is enough
 
@@ -83,10 +83,10 @@ module _ (R : List ℕ) (f m n : ℕ) (in-table : f + m ≤ recordRows R) (few :
       let z : recordNo R (f + k) ≡ 0 = sym (says recordNo k h) ∙ eqb-true (ofRecord recordNo R f k) 0 (second-of (eqb (ofRecord recordYes R f k) 0) _ p) in
       ap₂ (λ (a b : ℕ). a ∷ b ∷ recordYes R (f + k) ∷ recordNo R (f + k) ∷ []) c (sym (says recordPdf k h)) ∙ ap₂ (λ (a b : ℕ). 1 ∷ number k ∷ a ∷ b ∷ []) y z
 
-  module _ (leaves : all (leafIn R f n) 0 m ≡ true) where
+  module _ (leaves : all (leafIn R f n) n (m - n) ≡ true) where
     leaf-test : (k : ℕ) → n ≤ k → k < m → (leafAt R f k && (eqb k n || leb (number (k - 1)) (number k))) ≡ true
     unfolding leafIn
-    leaf-test k l h = ⊎-elim (λ u. absurd (omega (arith, ltb-true k n u))) (λ u. u) (or-says _ _ (all-each (leafIn R f n) 0 m leaves k (omega arith) (omega arith)))
+    leaf-test k l h = all-each (leafIn R f n) n (m - n) leaves k l (omega arith)
 
     leaf-row : (k : ℕ) → n ≤ k → k < m → recordRow R (f + k) ≡ leaf (number k)
     leaf-row k l h = leaf-is k h (first-of (leafAt R f k) _ (leaf-test k l h))
@@ -117,7 +117,7 @@ module _ (R : List ℕ) (f m n : ℕ) (in-table : f + m ≤ recordRows R) (few :
     ascending k (suc (suc j)) l e = Ascending.more (next-not-below k l (omega arith)) (ascending (suc k) (suc j) (omega arith) (omega arith))
 
     -- no number is above one behind it
-    mono : (a i : ℕ) → n ≤ a → a + i < m → number a ≤ number (a + i)
+    pub mono : (a i : ℕ) → n ≤ a → a + i < m → number a ≤ number (a + i)
     mono a zero l h = let e : a ≡ a + 0 = omega arith in omega (arith, ap number e)
     mono a (suc i) l h =
         let e : a + suc i ≡ suc (a + i) = omega arith in
@@ -132,7 +132,7 @@ module _ (R : List ℕ) (f m n : ℕ) (in-table : f + m ≤ recordRows R) (few :
 
       -- a reference behind the lines goes to the first leaf of its number
       pub goes-first : n ≤ k → First (λ x. x ≡ number k) (each number n (m - n)) (k - n)
-      unfolding refIn
+      unfolding refIn firstLeaf
       goes-first l =
           record {
             at = number k;
