@@ -3,3 +3,6 @@ pub mod Records
 pub mod Counts
 pub mod Lines
 pub mod Trees
+pub mod Sound
+pub mod Back
+pub mod BackLines

@@ -49,6 +49,10 @@ every-at (Every.more e r) zero h = e
 every-at (Every.more e r) (suc k) h = every-at r k (omega arith)
 
 module _ (d : List ℕ) where
+  -- what is spelled is all there
+  pub spells-among : {a n : ℕ} {w : List ℕ} → Spells d a n w → Among a n (length d)
+  spells-among {a} {n} s k h = omega (arith, ap length (s .bytes-of) ∙ s .all-there, length-take n (drop a d), length-drop a d)
+
   -- a string of such bytes stands there
   record Spelt (p : ℕ → Bool) (a n : ℕ) : Type 0 where
     w : List ℕ
@@ -57,7 +61,7 @@ module _ (d : List ℕ) where
 
   module _ {p : ℕ → Bool} {a n : ℕ} (s : Spelt p a n) where
     spelt-among : Among a n (length d)
-    spelt-among k h = omega (arith, ap length (s .spells .bytes-of) ∙ s .spells .all-there, length-take n (drop a d), length-drop a d)
+    spelt-among = spells-among (s .spells)
 
     spelt-at : (k : ℕ) → k < n → p (getD d (a + k) 0) ≡ true
     spelt-at k h =
@@ -124,11 +128,28 @@ module _ {qs : List Question} where
       ⊎-elim (λ a. line-inside (nth-paired f a .1) refl long) (λ a. absurd (omega (arith, ap (at 0) (nth-map leaf leaves (a .stands) .1))))
       (nth-parts front (subst (λ (l : List Row). Nth l k (branch q y n)) e h))
 
+  line-asks : {ls : List Line} {leaves : List ℕ} {l : Line} {r : Row} {q y n : ℕ} → LineRow qs (ToFirst ls leaves) l r → r ≡ branch q y n → (w : List ℕ) × LastQuestion qs w q
+  line-asks (LineRow.row {l = l} lq gy gn) e = (l .question, subst (LastQuestion qs (l .question)) (ap (at 1) e) lq)
+
+  record-asks : {b : Body} {rows : List Row} {k q y n : ℕ} → Records qs b rows → Nth rows k (branch q y n) → (w : List ℕ) × LastQuestion qs w q
+  record-asks (Records.single b) h = absurd (alone h refl)
+    where
+      alone : {x k q y n : ℕ} {r : Row} → Nth (leaf x ∷ []) k r → r ≡ branch q y n → ⊥
+      alone Nth.here e = omega (arith, ap (at 0) e)
+  record-asks {k = k} {q = q} {y = y} {n = n} (Records.lines {front = front} leaves ns asc tm f e) h =
+      ⊎-elim (λ a. line-asks (nth-paired f a .1) refl) (λ a. absurd (omega (arith, ap (at 0) (nth-map leaf leaves (a .stands) .1))))
+      (nth-parts front (subst (λ (l : List Row). Nth l k (branch q y n)) e h))
+
   -- a tree's records are among those from f on
   tree-room : {f i x g m h : ℕ} {ts : List Tree} {T R : List Row} {r : Row} → TreeRows qs f ts T R → Nth T i r → r ≡ x ∷ g ∷ m ∷ h ∷ [] → (f ≤ g) × (g + m ≤ f + length R)
   tree-room (TreeRows.more {rows = rows} {records = records} s r l w) Nth.here e = (omega (arith, ap (at 1) e), omega (arith, ap (at 1) e, ap (at 2) e, length-append rows records))
   tree-room (TreeRows.more {rows = rows} {records = records} s r l w) (Nth.there a) e =
       let t = tree-room w a e in (omega (arith, t .0), omega (arith, t .1, length-append rows records))
+
+  -- a record of a line asks the last question of its name
+  pub asks-last : {f i q y n : ℕ} {ts : List Tree} {T R : List Row} → TreeRows qs f ts T R → Nth R i (branch q y n) → (w : List ℕ) × LastQuestion qs w q
+  asks-last TreeRows.none h = absurd (omega (arith, nth-inside h))
+  asks-last (TreeRows.more {rows = rows} s r l w) h = ⊎-elim (λ a. record-asks r a) (λ a. asks-last {i = a .j} w (a .stands)) (nth-parts rows h)
 
   asks-inside : {f i q y n : ℕ} {ts : List Tree} {T R : List Row} → TreeRows qs f ts T R → Nth R i (branch q y n) → q < length qs
   asks-inside TreeRows.none h = absurd (omega (arith, nth-inside h))

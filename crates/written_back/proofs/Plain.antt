@@ -265,7 +265,7 @@ front-long : {A B : Type 0} {R : A → B → Type 0} {xs : List A} {ys : List B}
 front-long Forall₂·nil = refl
 front-long (Forall₂·cons r rs) = ap suc (front-long rs)
 
-leaf-fits : {t : Body} {n : ℕ} → BareLeaf t n → BodyFits t → n < 2 ^ 63
+pub leaf-fits : {t : Body} {n : ℕ} → BareLeaf t n → BodyFits t → n < 2 ^ 63
 leaf-fits b f = go b refl f
   where
     go : {t : Body} {n : ℕ} {r : Ref} → Single t r → r ≡ pdf n → BodyFits t → n < 2 ^ 63
