@@ -6,3 +6,4 @@ pub mod Trees
 pub mod Sound
 pub mod Back
 pub mod BackLines
+pub mod BackTrees
