@@ -269,7 +269,7 @@ module _ {qs : List Question} {ls : List Line} {leaves : List ℕ} {R : List ℕ
             let s : k - 1 ≡ i + (k - 1 - i) = omega (arith, b .below, b .from) in
             let t : k ≡ k - 1 + 1 = omega (arith, b .below, b .from) in
             let like : number (k - 1) ≡ number k =
-                omega (arith, mono R f m n (x .in-table) (x .few) leaves-in i (k - 1 - i) (b .from) (omega (arith, b .below)), mono R f m n (x .in-table) (x .few) leaves-in (k - 1) 1 (omega (arith, b .below, b .from)) (omega (arith, b .below)), b .is, ap number s, ap number t) in
+            omega (arith, mono R f m n (x .in-table) (x .few) leaves-in i (k - 1 - i) (b .from) (omega (arith, b .below)), mono R f m n (x .in-table) (x .few) leaves-in (k - 1) 1 (omega (arith, b .below, b .from)) (omega (arith, b .below)), b .is, ap number s, ap number t) in
             let no-first = not-first-leaf k (λ e. omega (arith, b .below, b .from)) like in
             goals-none k (not-passed k l h no-first) 0 n lines-in ∙ sym (due-nothing k no-first)
 

@@ -47,7 +47,7 @@ module _ (R : List ℕ) (f : ℕ) where
       let c = cons-rows (recordRow R) f (length rows) (sym u ∙ e) in
       let z : f ≡ f + 0 = omega arith in
       let says : (field : List ℕ → ℕ → ℕ) → ofRecord field R f 0 ≡ field R f =
-          λ field. sym (record-says field R f 0 (lt-ltb (f + 0) (recordRows R) (omega arith)) (ap (field R) z)) in
+      λ field. sym (record-says field R f 0 (lt-ltb (f + 0) (recordRows R) (omega arith)) (ap (field R) z)) in
       ap (λ (i : ℕ). eqb i 0 || (eqb i 1 && leafAt R f 0)) one
       ∙ both (eq-eqb (ofRecord recordKind R f 0) 1 (says recordKind ∙ sym (ap (at 0) (c .head))))
       (both (lt-ltb (ofRecord recordPdf R f 0) 9223372036854775808 (omega (arith, says recordPdf, ap (at 1) (c .head))))
@@ -78,16 +78,16 @@ module _ (R : List ℕ) (f : ℕ) where
       go (no z) =
           ap (λ (b : Bool). cond b (bareIn R f (length rows)) (linesIn R f (length rows) m)) (ne-eqb m 0 z)
           ∙ lines-pass (record {
-              many = many;
-              few = omega (arith, long, many);
-              in-table = h;
-              unlike-one = ns;
-              ascending = asc;
-              counts = tm;
-              front = subst (Forall₂ (LineRow qs (ToFirst ls leaves)) ls) (parts .0) fr;
-              back = parts .1;
-              fits = g;
-            })
+            many = many;
+            few = omega (arith, long, many);
+            in-table = h;
+            unlike-one = ns;
+            ascending = asc;
+            counts = tm;
+            front = subst (Forall₂ (LineRow qs (ToFirst ls leaves)) ls) (parts .0) fr;
+            back = parts .1;
+            fits = g;
+          })
 
 -- ---- trees one behind the other
 

@@ -7,3 +7,4 @@ pub mod Sound
 pub mod Back
 pub mod BackLines
 pub mod BackTrees
+pub mod Call

@@ -47,7 +47,7 @@ module _ (R : List ℕ) (f x k m : ℕ) where
     running-on h u v =
         let a : suc i ≡ i + 1 = omega arith in
         let b : runOf R f x i (m - i) ≡ suc (runOf R f x (i + 1) (m - (i + 1))) =
-            next h ∙ ap (λ (c : Bool). cond c (suc (runOf R f x (suc i) (m - (i + 1)))) 0) (eq-eqb (ofRecord recordPdf R f i) x (sym u ∙ v)) ∙ ap (λ (j : ℕ). suc (runOf R f x j (m - (i + 1)))) a in
+        next h ∙ ap (λ (c : Bool). cond c (suc (runOf R f x (suc i) (m - (i + 1)))) 0) (eq-eqb (ofRecord recordPdf R f i) x (sym u ∙ v)) ∙ ap (λ (j : ℕ). suc (runOf R f x j (m - (i + 1)))) a in
         record { from = omega (arith, s .from); rest = omega (arith, s .from, s .rest, b) }
 
     pub running-off : i < m → {y : ℕ} → y ≡ ofRecord recordPdf R f i → (y ≡ x → ⊥) → i - k ≡ runOf R f x k (m - k)
@@ -113,12 +113,12 @@ module _ (base k : ℕ) (t : List ℕ) where
           let q : k - base ≡ j = omega arith in
           let z : _≡_ {A = ℕ} (cond (eqb k (base + j)) 1 0) 1 = ap hit (eq-eqb k (base + j) e) in
           let s : getD (added base k t) j 0 ≡ getD t j 0 + 1 =
-              sym (ap (λ (l : List ℕ). getD l j 0) (added-in (omega arith) (omega arith))) ∙ ap (λ (i : ℕ). getD (set t i (getD t i 0 + 1)) j 0) q ∙ getD-set-same t j (getD t j 0 + 1) 0 h in
+          sym (ap (λ (l : List ℕ). getD l j 0) (added-in (omega arith) (omega arith))) ∙ ap (λ (i : ℕ). getD (set t i (getD t i 0 + 1)) j 0) q ∙ getD-set-same t j (getD t j 0 + 1) 0 h in
           omega (arith, s, z)
       go (no e) =
           let z : _≡_ {A = ℕ} (cond (eqb k (base + j)) 1 0) 0 = ap hit (ne-eqb k (base + j) e) in
           let s : getD (added base k t) j 0 ≡ getD t j 0 =
-              ways (λ (l : List ℕ). getD l j 0 ≡ getD t j 0) (λ a b. getD-set-other t (k - base) j (getD t (k - base) 0 + 1) 0 (λ q. e (omega (arith, q)))) refl in
+          ways (λ (l : List ℕ). getD l j 0 ≡ getD t j 0) (λ a b. getD-set-other t (k - base) j (getD t (k - base) 0 + 1) 0 (λ q. e (omega (arith, q)))) refl in
           omega (arith, s, z)
 
 -- ---- references counted

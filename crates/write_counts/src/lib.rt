@@ -100,14 +100,7 @@ fn window_fits(
 }
 
 // So many leaves from `base` on.
-fn window_counted(
-    records: &[u64],
-    first: u64,
-    count: u64,
-    lines: u64,
-    base: u64,
-    size: u64,
-) -> bool
+fn window_counted(records: &[u64], first: u64, count: u64, lines: u64, base: u64, size: u64) -> bool
     requires { ⌜ (size ≤ 256) × (base + size ≤ count) × (lines ≤ base) × (lines ≤ recordRows (now records)) ⌝ }
     ensures { λ r. ⌜ r ≡ all (counted (now (records .entry)) first count lines) base size ⌝ }
 {

@@ -30,13 +30,7 @@ pub enum Answer {
 }
 
 // Whether the rows can be written; each test over all rows before the next.
-fn judge(
-    s: &[u8],
-    questions: &[u64],
-    patterns: &[u64],
-    trees: &[u64],
-    records: &[u64],
-) -> Judged
+fn judge(s: &[u8], questions: &[u64], patterns: &[u64], trees: &[u64], records: &[u64]) -> Judged
     ensures { λ r. ⌜ r ≡ judgedOf (now (s .entry)) (now (questions .entry)) (now (patterns .entry)) (now (trees .entry)) (now (records .entry)) ⌝ }
 {
     if !rows_in(s, questions, patterns, trees, records) {
@@ -52,13 +46,7 @@ fn judge(
 }
 
 // The text's length, or 2^64 - 1 where that is no number: the text put where no buffer is.
-fn text_len(
-    s: &[u8],
-    questions: &[u64],
-    patterns: &[u64],
-    trees: &[u64],
-    records: &[u64],
-) -> usize
+fn text_len(s: &[u8], questions: &[u64], patterns: &[u64], trees: &[u64], records: &[u64]) -> usize
     ensures { λ r. ⌜ r ≡ min (length (bytesOf (now (s .entry)) (now (questions .entry)) (now (patterns .entry)) (now (trees .entry)) (now (records .entry)))) 18446744073709551615 ⌝ }
 {
     let mut none = [0u8; 1];
