@@ -9,6 +9,8 @@ static const char usage[] =
     "       larsavim walk FILE MODEL TREE ANSWERS LIMIT    one walk; ANSWERS is a 0 or 1 for each question, - for none\n"
     "       larsavim walks FILE                            many walks: lines MODEL TREE ANSWERS LIMIT on standard input\n"
     "       larsavim sentence FILE MODEL ANSWERS           the walks of a sentence in one call: lines TREE LIMIT START on standard input\n"
+    "       larsavim write FILE MODEL                      the tree text of a model, out of its tables: one id a line, blanks made even\n"
+    "       larsavim save FILE OUT                         the voice with every tree text so written, in another file\n"
     "       larsavim dump FILE                             everything, one fact a line, for comparing\n"
     "       larsavim hex                                   the dump of each line of hex on standard input, then END\n"
     "       larsavim demo FILE                             a voice in which two lines bear one id, and which of them wins\n"
@@ -33,6 +35,10 @@ static int run(const char *verb, int n, char **words) {
         return n == 1 ? walks(words[0]) : wrong("walks takes one FILE; its lines stand on standard input", NULL);
     if (strcmp(verb, "sentence") == 0)
         return n == 3 ? sentence(words) : wrong("sentence takes FILE MODEL ANSWERS; its lines stand on standard input", NULL);
+    if (strcmp(verb, "write") == 0)
+        return n == 2 ? write_text(words) : wrong("write takes FILE MODEL", NULL);
+    if (strcmp(verb, "save") == 0)
+        return n == 2 ? save(words) : wrong("save takes FILE OUT", NULL);
     if (strcmp(verb, "dump") == 0)
         return n == 1 ? dump(words[0]) : wrong("dump takes one FILE", NULL);
     if (strcmp(verb, "hex") == 0)

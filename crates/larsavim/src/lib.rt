@@ -11,6 +11,8 @@ use face_open::comment_said;
 use face_open::get_said;
 use face_open::open_words;
 use face_open::pair_said;
+use face_write::length_said;
+use face_write::write_said;
 use table_put::put2;
 use table_put::put4;
 use walk_leaves::leaves_fit;
@@ -26,6 +28,7 @@ ghost use Rattle.face_model.specs.Answers.{neededOf, endedOf};
 ghost use Rattle.face_jobs.specs.Done.{jobsDone};
 ghost use Rattle.face_load.specs.Answers.{filledOf};
 ghost use Rattle.larsavim.specs.Face.{answered, written, left, saidNumbers, partNumbers, pairNumbers, neededNumbers, rowsNumbers, endedNumbers};
+ghost use Rattle.larsavim.specs.Write.{Measures, Writes};
 
 // 20: a lent slice is too short.
 const ROOM: u64 = 20;
@@ -44,6 +47,10 @@ const NEEDS_OUT: usize = 11;
 const LOAD_OUT: usize = 9;
 
 const WALK_OUT: usize = 3;
+
+const WRITE_NEEDS_OUT: usize = 2;
+
+const WRITE_OUT: usize = 2;
 
 // Three numbers to the front.
 fn put3(out: &mut [u64], a: u64, b: u64, c: u64)
@@ -254,4 +261,45 @@ pub extern "C" fn larsavim_walk_jobs(
         jobs[i] = walk_job(trees, records, answers, job);
         i = i + 1;
     }
+}
+
+// How long the tree text of loaded tables is.
+#[no_mangle]
+pub extern "C" fn larsavim_write_needs(
+    data: &[u8],
+    questions: &[u64],
+    patterns: &[u64],
+    trees: &[u64],
+    records: &[u64],
+    out: &mut [u64],
+) -> u64
+    ensures { λ r. ⌜ Measures (now («data» .entry)) (now (questions .entry)) (now (patterns .entry)) (now (trees .entry)) (now (records .entry)) (now (out .entry)) r (now (out .exit)) ⌝ }
+{
+    if out.len() < WRITE_NEEDS_OUT {
+        return ROOM;
+    }
+    let wrote = length_said(data, questions, patterns, trees, records);
+    put2(out, 0, wrote.number, wrote.len);
+    wrote.number
+}
+
+// Writes it to the front of a buffer.
+#[no_mangle]
+pub extern "C" fn larsavim_write(
+    data: &[u8],
+    questions: &[u64],
+    patterns: &[u64],
+    trees: &[u64],
+    records: &[u64],
+    buffer: &mut [u8],
+    out: &mut [u64],
+) -> u64
+    ensures { λ r. ⌜ Writes (now («data» .entry)) (now (questions .entry)) (now (patterns .entry)) (now (trees .entry)) (now (records .entry)) (now (buffer .entry)) (now (out .entry)) r (now (buffer .exit)) (now (out .exit)) ⌝ }
+{
+    if out.len() < WRITE_OUT {
+        return ROOM;
+    }
+    let wrote = write_said(buffer, data, questions, patterns, trees, records);
+    put2(out, 0, wrote.number, wrote.len);
+    wrote.number
 }
