@@ -165,6 +165,24 @@ static int show_walks(const struct model *m, const struct doubled *d) {
     return last_wins && !otherwise;
 }
 
+/* The tree as it is written out of its tables: one id a line, so that each reference shows which line it went to. */
+static void show_written(const struct voice *v, const struct model *m, uint64_t tree) {
+    struct bytes text = write_model(m, data_of(v));
+    struct written_tree t, next;
+    struct reader r;
+    uint64_t end = text.len;
+    if (find_tree(text, tree + 1, &r, &next))
+        end = next.start;
+    puts("\nThe tree written out of the loaded tables, an id for each line:");
+    if (find_tree(text, tree, &r, &t))
+        for (uint64_t at = t.start; at < end; at++) {
+            if (at == t.start || text.at[at - 1] == '\n')
+                fputs("    ", stdout);
+            putchar(text.at[at]);
+        }
+    give_back(text.at, text.len);
+}
+
 /* 1 if the model has a doubled id; `clear` says whether the walks showed that its last line wins. */
 static int show_doubled(const struct voice *v, uint64_t which, const struct model *m, int *clear) {
     struct doubled d;
@@ -183,6 +201,7 @@ static int show_doubled(const struct voice *v, uint64_t which, const struct mode
              "here, without any complaint; and a clear wrong number is worse than silence.");
     else
         puts("\nThese walks don't show that the last line wins.");
+    show_written(v, m, d.tree);
     return 1;
 }
 

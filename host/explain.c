@@ -59,6 +59,10 @@ static struct sections sections_of(struct bytes file) {
     return s;
 }
 
+struct bytes position_section(struct bytes file) {
+    return sections_of(file).text[POSITION];
+}
+
 static void put_place(FILE *to, struct bytes file, uint64_t at) {
     fprintf(to, "byte %" PRIu64 " (line %" PRIu64 ", column %" PRIu64 ")", at, line_of(file, at), column_of(file, at));
 }

@@ -1,7 +1,7 @@
 /* hex.c: many inputs at once, a line each on standard input, for comparing the library with another reader of the same files.
  *
- * A line is a whole file as hex, and its answer the lines of `dump` and a line END. Where the line goes on with a model, a tree, answers as
- * hex (or -) and a limit, the answer is that of `walk` and a line END. */
+ * A line is a whole file as hex, and its answer the lines of `dump` and a line END. Where the line goes on with a model, the answer is the tree text
+ * of its tables, as hex; where it goes on with a model, a tree, answers as hex (or -) and a limit, that of `walk`; and a line END. */
 #include <string.h>
 
 #include "host.h"
@@ -37,17 +37,27 @@ static int walk_words(struct bytes file, char **words) {
     return 1;
 }
 
+static int write_words(struct bytes file, char **words) {
+    uint64_t which;
+    if (!read_number(words[1], &which))
+        return 0;
+    put_text_hex(file, which);
+    return 1;
+}
+
 /* Answers one line, or says what is wrong with it. */
 static const char *answer(char *line, void *nothing) {
-    static const char wrong[] = "is neither a file as hex nor a file as hex, model, tree, answers as hex and limit, parted by single spaces";
+    static const char wrong[] = "is neither a file as hex, nor that and a model, nor that, a tree, answers as hex and a limit, parted by single spaces";
     char *words[5];
     int n = cut(line, words, 5), good = 1;
     struct bytes file;
     (void)nothing;
-    if ((n != 1 && n != 5) || !read_hex(words[0], &file))
+    if ((n != 1 && n != 2 && n != 5) || !read_hex(words[0], &file))
         return wrong;
     if (n == 5)
         good = walk_words(file, words);
+    else if (n == 2)
+        good = write_words(file, words);
     else
         dump_voice(file);
     give_back(file.at, file.len);

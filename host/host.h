@@ -143,6 +143,9 @@ int leaves_fit(const struct model *m);
 /* A walk over a loaded model's tables; out: number, PDF number, questions asked. */
 void walk_model(const struct model *m, uint64_t tree, struct bytes answers, uint64_t limit, uint64_t out[LARSAVIM_WALK_OUT]);
 
+/* The tree text of a loaded model, out of its tables, in lent memory of just its length. */
+struct bytes write_model(const struct model *m, struct bytes data);
+
 /* The walks of a sentence, filled where they stand. */
 void walk_jobs_model(const struct model *m, struct bytes answers, struct larsavim_job *jobs, uint64_t count);
 
@@ -192,6 +195,9 @@ void explain_open(FILE *to, const struct voice *v);
 void explain_load(FILE *to, const struct voice *v, uint64_t which, const uint64_t *out);
 void explain_walk(FILE *to, uint64_t number);
 
+/* The text of [POSITION], where it stands in a file that opens. */
+struct bytes position_section(struct bytes file);
+
 /* ---- walks in words (walk.c) --------------------------------------------------------------------------------------------------- */
 
 enum { WALK_WORDS = 4 };
@@ -216,6 +222,17 @@ void put_walk(const uint64_t out[LARSAVIM_WALK_OUT]);
 /* A walk over a file, the line of its answer, and the reason of a refusal to `why`, if there is a place for it. */
 int walk_line(struct bytes file, const struct asked_walk *w, FILE *why);
 
+/* ---- tables back to text (write.c) ---------------------------------------------------------------------------------------------- */
+
+/* The tree text of a model, lent; or the number of the refusal, and why to `why`, if there is a place for it. 1 if there is a text. */
+int text_of_model(const struct voice *v, uint64_t which, FILE *why, struct bytes *text, uint64_t *number);
+
+/* `TEXT hex`, or `REFUSED n`. */
+void put_text_hex(struct bytes file, uint64_t which);
+
+/* `larsavim: FILE: model 1, stream "MCP": ` on standard error. */
+void complain_model(const char *path, const struct voice *v, uint64_t which);
+
 /* ---- the verbs ---------------------------------------------------------------------------------------------------------------- */
 
 int inspect(const char *path);      /* inspect.c */
@@ -226,6 +243,8 @@ int hex(void);                      /* hex.c */
 int walk(char **words);             /* walk.c */
 int walks(const char *path);        /* walks.c */
 int sentence(char **words);         /* sentence.c */
+int write_text(char **words);       /* write.c */
+int save(char **words);             /* save.c */
 int demo(const char *path);         /* demo.c */
 int answers(char **words);          /* label.c */
 int say(char **words);              /* label.c */

@@ -7,8 +7,7 @@
  *      is not const), at an address that suits their type, and nobody else writes them until the call returns. A length of 0 asks
  *      nothing of its pointer, which may be null;
  *   2. nothing that is lent for writing (`words` of larsavim_open, the tables and the work of larsavim_load, the answers of
- *      larsavim_answers, the jobs, every `out`) overlaps
- *      another slice of the same call.
+ *      larsavim_answers, the jobs, the buffer of larsavim_write, every `out`) overlaps another slice of the same call.
  *
  * Numbers are 64 bits wide; a slice is a pointer and, behind it, how many bytes, numbers or jobs it has. No call keeps a pointer.
  * 01 is docs/01-scope.md, whose words are used here; docs/INTEGRATION.md shows the calls at work.
@@ -41,15 +40,16 @@ extern "C" {
 #define LARSAVIM_NOSTREAM 14  /* a STREAM_TYPE name has no entry in [STREAM] */
 #define LARSAVIM_USEGV 15     /* GV is asked for, and USE_GV is 0 or GV_TREE or GV_PDF is absent */
 #define LARSAVIM_RANGE 16     /* a range isn't inside the data, or the record doesn't fit its limits or the file; or words that are no record */
-#define LARSAVIM_TEXT 17      /* tree text outside the grammar; place: where it breaks, counted from the first data byte */
+#define LARSAVIM_TEXT 17      /* tree text outside the grammar; place: where it breaks, counted from the first data byte. Of larsavim_write: rows that no text
+                               * reads back to */
 #define LARSAVIM_STATE 18     /* tree text in the grammar, but a state is negative */
 #define LARSAVIM_BLOCK 19     /* the length of a PDF block is wrong */
 #define LARSAVIM_ROOM 20      /* a lent table, the work, the words or the answer's slice is smaller than needed */
 #define LARSAVIM_NODEREF 21   /* a line refers to an id that no line bears; place: the tree; line: the line */
-#define LARSAVIM_QUESTREF 22  /* a line asks a question that isn't there; place and line as in 21 */
+#define LARSAVIM_QUESTREF 22  /* a line asks a question that isn't there; place and line as in 21. Of larsavim_write: a byte that no name or pattern can have */
 #define LARSAVIM_LONENODE 23  /* a tree's one reference is a node; place and line as in 21 */
-#define LARSAVIM_WALKTABLE 24 /* no such tree or no record in it, a record met outside its tree, the tables or the kinds, or no answer for its question;
-                               * of larsavim_answers, a pattern outside its table or the data */
+#define LARSAVIM_WALKTABLE 24 /* no such tree or no record in it, a record met outside its tree, the tables or the kinds, or no answer for its question.
+                               * Of larsavim_answers: a pattern outside its table or the data. Of larsavim_write: a row points outside its table or the data */
 #define LARSAVIM_STEPS 25     /* another question would pass the walk's limit */
 
 /* A place is a file offset, counted from 0, for 2 to 8 and 10; for 17 of a load an offset from the first data byte (LARSAVIM_DATA_START): the
@@ -77,6 +77,8 @@ extern "C" {
 #define LARSAVIM_NEEDS_OUT 10   /* number, place, line, questions, patterns, trees, records, values, work, width */
 #define LARSAVIM_LOAD_OUT 8     /* number, place, line, questions, patterns, trees, records, values */
 #define LARSAVIM_WALK_OUT 3     /* number, PDF number, questions asked */
+#define LARSAVIM_WRITE_NEEDS_OUT 2 /* number, length */
+#define LARSAVIM_WRITE_OUT 2    /* number, length */
 
 /* ---- Opening -------------------------------------------------------------------------------------------------------------------
  * The header record crosses as words: LARSAVIM_WORDS numbers that an opening writes and later calls take back. Words that no
@@ -227,6 +229,25 @@ void larsavim_walk_jobs(const uint64_t *trees, uint64_t trees_len, const uint64_
  * otherwise 0. */
 uint64_t larsavim_leaves(const uint64_t *questions, uint64_t questions_len, const uint64_t *trees, uint64_t trees_len,
                          const uint64_t *records, uint64_t records_len, const uint64_t *values, uint64_t values_len, uint64_t width);
+
+/* ---- Tables back to text ---------------------------------------------------------------------------------------------------------
+ * The tree text that the rows of loaded tables say: questions in row order, trees in row order with the ids 0, -1, -2 and on, a bare leaf
+ * as a lone reference, PDF references as "p_3". `data` are the bytes that string starts count in: of a loaded model the file's, from
+ * LARSAVIM_DATA_START on, LARSAVIM_DATA_LEN of them. The tables are cut to the rows that the load returned; all rows are judged. Reading the
+ * text back gives the same rows but for string starts, and writing those again the same bytes.
+ * Refused, each over all rows before the next: 24, a row points outside its table or the data; 22, a name has a byte from 128 up, a space or
+ * a newline, or a pattern a byte of no class; 17, rows that no text reads back to; 20, the buffer is shorter than the text. Tables that a load
+ * has filled are never 24, 22 or 17. */
+
+/* How many bytes the text has. out: number (0, 17, 20, 22, 24), length; 0 when refused, 2^64 - 1 where it is no number of 64 bits. 20 is for `out` alone. */
+uint64_t larsavim_write_needs(const uint8_t *data, uint64_t data_len, const uint64_t *questions, uint64_t questions_len,
+                              const uint64_t *patterns, uint64_t patterns_len, const uint64_t *trees, uint64_t trees_len,
+                              const uint64_t *records, uint64_t records_len, uint64_t *out, uint64_t out_len);
+
+/* Writes it to the front of `buffer`; what is behind it is unchanged. out: number (0, 17, 20, 22, 24), length; 0 when refused, and the buffer unchanged. */
+uint64_t larsavim_write(const uint8_t *data, uint64_t data_len, const uint64_t *questions, uint64_t questions_len,
+                        const uint64_t *patterns, uint64_t patterns_len, const uint64_t *trees, uint64_t trees_len,
+                        const uint64_t *records, uint64_t records_len, uint8_t *buffer, uint64_t buffer_len, uint64_t *out, uint64_t out_len);
 
 #ifdef __cplusplus
 }

@@ -101,3 +101,35 @@ uint64_t answer_model(const struct voice *v, const struct model *m, struct bytes
     answers->len = rows_of(m, QUESTIONS);
     return number;
 }
+
+/* The data of a voice stand in its file; between guards they are lent by themselves. */
+static struct bytes lent_data(struct bytes data) {
+    struct bytes own = data;
+    if (guarded()) {
+        uint8_t *copy = lend(data.len);
+        if (data.len > 0)
+            memcpy(copy, data.at, (size_t)data.len);
+        own.at = copy;
+    }
+    return own;
+}
+
+struct bytes write_model(const struct model *m, struct bytes data) {
+    uint64_t *out = answer_slice(LARSAVIM_WRITE_OUT), needed;
+    struct bytes own = lent_data(data), text;
+    uint8_t *buffer;
+    larsavim_write_needs(own.at, own.len, m->table[QUESTIONS], used(m, QUESTIONS), m->table[PATTERNS], used(m, PATTERNS), m->table[TREES], used(m, TREES),
+                         m->table[RECORDS], used(m, RECORDS), out, LARSAVIM_WRITE_NEEDS_OUT);
+    needed = out[1];
+    buffer = lend(needed);
+    if (out[0] == LARSAVIM_SUCCESS)
+        larsavim_write(own.at, own.len, m->table[QUESTIONS], used(m, QUESTIONS), m->table[PATTERNS], used(m, PATTERNS), m->table[TREES], used(m, TREES),
+                       m->table[RECORDS], used(m, RECORDS), buffer, needed, out, LARSAVIM_WRITE_OUT);
+    if (out[0] != LARSAVIM_SUCCESS || out[1] != needed)
+        stop("the library refuses tables that it loaded");
+    if (guarded())
+        give_back(own.at, own.len);
+    text.at = buffer;
+    text.len = needed;
+    return text;
+}

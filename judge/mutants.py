@@ -8,6 +8,7 @@ import types
 
 import reading
 import store
+import writing
 
 # list, what is wrong, the words of reading.py replaced, and by what
 MUTANTS = [
@@ -92,12 +93,36 @@ MUTANTS = [
 ]
 
 
-def mutant(old, new):
-    with open(reading.__file__) as f:
+# the same of writing.py, the second reading of the writer
+WRITING = [
+    ('yes before no', 'reference(no), reference(yes))', 'reference(yes), reference(no))'),
+    ('ids 0, 1, 2', "        text += b'%d %s %s %s\\n' % (-k,", "        text += b'%d %s %s %s\\n' % (k,"),
+    ('-0', "return b'%d' % -k if k < lines", "return b'-%d' % k if k < lines"),
+    ('a bare leaf in braces', '    if lines == 0 and count > 0:', '    if lines == 0 and count > 1:'),
+    ('no newline behind the brace', "    text = b'{*} [%d] {\\n' % state", "    text = b'{*} [%d] { ' % state"),
+    ('a comma with a space before it', "b', '.join(b'\"%s\"'", "b' , '.join(b'\"%s\"'"),
+    ('every rows are read back to', '        if read_back(text) == said(data, questions, patterns, trees, records):', '        if read_back(text):'),
+    ('nothing is read back', '        if read_back(text) == said(data, questions, patterns, trees, records):', '        if False:'),
+    ('strings that stand elsewhere are others', "    return [(data[a:a + n], f, m) for a, n, f, m in questions], strings", "    return [(a, n, f, m) for a, n, f, m in questions], strings"),
+    ('22 before 24', "    if points_outside(data, questions, patterns, trees, records):\n        return 24, b''\n    if has_odd_byte(data, questions, patterns):\n        return 22, b''\n",
+     "    if has_odd_byte(data, questions, patterns):\n        return 22, b''\n    if points_outside(data, questions, patterns, trees, records):\n        return 24, b''\n"),
+    ('no 22', "    if has_odd_byte(data, questions, patterns):\n        return 22, b''\n", ''),
+    ('a quote in a name is odd', "b > 127 or b in b' \\n'", "b > 127 or b in b' \\n\"'"),
+    ('an empty range stands nowhere', '    return count == 0 or first + count <= rows', '    return first + count <= rows'),
+    ('an end that wraps', '    return count == 0 or first + count <= rows', '    return count == 0 or (first + count) % 2 ** 64 <= rows'),
+    ('records of no tree are not judged', '    if any(kind == 0 and question >= len(questions) for kind, question, _, _ in records):\n        return True\n', ''),
+    ('where no goes is not judged', 'max(first + yes, first + no)', 'first + yes'),
+    ('yes and no count from the table', 'max(first + yes, first + no)', 'max(yes, no)'),
+]
+
+
+def mutant(old, new, of=reading):
+    with open(of.__file__) as f:
         source = f.read()
     if old not in source:
-        sys.exit('mutants: these words are not in reading.py: %s' % old)
+        sys.exit('mutants: these words are not in %s: %s' % (os.path.basename(of.__file__), old))
     module = types.ModuleType('mutant')
+    module.__file__ = of.__file__
     exec(compile(source.replace(old, new), 'mutant', 'exec'), module.__dict__)
     return module
 
@@ -150,8 +175,26 @@ def noticed(kind, old, new, most=None):
     return count
 
 
+def noticed_writing(old, new, most=None):
+    """The same for the stored cases of the writer, without the models that they were made of."""
+    module, count = mutant(old, new, writing), 0
+    with open(writing.STORED) as f:
+        for line in f:
+            try:
+                count += module.line(writing.stored_case(line)) != line.rstrip('\n')
+            except Exception:
+                count += 1
+            if count == most:
+                break
+    return count
+
+
 def main():
     unnoticed = 0
+    for name, old, new in WRITING:
+        n = noticed_writing(old, new)
+        unnoticed += n == 0
+        print('%6d  writes: %s' % (n, name))
     for kind, name, old, new in MUTANTS:
         n = noticed(kind, old, new)
         unnoticed += n == 0

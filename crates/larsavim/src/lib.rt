@@ -12,6 +12,8 @@ use face_open::get_said;
 use face_open::open_words;
 use face_open::pair_said;
 use label_answers::answers_said;
+use face_write::length_said;
+use face_write::write_said;
 use table_put::put2;
 use table_put::put4;
 use walk_leaves::leaves_fit;
@@ -24,6 +26,7 @@ ghost use Rattle.label_answers.specs.Answering.{Answering};
 ghost use Rattle.face_jobs.specs.Done.{jobsDone};
 ghost use Rattle.load_model.specs.Load.{lent};
 ghost use Rattle.larsavim.specs.Face.{rowsNumbers, neededNumbers, Opens, Comments, Gets, Pairs, Needs, Loads, Walks, Leaves};
+ghost use Rattle.larsavim.specs.Write.{Measures, Writes};
 
 // 20: a lent slice is too short.
 const ROOM: u64 = 20;
@@ -42,6 +45,10 @@ const NEEDS_OUT: usize = 10;
 const LOAD_OUT: usize = 8;
 
 const WALK_OUT: usize = 3;
+
+const WRITE_NEEDS_OUT: usize = 2;
+
+const WRITE_OUT: usize = 2;
 
 // Three numbers to the front.
 fn put3(out: &mut [u64], a: u64, b: u64, c: u64)
@@ -262,4 +269,45 @@ pub extern "C" fn larsavim_answers(
     ensures { λ r. ⌜ Answering (now (label .entry)) (now (questions .entry)) (now (patterns .entry)) (now («data» .entry)) (now (answers .entry)) r (now (answers .exit)) ⌝ }
 {
     answers_said(label, questions, patterns, data, answers)
+}
+
+// How long the tree text of loaded tables is.
+#[no_mangle]
+pub extern "C" fn larsavim_write_needs(
+    data: &[u8],
+    questions: &[u64],
+    patterns: &[u64],
+    trees: &[u64],
+    records: &[u64],
+    out: &mut [u64],
+) -> u64
+    ensures { λ r. ⌜ Measures (now («data» .entry)) (now (questions .entry)) (now (patterns .entry)) (now (trees .entry)) (now (records .entry)) (now (out .entry)) r (now (out .exit)) ⌝ }
+{
+    if out.len() < WRITE_NEEDS_OUT {
+        return ROOM;
+    }
+    let wrote = length_said(data, questions, patterns, trees, records);
+    put2(out, 0, wrote.number, wrote.len);
+    wrote.number
+}
+
+// Writes it to the front of a buffer.
+#[no_mangle]
+pub extern "C" fn larsavim_write(
+    data: &[u8],
+    questions: &[u64],
+    patterns: &[u64],
+    trees: &[u64],
+    records: &[u64],
+    buffer: &mut [u8],
+    out: &mut [u64],
+) -> u64
+    ensures { λ r. ⌜ Writes (now («data» .entry)) (now (questions .entry)) (now (patterns .entry)) (now (trees .entry)) (now (records .entry)) (now (buffer .entry)) (now (out .entry)) r (now (buffer .exit)) (now (out .exit)) ⌝ }
+{
+    if out.len() < WRITE_OUT {
+        return ROOM;
+    }
+    let wrote = write_said(buffer, data, questions, patterns, trees, records);
+    put2(out, 0, wrote.number, wrote.len);
+    wrote.number
 }

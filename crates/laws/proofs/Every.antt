@@ -64,6 +64,24 @@ module _ (p : ℕ → Bool) (n : ℕ) where
     pub passing-end : n ≤ k → true ≡ all p 0 n
     passing-end h = sym (all-none p k (n - k) (omega arith)) ∙ s .rest
 
+-- the same from a on
+pub record Going (p : ℕ → Bool) (a n k : ℕ) : Type 0 where
+  pub rest : all p k (n - k) ≡ all p a (n - a)
+
+module _ (p : ℕ → Bool) (a n : ℕ) where
+  pub going-none : Going p a n a
+  going-none = record { rest = refl }
+
+  module _ (k : ℕ) (s : Going p a n k) where
+    pub going-on : k < n → p k ≡ true → Going p a n (k + 1)
+    going-on h e = let q : n - (k + 1) ≡ n - k - 1 = omega arith in record { rest = ap (all p (k + 1)) q ∙ sym (all-on p k (n - k) (omega arith) e) ∙ s .rest }
+
+    pub going-off : k < n → p k ≡ false → false ≡ all p a (n - a)
+    going-off h e = sym (all-off p k (n - k) (omega arith) e) ∙ s .rest
+
+    pub going-end : n ≤ k → true ≡ all p a (n - a)
+    going-end h = sym (all-none p k (n - k) (omega arith)) ∙ s .rest
+
 -- ---- what it says
 
 module _ (p : ℕ → Bool) where

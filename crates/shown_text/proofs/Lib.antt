@@ -1,6 +1,5 @@
 pub mod Words
 pub mod OneTree
-pub mod OneModel
 pub mod AllTrees
 pub mod Text
 pub mod Tables

@@ -33,7 +33,7 @@ use Rattle.load_text.specs.Text.{wordsAt, endAt, treesStored, recordsStored}
 use Rattle.shown_text.specs.Refusals.{RefusedAs, node, question, lone}
 use Rattle.shown_text.proofs.Words.{parted-nth, question-named, questions-few}
 use Rattle.shown_text.proofs.OneTree.{Verdict, tree-verdict}
-use Rattle.shown_text.proofs.OneModel.{model-rows-once, model-refused-once, model-never-both}
+use Rattle.written.proofs.ModelOnce.{model-rows-once, model-refused-once, model-never-both}
 use Rattle.shown_text.proofs.AllTrees.{ModelVerdict, trees-verdict}
 
 -- ---- what a text that says something has

@@ -7,11 +7,12 @@ pub mod Apart
 pub mod ApartFile
 pub mod Sums
 pub mod Example
--- Tree text: at most one answer (Once), decided (Decide); linking (Link, Links); tree rows (Folded); walks (Walk, Model); worked examples.
+-- Tree text: at most one answer (Once), decided (Decide); linking (Link, Links, ModelOnce); tree rows (Folded); walks (Walk, Model); worked examples.
 pub mod Once
 pub mod Decide
 pub mod Link
 pub mod Links
+pub mod ModelOnce
 pub mod Walk
 pub mod Folded
 pub mod Model

@@ -1,4 +1,4 @@
--- In reading order: words for bytes and places; the two public documents; header files; PDF blocks; tree text; linking, tables and walks.
+-- In reading order: words for bytes and places; the two public documents; header files; PDF blocks; tree text; linking, tables and walks; tables back to text.
 pub mod Bytes
 pub mod Rfc3629
 pub mod Interchange
@@ -16,6 +16,7 @@ pub mod Tables
 pub mod Models
 pub mod Loading
 pub mod Walks
--- Document 02: answers from a label (Wish 1); how many questions a walk can ask (Wish 8).
+-- Document 02: answers from a label (Wish 1); text out of tables (Wish 6); how many questions a walk can ask (Wish 8).
 pub mod Matching
+pub mod Writing
 pub mod Depths

@@ -3,12 +3,12 @@ use mathlib.Core.Path.{_≡_, refl, sym, ap, ap₂, _∙_}
 use mathlib.Core.List.{List, [], _∷_, _++_}
 use Prim.Native.Nat.{ℕ, suc, _+_}
 use lib.ListN.{length}
 use Rattle.written.specs.Said.{Body, Tree, Question}
 use Rattle.written.specs.Linking.{Row}
 use Rattle.written.specs.Tables.{LinesOf, single, lines, TreeRows, none, more, ModelRefused, here, later}
 use Rattle.written.proofs.Link.{refused-no-records, refused-once, records-once}
 
-lines-once : {t : Body} {k m : ℕ} → LinesOf t k → LinesOf t m → k ≡ m
+pub lines-once : {t : Body} {k m : ℕ} → LinesOf t k → LinesOf t m → k ≡ m
 lines-once (single s) (single u) = refl
 lines-once (single {r = r} s) (lines o) = absurd (o r s)
 lines-once (lines o) (single {r = r} s) = absurd (o r s)

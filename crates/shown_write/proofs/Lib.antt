@@ -1,0 +1,10 @@
+pub mod Questions
+pub mod Records
+pub mod Counts
+pub mod Lines
+pub mod Trees
+pub mod Sound
+pub mod Back
+pub mod BackLines
+pub mod BackTrees
+pub mod Call
