@@ -39,6 +39,7 @@ use Rattle.load_model.specs.declared.Loaded.the-variants as ending
 use Rattle.face_open.specs.Answers.{judgedOf}
 use Rattle.face_model.specs.Answers as face
 use Rattle.face_model.specs.Answers.{rowsBy}
+use Rattle.face_model.specs.declared.Needed.{Needed}
 use Rattle.face_load.specs.Answers.{Filled, filledBy, filledIn, filledOf}
 use Rattle.larsavim.specs.Face.{answered, written, left, rowsNumbers, neededNumbers, Loads, Needs}
 use Rattle.shown_words.proofs.Shaped.{record-back}
@@ -222,3 +223,37 @@ module _ {s : List ℕ} (bytes : Bytes s) {h : record-of.Header} (says : record-
             → AfterLoad s h m t out (cond d 20 (rowsBy (L .answer) .number)) (cond d t (L .tables)) (cond d out (sets out 0 (rowsNumbers (rowsBy (L .answer)))))
         go true e = short-out (ltb-true (length out) 8 e)
         go false e = ended (ltb-false (length out) 8 e) load-ends
+
+-- ---- what a model needs
+
+module _ {s : List ℕ} (bytes : Bytes s) {h : record-of.Header} (says : record-of.Says s h) (m : models.Model) (w : List ℕ) (enough : 647 ≤ length w) (out : List ℕ) where
+  abbrev N : Needed
+  N = face.neededBy (planned s (headerRecord h) (whichOf m))
+
+  -- what is said of the words of the record is said of the record
+  needed-of : face.neededOf s (sets w 0 (recordWords h)) (models.modelNumber m) ≡ N
+  unfolding face.neededOf
+  needed-of =
+      ap (λ (j : ℕ). face.neededIn s (sets w 0 (recordWords h)) (models.modelNumber m) j) (record-judged w h enough)
+      ∙ ap₂ (λ (x : Header) (n : Which). face.neededBy (planned s x n)) (record-back w h enough) (which-number m)
+
+  needs-end : 10 ≤ length out → AfterNeeds s h m out (N .number) (sets out 0 (neededNumbers N))
+  needs-end long = go (planned s (headerRecord h) (whichOf m)) refl
+    where
+      go : (o : Planned) → planned s (headerRecord h) (whichOf m) ≡ o → AfterNeeds s h m out (face.neededBy o .number) (sets out 0 (neededNumbers (face.neededBy o)))
+      go (Model p) e =
+          let f = plan-said bytes says m p (sym e) in
+          let q : neededNumbers (face.neededFor p) ≡ needsNumbers (said f) =
+          λ i. 0 ∷ 0 ∷ 0 ∷ f .questions i ∷ f .patterns i ∷ f .trees i ∷ f .records i ∷ f .entries i ∷ face.workFor (f .lines i) ∷ p .width ∷ [] in
+          subst (λ (l : List ℕ). AfterNeeds s h m out 0 (sets out 0 l)) (sym q) (AfterNeeds.needed long (reads f))
+      go (Refused z) e = let n = no-model bytes says m e in AfterNeeds.no-model long (n .0) (n .1)
+
+  pub needs-kept : {r : ℕ} {o : List ℕ} → Needs s (sets w 0 (recordWords h)) (models.modelNumber m) out r o → AfterNeeds s h m out r o
+  unfolding answered written
+  needs-kept (a, b) =
+      moved₂ (AfterNeeds s h m out) (a ∙ ap (λ (x : Needed). cond (ltb (length out) 10) 20 (x .number)) needed-of)
+      (b ∙ ap (λ (x : Needed). cond (ltb (length out) 10) out (sets out 0 (neededNumbers x))) needed-of) (go (ltb (length out) 10) refl)
+    where
+      go : (d : Bool) → ltb (length out) 10 ≡ d → AfterNeeds s h m out (cond d 20 (N .number)) (cond d out (sets out 0 (neededNumbers N)))
+      go true e = AfterNeeds.short-out (ltb-true (length out) 10 e)
+      go false e = needs-end (ltb-false (length out) 10 e)
