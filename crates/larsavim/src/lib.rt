@@ -66,14 +66,7 @@ fn put_rows(out: &mut [u64], rows: Rows)
     ensures { λ r. ⌜ now (out .exit) ≡ sets (now (out .entry)) 0 (rowsNumbers rows) ⌝ }
 {
     put4(out, 0, rows.number, rows.place, rows.line, rows.questions);
-    put4(
-        out,
-        4,
-        rows.patterns,
-        rows.trees,
-        rows.records,
-        rows.values,
-    );
+    put4(out, 4, rows.patterns, rows.trees, rows.records, rows.values);
 }
 
 // What a model needs, to the front.

@@ -191,13 +191,13 @@ module _ (d : List ℕ) (p : Plan) (T : Tables) {S : List ℕ} {o : Linked} {l :
   filled-is {B = B} y f g = (
     k ∙ ap (answerFor p) ends,
     same-lent
-    (e .1 ∙ ap₂ (λ (o : Linked) (S : List ℕ). kept o (T .questions) (questionRows S (p .text))) ends x)
-    (e .2 ∙ ap₂ (λ (o : Linked) (S : List ℕ). kept o (T .patterns) (patternWords (questionsAt S (p .text) .items))) ends x)
-    (f ∙ ap₂ (λ (o : Linked) (S : List ℕ). keptTrees o (T .trees) (treesStored S (p .text) (p .first)) (blocksOf p B)) ends x
-    ∙ ap (λ (B : List ℕ). keptTrees (endAt (take (p .«text_end») d) (p .text) (p .first)) (T .trees) (treesStored (take (p .«text_end») d) (p .text) (p .first)) (blocksOf p B)) y)
-    (e .4 ∙ ap₂ (λ (o : Linked) (S : List ℕ). kept o (T .records) (recordsStored S (p .text) (p .first))) ends x)
-    (g ∙ ap₂ (λ (o : Linked) (B : List ℕ). kept o (T .values) (valuesAt B (p .block + 4 * p .trees) (p .width) (p .entries))) ends y)
-    (e .5),
+        (e .1 ∙ ap₂ (λ (o : Linked) (S : List ℕ). kept o (T .questions) (questionRows S (p .text))) ends x)
+        (e .2 ∙ ap₂ (λ (o : Linked) (S : List ℕ). kept o (T .patterns) (patternWords (questionsAt S (p .text) .items))) ends x)
+        (f ∙ ap₂ (λ (o : Linked) (S : List ℕ). keptTrees o (T .trees) (treesStored S (p .text) (p .first)) (blocksOf p B)) ends x
+        ∙ ap (λ (B : List ℕ). keptTrees (endAt (take (p .«text_end») d) (p .text) (p .first)) (T .trees) (treesStored (take (p .«text_end») d) (p .text) (p .first)) (blocksOf p B)) y)
+        (e .4 ∙ ap₂ (λ (o : Linked) (S : List ℕ). kept o (T .records) (recordsStored S (p .text) (p .first))) ends x)
+        (g ∙ ap₂ (λ (o : Linked) (B : List ℕ). kept o (T .values) (valuesAt B (p .block + 4 * p .trees) (p .width) (p .entries))) ends y)
+        (e .5),
   )
 
   module _ {v : Bool} (f : b ≡ v) where

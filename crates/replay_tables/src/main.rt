@@ -1,5 +1,5 @@
 // Replays walks and leaf checks over stored tables (judge/README.md, `tables`). The input is numbers: how many cases, and of each 0, trees,
-// records and walks, or 1, questions, trees, records, blocks, values, width and the answer, 1 for yes. A table is its length and its
+// records and walks, or 1, questions, trees, records, values, width and the answer, 1 for yes. A table is its length and its
 // numbers; a walk is tree, answer bytes and limit, and then number, PDF number and questions asked.
 // Assumes that the input fits 65,536 bytes, a table 256 numbers and the answer bytes 64; what doesn't fit differs.
 use libc::STDIN_FILENO;
@@ -187,25 +187,21 @@ fn leaf_case(c: Tally, s: &[u8]) -> Tally {
     let mut questions = [0u64; 256];
     let mut trees = [0u64; 256];
     let mut records = [0u64; 256];
-    let mut blocks = [0u64; 256];
     let mut values = [0u64; 256];
     let q = fill(s, c.next, &mut questions);
     let t = fill(s, q.next, &mut trees);
     let r = fill(s, t.next, &mut records);
-    let b = fill(s, r.next, &mut blocks);
-    let v = fill(s, b.next, &mut values);
+    let v = fill(s, r.next, &mut values);
     let width = word(s, v.next);
     let answer = word(s, width.next);
     let qn = q.count;
     let tn = t.count;
     let rn = r.count;
-    let bn = b.count;
     let vn = v.count;
     if leaves_fit(
         &questions[..qn],
         &trees[..tn],
         &records[..rn],
-        &blocks[..bn],
         &values[..vn],
         width.value,
     ) {
