@@ -9,6 +9,7 @@ use Rattle.walk_leaves.specs.Checks.{leavesFit}
 use Rattle.face_open.specs.Answers.{openSaid, openWords, commentSaid, getSaid, pairSaid}
 use Rattle.face_model.specs.Answers.{neededOf, endedOf}
 use Rattle.face_load.specs.Answers.{filledOf}
+use Rattle.larsavim.specs.Write.{Measures, Writes}
 use Rattle.larsavim.specs.Face.{answered, written, left, saidNumbers, partNumbers, pairNumbers, neededNumbers, rowsNumbers, endedNumbers}
 
 -- what equals one thing is equal
@@ -80,3 +81,11 @@ walk-once T R t bytes limit out = answers-once out 3 (endedOf T R t bytes limit 
 
 pub leaves-once : (Q T R B X : List ℕ) (width : ℕ) {r r′ : ℕ} → r ≡ flagWord (leavesFit Q T R B X width) → r′ ≡ flagWord (leavesFit Q T R B X width) → r ≡ r′
 leaves-once Q T R B X width a b = once a b
+
+-- ---- larsavim_write_needs, larsavim_write
+
+pub write-needs-once : {d Q P T R out : List ℕ} {r r′ : ℕ} {o o′ : List ℕ} → Measures d Q P T R out r o → Measures d Q P T R out r′ o′ → (r ≡ r′) × (o ≡ o′)
+write-needs-once a b = (once (a .number) (b .number), once (a .answer) (b .answer))
+
+pub write-once : {d Q P T R b out : List ℕ} {r r′ : ℕ} {e e′ o o′ : List ℕ} → Writes d Q P T R b out r e o → Writes d Q P T R b out r′ e′ o′ → (r ≡ r′) × (e ≡ e′) × (o ≡ o′)
+write-once a b = (once (a .number) (b .number), once (a .buffer) (b .buffer), once (a .answer) (b .answer))
