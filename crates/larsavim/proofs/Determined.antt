@@ -6,6 +6,7 @@ use Rattle.face_open.specs.Answers.{commentSaid, getSaid, pairSaid}
 use Rattle.face_model.specs.Answers.{neededOf, endedOf}
 use Rattle.load_model.specs.Load.{Tables}
 use Rattle.larsavim.specs.Face.{saidNumbers, partNumbers, pairNumbers, neededNumbers, endedNumbers, Answers, Opens, Comments, Gets, Pairs, Needs, Loads, Walks, Leaves}
+use Rattle.larsavim.specs.Write.{Measures, Writes}
 
 -- what equals one thing is equal
 once : {A : Type 0} {x y z : A} → x ≡ z → y ≡ z → x ≡ y
@@ -53,3 +54,11 @@ walk-once T R t bytes limit out = answers-once out 3 (endedOf T R t bytes limit 
 
 pub leaves-once : (Q T R X : List ℕ) (width : ℕ) {r r′ : ℕ} → Leaves Q T R X width r → Leaves Q T R X width r′ → r ≡ r′
 leaves-once Q T R X width a b = once a b
+
+-- ---- larsavim_write_needs, larsavim_write
+
+pub write-needs-once : {d Q P T R out : List ℕ} {r r′ : ℕ} {o o′ : List ℕ} → Measures d Q P T R out r o → Measures d Q P T R out r′ o′ → (r ≡ r′) × (o ≡ o′)
+write-needs-once a b = (once (a .number) (b .number), once (a .answer) (b .answer))
+
+pub write-once : {d Q P T R b out : List ℕ} {r r′ : ℕ} {e e′ o o′ : List ℕ} → Writes d Q P T R b out r e o → Writes d Q P T R b out r′ e′ o′ → (r ≡ r′) × (e ≡ e′) × (o ≡ o′)
+write-once a b = (once (a .number) (b .number), once (a .buffer) (b .buffer), once (a .answer) (b .answer))

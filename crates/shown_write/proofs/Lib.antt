@@ -8,3 +8,4 @@ pub mod Back
 pub mod BackLines
 pub mod BackTrees
 pub mod Call
+pub mod Loads

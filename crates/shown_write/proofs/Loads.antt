@@ -1,0 +1,207 @@
+-- Tables that a load has filled are written: cut to the rows that it returned they have a text, so the call answers 0 there, or 20 for room, and never 24, 22 or 17.
+-- Assumes that the tables had room, as a load that is done has seen, and that the record table is a slice: fewer than 2^63 numbers.
+use mathlib.Core.Path.{_≡_, refl, sym, ap, ap₂, _∙_, subst}
+use mathlib.Core.Bool.{Bool, true, false, cond}
+use mathlib.Core.Logic.{_⊎_, inl, inr}
+use mathlib.Core.List.{List, [], _∷_, _++_, map, flatten}
+use Prim.Native.Nat.{ℕ, zero, suc, _+_, _-_, _*_, _/_, _^_, _≤_, _<_}
+use native.Mathlib.Decide.{decLe}
+use native.Mathlib.Omega.{arith}
+use lib.IntN.{ℤ}
+use lib.ListN.{length, getD, take, drop, length-append, length-map}
+use lib.Seq.{sets, take-all}
+use Rattle.written.specs.Bytes.{Span}
+use Rattle.written.specs.Said as said
+use Rattle.written.specs.Said.{Question, QuestionPlace}
+use Rattle.written.specs.TreeText.{Says}
+use Rattle.written.specs.Linking.{Nth, here, there, Row}
+use Rattle.written.specs.Tables.{patternRow, patternRows, questionRows}
+use Rattle.written.proofs.Walk.{no-row}
+use Rattle.written.specs.Writing.{PatternsSay, QuestionsSay, Written, Measured, Wrote, NotWritten, firstFour}
+use Rattle.written_back.proofs.Again.{layout-says, filled-writes}
+use Rattle.laws.specs.Totals.{total, largest, anyOf}
+use Rattle.laws.proofs.Tables.{part-sets}
+use Rattle.table_rows.specs.Rows as table
+use Rattle.table_rows.specs.Rows.{recordRows, rowsFrom, questionTable, patternTable, treeTable, recordTable}
+use Rattle.table_rows.proofs.Stand.{Fours, length-flat}
+use Rattle.table_rows.proofs.Fours.{fours-model, record-table, tree-table}
+use Rattle.head_record.specs.declared.Header.{Header}
+use Rattle.tree_survey.specs.Survey.{surveyAt}
+use Rattle.tree_survey.specs.Said.{saidPatterns, saidNegative, saidTreeRecords, saidTreeLines, saidSurvey}
+use Rattle.tree_survey.specs.declared.Survey.{Survey}
+use Rattle.tree_survey.specs.declared.Survey.the-variants as survey
+use Rattle.tree_survey.proofs.Said.{survey-said}
+use Rattle.load_choose.specs.declared.Which.{Which}
+use Rattle.load_plan.specs.Plans.{dataOf}
+use Rattle.load_plan.proofs.Laws.{was, needs-sound}
+use Rattle.load_model.specs.Load.{After}
+use Rattle.shown_load.specs.Stored.{Stored}
+use Rattle.write_tables.specs.declared.Answer.{Answer}
+use Rattle.write_tables.specs.Answers.{measureOf, Answered, numberOf}
+use Rattle.shown_write.proofs.Call.{Writes, measure-complete, write-complete}
+
+-- ---- rows one behind the other
+
+fours-questions : (k : ℕ) (qs : List QuestionPlace) → Fours (questionRows k qs)
+unfolding questionRows
+fours-questions k [] i r h = absurd (no-row h)
+fours-questions k (q ∷ qs) zero r here = refl
+fours-questions k (q ∷ qs) (suc i) r (there h) = fours-questions (k + length (q .patterns)) qs i r h
+
+question-table : (rows : List Row) → Fours rows → questionTable (flatten rows) ≡ rows
+unfolding questionTable recordTable
+question-table rows f = record-table rows f
+
+-- rows of four numbers are their own first four
+four-first : (rows : List Row) → Fours rows → firstFour rows ≡ rows
+four-first [] f = refl
+four-first (r ∷ rows) f = ap₂ _∷_ (take-all 4 r (omega (arith, f 0 r here))) (four-first rows (λ i x h. f (suc i) x (there h)))
+
+-- two numbers a pattern
+data Twos : List Row → Type 0 where
+  none : Twos []
+  more : {a b : ℕ} {rows : List Row} → Twos rows → Twos ((a ∷ b ∷ []) ∷ rows)
+
+twos-append : {x y : List Row} → Twos x → Twos y → Twos (x ++ y)
+twos-append Twos.none g = g
+twos-append (Twos.more f) g = Twos.more (twos-append f g)
+
+twos-spans : (ws : List Span) → Twos (map patternRow ws)
+twos-spans [] = Twos.none
+twos-spans (w ∷ ws) = Twos.more (twos-spans ws)
+
+twos-patterns : (qs : List QuestionPlace) → Twos (patternRows qs)
+unfolding patternRows
+twos-patterns [] = Twos.none
+twos-patterns (q ∷ qs) = twos-append (twos-spans (q .patterns)) (twos-patterns qs)
+
+length-twos : {rows : List Row} → Twos rows → length (flatten rows) ≡ 2 * length rows
+unfolding flatten
+length-twos Twos.none = refl
+length-twos (Twos.more f) = omega (arith, length-twos f)
+
+behind-two : (a b : ℕ) (t : List ℕ) (i n : ℕ) → rowsFrom (table.patternRow (a ∷ b ∷ t)) (suc i) n ≡ rowsFrom (table.patternRow t) i n
+unfolding rowsFrom
+behind-two a b t i zero = refl
+behind-two a b t i (suc n) =
+    let e : 2 * suc i ≡ suc (suc (2 * i)) = omega arith in
+    let f : 2 * suc i + 1 ≡ suc (suc (2 * i + 1)) = omega arith in
+    ap₂ _∷_ (ap₂ (λ (j k : ℕ). getD (a ∷ b ∷ t) j 0 ∷ getD (a ∷ b ∷ t) k 0 ∷ []) e f) (behind-two a b t (suc i) n)
+
+pattern-table : {rows : List Row} → Twos rows → patternTable (flatten rows) ≡ rows
+unfolding patternTable flatten rowsFrom
+pattern-table Twos.none = refl
+pattern-table (Twos.more {a = a} {b = b} {rows = rows} f) =
+    let e : suc (suc (length (flatten rows))) / 2 ≡ suc (length (flatten rows) / 2) = omega arith in
+    ap (rowsFrom (table.patternRow (a ∷ b ∷ flatten rows)) 0) e ∙ ap (λ (l : List Row). (a ∷ b ∷ []) ∷ l) (behind-two a b (flatten rows) 0 (length (flatten rows) / 2) ∙ pattern-table f)
+
+-- rows that stand in the front of a table are the table, cut to them
+cut : (t : List ℕ) (rows : List Row) (m : ℕ) {t₁ : List ℕ} → m ≡ length (flatten rows) → m ≤ length t → t₁ ≡ sets t 0 (flatten rows) → take m t₁ ≡ flatten rows
+cut t rows m e h u = ap₂ take e u ∙ part-sets t 0 (flatten rows) (omega arith)
+
+-- ---- how many patterns
+
+patterns-many : {d : List ℕ} {rows : List Row} {ws : List (List ℕ)} → PatternsSay d rows ws → length rows ≡ length ws
+patterns-many PatternsSay.none = refl
+patterns-many (PatternsSay.more s r) = ap suc (patterns-many r)
+
+patterns-total : {d : List ℕ} {k : ℕ} {Q P : List Row} {qs : List Question} → QuestionsSay d k Q P qs → length P ≡ total saidPatterns qs
+unfolding total
+patterns-total QuestionsSay.none = refl
+patterns-total (QuestionsSay.more {own = own} {rest = rest} s r w) = length-append own rest ∙ ap₂ _+_ (patterns-many r) (patterns-total w)
+
+questions-many : {d : List ℕ} {k : ℕ} {Q P : List Row} {qs : List Question} → QuestionsSay d k Q P qs → length Q ≡ length qs
+questions-many QuestionsSay.none = refl
+questions-many (QuestionsSay.more s r w) = ap suc (questions-many w)
+
+-- ---- a load
+
+module _ {s : List ℕ} {h : Header} {which : Which} {q a t r b v : List ℕ} {w : List ℤ} {x : After} (k : Stored s h which q a t r b v w x)
+    (room-questions : 4 * k .p .questions ≤ length q) (room-patterns : 2 * k .p .patterns ≤ length a) (room-trees : 4 * k .p .trees ≤ length t) (room-records : 4 * k .p .records ≤ length r)
+    (short : length r < 2 ^ 63) where
+  abbrev d : List ℕ
+  d = dataOf s h
+
+  said-questions : QuestionsSay d 0 (questionRows 0 (k .l .questions)) (patternRows (k .l .questions)) (k .t .questions)
+  said-questions = layout-says d (k .p .«text_end») (k .chose .says)
+
+  -- the survey counted the patterns that the text says
+  patterns-counted : k .p .patterns ≡ total saidPatterns (k .t .questions)
+  unfolding saidSurvey
+  patterns-counted =
+      go (anyOf saidNegative false (k .t .trees)) (sym (was (take (k .p .«text_end») d) (k .p .text) (needs-sound s h which (k .p) (k .chose .plan) .text) .survey) ∙ survey-said (k .chose .says))
+    where
+      C : Survey
+      C =
+          survey.Counted (length (k .t .questions)) (total saidPatterns (k .t .questions)) (length (k .t .trees)) (total saidTreeRecords (k .t .trees))
+          (largest saidTreeLines 0 (k .t .trees))
+
+      go : (c : Bool) → survey.Counted (k .p .questions) (k .p .patterns) (k .p .trees) (k .p .records) (k .p .lines) ≡ cond c survey.Negative C → k .p .patterns ≡ total saidPatterns (k .t .questions)
+      go true e = let u : _≡_ {A = ℕ} 0 1 = cc in absurd (omega arith)
+      go false e = cc
+
+  -- the tables cut to the rows that the load returned
+  abbrev Q : List ℕ
+  Q = take (4 * k .p .questions) (x .questions)
+
+  abbrev P : List ℕ
+  P = take (2 * k .p .patterns) (x .patterns)
+
+  abbrev T : List ℕ
+  T = take (4 * k .p .trees) (x .trees)
+
+  abbrev R : List ℕ
+  R = take (4 * k .p .records) (x .records)
+
+  question-rows : questionTable Q ≡ questionRows 0 (k .l .questions)
+  question-rows =
+      let f = fours-questions 0 (k .l .questions) in
+      let m : 4 * k .p .questions ≡ length (flatten (questionRows 0 (k .l .questions))) =
+          omega (arith, length-flat (questionRows 0 (k .l .questions)) f, questions-many said-questions, k .chose .questions) in
+      ap questionTable (cut q (questionRows 0 (k .l .questions)) (4 * k .p .questions) m room-questions (k .at-questions)) ∙ question-table (questionRows 0 (k .l .questions)) f
+
+  pattern-rows : patternTable P ≡ patternRows (k .l .questions)
+  pattern-rows =
+      let f = twos-patterns (k .l .questions) in
+      let m : 2 * k .p .patterns ≡ length (flatten (patternRows (k .l .questions))) = omega (arith, length-twos f, patterns-total said-questions, patterns-counted) in
+      ap patternTable (cut a (patternRows (k .l .questions)) (2 * k .p .patterns) m room-patterns (k .at-patterns)) ∙ pattern-table f
+
+  tree-rows : firstFour (treeTable T) ≡ k .tree-rows
+  tree-rows =
+      let f = fours-model (k .linked) .0 in
+      let m : 4 * k .p .trees ≡ length (flatten (k .tree-rows)) = omega (arith, length-flat (k .tree-rows) f, k .tree-count) in
+      ap (λ (l : List ℕ). firstFour (treeTable l)) (cut t (k .tree-rows) (4 * k .p .trees) m room-trees (k .at-trees)) ∙ ap firstFour (tree-table (k .tree-rows) f) ∙ four-first (k .tree-rows) f
+
+  record-cut : R ≡ flatten (k .record-rows)
+  record-cut =
+      let f = fours-model (k .linked) .1 in
+      let m : 4 * k .p .records ≡ length (flatten (k .record-rows)) = omega (arith, length-flat (k .record-rows) f, k .record-count) in
+      cut r (k .record-rows) (4 * k .p .records) m room-records (k .at-records)
+
+  record-rows : recordTable R ≡ k .record-rows
+  record-rows = ap recordTable record-cut ∙ record-table (k .record-rows) (fours-model (k .linked) .1)
+
+  -- they have a text
+  pub load-written : (w : List ℕ) × Writes d Q P T R w
+  load-written =
+      let y = filled-writes d (k .p .«text_end») (k .chose .says) (k .linked) (omega (arith, k .record-count, room-records, short)) in
+      (y .0,
+      subst (λ (l : List Row). Written d l (patternTable P) (firstFour (treeTable T)) (recordTable R) (y .0)) (sym question-rows)
+      (subst (λ (l : List Row). Written d (questionRows 0 (k .l .questions)) l (firstFour (treeTable T)) (recordTable R) (y .0)) (sym pattern-rows)
+      (subst (λ (l : List Row). Written d (questionRows 0 (k .l .questions)) (patternRows (k .l .questions)) l (recordTable R) (y .0)) (sym tree-rows)
+      (subst (λ (l : List Row). Written d (questionRows 0 (k .l .questions)) (patternRows (k .l .questions)) (k .tree-rows) l (y .0)) (sym record-rows) (y .1)))))
+
+  few : recordRows R ≤ 2 ^ 63
+  few = omega (arith, ap length record-cut, length-flat (k .record-rows) (fours-model (k .linked) .1), k .record-count, room-records, short)
+
+  -- how long it is can be told
+  pub load-measured : numberOf (measureOf d Q P T R) ≡ 0
+  load-measured = measure-complete d Q P T R few (Measured.done (load-written .1) refl) .0
+
+  -- the call writes it, or has no room
+  pub load-writes : {e f : List ℕ} {n : Answer} → Answered e d Q P T R n f → (numberOf n ≡ 0) ⊎ (numberOf n ≡ 20)
+  load-writes {e} {n = n} c = go (decLe (length (load-written .0)) (length e))
+    where
+      go : Dec (length (load-written .0) ≤ length e) → (numberOf n ≡ 0) ⊎ (numberOf n ≡ 20)
+      go (yes l) = inl (write-complete d Q P T R few e c (Wrote.done (load-written .1) l refl refl) .0)
+      go (no l) = inr (write-complete d Q P T R few e c (Wrote.refused (NotWritten.no-room (load-written .1) (omega arith)) refl) .0)
