@@ -3,19 +3,20 @@
 use mathlib.Core.Path.{_≡_, refl, sym, ap, ap₂, _∙_, subst}
 use mathlib.Core.Bool.{Bool, true, false, cond}
 use mathlib.Core.Logic.{_⊎_, inl, inr}
-use mathlib.Core.List.{List, [], _∷_, _++_, map, flatten}
+use mathlib.Core.List.{List, [], _∷_, _++_, map, flatten, zipWith}
 use Prim.Native.Nat.{ℕ, zero, suc, _+_, _-_, _*_, _/_, _^_, _≤_, _<_}
 use native.Mathlib.Decide.{decLe}
 use native.Mathlib.Omega.{arith}
-use lib.IntN.{ℤ}
 use lib.ListN.{length, getD, take, drop, length-append, length-map}
-use lib.Seq.{sets, take-all}
+use lib.Seq.{sets, take-at}
 use Rattle.written.specs.Bytes.{Span}
 use Rattle.written.specs.Said as said
 use Rattle.written.specs.Said.{Question, QuestionPlace}
 use Rattle.written.specs.TreeText.{Says}
 use Rattle.written.specs.Linking.{Nth, here, there, Row}
-use Rattle.written.specs.Tables.{patternRow, patternRows, questionRows}
+use Rattle.written.specs.Blocks as block
+use Rattle.written.specs.Tables.{patternRow, patternRows, questionRows, folded}
+use Rattle.written.proofs.Folded.{Wide, wide-rest, wide-text, wide-folded, length-folded}
 use Rattle.written.proofs.Walk.{no-row}
 use Rattle.written.specs.Writing.{PatternsSay, QuestionsSay, Written, Measured, Wrote, NotWritten, firstFour}
 use Rattle.written_back.proofs.Again.{layout-says, filled-writes}
@@ -34,7 +35,7 @@ use Rattle.tree_survey.proofs.Said.{survey-said}
 use Rattle.load_choose.specs.declared.Which.{Which}
 use Rattle.load_plan.specs.Plans.{dataOf}
 use Rattle.load_plan.proofs.Laws.{was, needs-sound}
-use Rattle.load_model.specs.Load.{After}
+use Rattle.load_model.specs.Load.{Tables, After}
 use Rattle.shown_load.specs.Stored.{Stored}
 use Rattle.write_tables.specs.declared.Answer.{Answer}
 use Rattle.write_tables.specs.Answers.{measureOf, Answered, numberOf}
@@ -52,10 +53,13 @@ question-table : (rows : List Row) → Fours rows → questionTable (flatten row
 unfolding questionTable recordTable
 question-table rows f = record-table rows f
 
--- rows of four numbers are their own first four
-four-first : (rows : List Row) → Fours rows → firstFour rows ≡ rows
-four-first [] f = refl
-four-first (r ∷ rows) f = ap₂ _∷_ (take-all 4 r (omega (arith, f 0 r here))) (four-first rows (λ i x h. f (suc i) x (there h)))
+-- of folded rows the first four numbers are what the text says
+four-first : (rows : List Row) (bs : List block.Row) → Wide 4 rows → length rows ≡ length bs → firstFour (folded rows bs) ≡ rows
+unfolding zipWith
+four-first [] [] f e = refl
+four-first [] (b ∷ bs) f e = absurd (omega arith)
+four-first (r ∷ rows) [] f e = absurd (omega arith)
+four-first (r ∷ rows) (b ∷ bs) f e = ap₂ _∷_ (take-at r (b .first ∷ b .entries ∷ []) 4 (f 0 r here)) (four-first rows bs (wide-rest f) (omega arith))
 
 -- two numbers a pattern
 data Twos : List Row → Type 0 where
@@ -116,9 +120,9 @@ questions-many (QuestionsSay.more s r w) = ap suc (questions-many w)
 
 -- ---- a load
 
-module _ {s : List ℕ} {h : Header} {which : Which} {q a t r b v : List ℕ} {w : List ℤ} {x : After} (k : Stored s h which q a t r b v w x)
-    (room-questions : 4 * k .p .questions ≤ length q) (room-patterns : 2 * k .p .patterns ≤ length a) (room-trees : 4 * k .p .trees ≤ length t) (room-records : 4 * k .p .records ≤ length r)
-    (short : length r < 2 ^ 63) where
+module _ {s : List ℕ} {h : Header} {which : Which} {L : Tables} {x : After} (k : Stored s h which L x)
+    (room-questions : 4 * k .p .questions ≤ length (L .questions)) (room-patterns : 2 * k .p .patterns ≤ length (L .patterns)) (room-trees : 6 * k .p .trees ≤ length (L .trees))
+    (room-records : 4 * k .p .records ≤ length (L .records)) (short : length (L .records) < 2 ^ 63) where
   abbrev d : List ℕ
   d = dataOf s h
 
@@ -142,44 +146,47 @@ module _ {s : List ℕ} {h : Header} {which : Which} {q a t r b v : List ℕ} {w
 
   -- the tables cut to the rows that the load returned
   abbrev Q : List ℕ
-  Q = take (4 * k .p .questions) (x .questions)
+  Q = take (4 * k .p .questions) (x .tables .questions)
 
   abbrev P : List ℕ
-  P = take (2 * k .p .patterns) (x .patterns)
+  P = take (2 * k .p .patterns) (x .tables .patterns)
 
   abbrev T : List ℕ
-  T = take (4 * k .p .trees) (x .trees)
+  T = take (6 * k .p .trees) (x .tables .trees)
 
   abbrev R : List ℕ
-  R = take (4 * k .p .records) (x .records)
+  R = take (4 * k .p .records) (x .tables .records)
 
   question-rows : questionTable Q ≡ questionRows 0 (k .l .questions)
   question-rows =
       let f = fours-questions 0 (k .l .questions) in
       let m : 4 * k .p .questions ≡ length (flatten (questionRows 0 (k .l .questions))) =
           omega (arith, length-flat (questionRows 0 (k .l .questions)) f, questions-many said-questions, k .chose .questions) in
-      ap questionTable (cut q (questionRows 0 (k .l .questions)) (4 * k .p .questions) m room-questions (k .at-questions)) ∙ question-table (questionRows 0 (k .l .questions)) f
+      ap questionTable (cut (L .questions) (questionRows 0 (k .l .questions)) (4 * k .p .questions) m room-questions (k .at-questions)) ∙ question-table (questionRows 0 (k .l .questions)) f
 
   pattern-rows : patternTable P ≡ patternRows (k .l .questions)
   pattern-rows =
       let f = twos-patterns (k .l .questions) in
       let m : 2 * k .p .patterns ≡ length (flatten (patternRows (k .l .questions))) = omega (arith, length-twos f, patterns-total said-questions, patterns-counted) in
-      ap patternTable (cut a (patternRows (k .l .questions)) (2 * k .p .patterns) m room-patterns (k .at-patterns)) ∙ pattern-table f
+      ap patternTable (cut (L .patterns) (patternRows (k .l .questions)) (2 * k .p .patterns) m room-patterns (k .at-patterns)) ∙ pattern-table f
 
   tree-rows : firstFour (treeTable T) ≡ k .tree-rows
   tree-rows =
-      let f = fours-model (k .linked) .0 in
-      let m : 4 * k .p .trees ≡ length (flatten (k .tree-rows)) = omega (arith, length-flat (k .tree-rows) f, k .tree-count) in
-      ap (λ (l : List ℕ). firstFour (treeTable l)) (cut t (k .tree-rows) (4 * k .p .trees) m room-trees (k .at-trees)) ∙ ap firstFour (tree-table (k .tree-rows) f) ∙ four-first (k .tree-rows) f
+      let F = folded (k .tree-rows) (k .block-rows) in
+      let f = wide-folded (k .tree-rows) (k .block-rows) (wide-text (k .linked)) in
+      let m : 6 * k .p .trees ≡ length (flatten F) =
+      ap (λ (n : ℕ). 6 * n) (k .tree-count ∙ sym (length-folded (k .tree-rows) (k .block-rows) (sym (k .block-count)))) ∙ sym (length-flat F f) in
+      ap (λ (l : List ℕ). firstFour (treeTable l)) (cut (L .trees) F (6 * k .p .trees) m room-trees (k .at-trees)) ∙ ap firstFour (tree-table F f)
+      ∙ four-first (k .tree-rows) (k .block-rows) (wide-text (k .linked)) (sym (k .block-count))
 
   record-cut : R ≡ flatten (k .record-rows)
   record-cut =
-      let f = fours-model (k .linked) .1 in
+      let f = fours-model (k .linked) in
       let m : 4 * k .p .records ≡ length (flatten (k .record-rows)) = omega (arith, length-flat (k .record-rows) f, k .record-count) in
-      cut r (k .record-rows) (4 * k .p .records) m room-records (k .at-records)
+      cut (L .records) (k .record-rows) (4 * k .p .records) m room-records (k .at-records)
 
   record-rows : recordTable R ≡ k .record-rows
-  record-rows = ap recordTable record-cut ∙ record-table (k .record-rows) (fours-model (k .linked) .1)
+  record-rows = ap recordTable record-cut ∙ record-table (k .record-rows) (fours-model (k .linked))
 
   -- they have a text
   pub load-written : (w : List ℕ) × Writes d Q P T R w
@@ -192,7 +199,7 @@ module _ {s : List ℕ} {h : Header} {which : Which} {q a t r b v : List ℕ} {w
       (subst (λ (l : List Row). Written d (questionRows 0 (k .l .questions)) (patternRows (k .l .questions)) (k .tree-rows) l (y .0)) (sym record-rows) (y .1)))))
 
   few : recordRows R ≤ 2 ^ 63
-  few = omega (arith, ap length record-cut, length-flat (k .record-rows) (fours-model (k .linked) .1), k .record-count, room-records, short)
+  few = omega (arith, ap length record-cut, length-flat (k .record-rows) (fours-model (k .linked)), k .record-count, room-records, short)
 
   -- how long it is can be told
   pub load-measured : numberOf (measureOf d Q P T R) ≡ 0
