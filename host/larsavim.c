@@ -11,6 +11,7 @@ static const char usage[] =
     "       larsavim sentence FILE MODEL ANSWERS           the walks of a sentence in one call: lines TREE LIMIT START on standard input\n"
     "       larsavim answers FILE MODEL LABEL              the answers of a model's questions to a label, as walk takes them\n"
     "       larsavim say FILE LABEL                        where a label leads in every tree of every model\n"
+    "       larsavim depth FILE [MODEL]                    how many questions a walk of each tree can ask, whatever the answers\n"
     "       larsavim dump FILE                             everything, one fact a line, for comparing\n"
     "       larsavim hex                                   the dump of each line of hex on standard input, then END\n"
     "       larsavim demo FILE                             a voice in which two lines bear one id, and which of them wins\n"
@@ -39,6 +40,8 @@ static int run(const char *verb, int n, char **words) {
         return n == 3 ? answers(words) : wrong("answers takes FILE MODEL LABEL", NULL);
     if (strcmp(verb, "say") == 0)
         return n == 2 ? say(words) : wrong("say takes FILE LABEL", NULL);
+    if (strcmp(verb, "depth") == 0)
+        return n == 1 || n == 2 ? depth(n, words) : wrong("depth takes FILE and perhaps MODEL", NULL);
     if (strcmp(verb, "dump") == 0)
         return n == 1 ? dump(words[0]) : wrong("dump takes one FILE", NULL);
     if (strcmp(verb, "hex") == 0)

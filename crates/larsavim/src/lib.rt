@@ -14,6 +14,7 @@ use face_open::pair_said;
 use label_answers::answers_said;
 use table_put::put2;
 use table_put::put4;
+use walk_depth::depth_said;
 use walk_leaves::leaves_fit;
 ghost use mathlib.Core.Path.{_≡_};
 ghost use mathlib.Core.List.{[], _∷_};
@@ -28,6 +29,7 @@ ghost use Rattle.face_model.specs.Answers.{neededOf, endedOf};
 ghost use Rattle.face_jobs.specs.Done.{jobsDone};
 ghost use Rattle.face_load.specs.Answers.{filledOf};
 ghost use Rattle.larsavim.specs.Face.{answered, written, left, saidNumbers, partNumbers, pairNumbers, neededNumbers, rowsNumbers, endedNumbers};
+ghost use Rattle.larsavim.specs.Depths.{DepthTells};
 
 // 20: a lent slice is too short.
 const ROOM: u64 = 20;
@@ -46,6 +48,8 @@ const NEEDS_OUT: usize = 11;
 const LOAD_OUT: usize = 9;
 
 const WALK_OUT: usize = 3;
+
+const DEPTH_OUT: usize = 3;
 
 // Three numbers to the front.
 fn put3(out: &mut [u64], a: u64, b: u64, c: u64)
@@ -270,4 +274,23 @@ pub extern "C" fn larsavim_answers(
     ensures { λ r. ⌜ Answering (now (label .entry)) (now (questions .entry)) (now (patterns .entry)) (now («data» .entry)) (now (answers .entry)) r (now (answers .exit)) ⌝ }
 {
     answers_said(label, questions, patterns, data, answers)
+}
+
+// How many questions a walk of one tree can ask.
+#[no_mangle]
+pub extern "C" fn larsavim_depth(
+    trees: &[u64],
+    records: &[u64],
+    tree: u64,
+    work: &mut [i64],
+    out: &mut [u64],
+) -> u64
+    ensures { λ r. ⌜ DepthTells (now (trees .entry)) (now (records .entry)) tree (now (work .entry)) (now (out .entry)) r (now (work .exit)) (now (out .exit)) ⌝ }
+{
+    if out.len() < DEPTH_OUT {
+        return ROOM;
+    }
+    let depth = depth_said(trees, records, tree, work);
+    put3(out, depth.number, depth.answer, depth.questions);
+    depth.number
 }
