@@ -1,9 +1,11 @@
-"""What bench/time and bench/size share: building, the machine in words, tables, and where they are recorded."""
+"""What the programs of bench/ share: building, the machine in words, tables, and where they are recorded."""
 import os
 import re
 import shutil
 import subprocess
 import sys
+
+import elf
 
 HERE = os.path.dirname(os.path.abspath(__file__))
 ROOT = os.path.dirname(HERE)
@@ -77,6 +79,35 @@ def table(head, rows):
     """A table of Markdown, numbers to the right."""
     out = ['| %s |' % ' | '.join(head), '|---|%s' % ('---:|' * (len(head) - 1))]
     return '\n'.join(out + ['| %s |' % ' | '.join(map(str, r)) for r in rows]) + '\n'
+
+
+def said(program, *words):
+    """What a program printed: lines of a name and numbers."""
+    return {w[0]: list(map(int, w[1:])) for w in (line.split() for line in output(program, *map(str, words)).splitlines())}
+
+
+TARGETS = [('x86-64', 'x86_64-unknown-linux-gnu'), ('aarch64', 'aarch64-unknown-linux-gnu'), ('riscv64', 'riscv64-unknown-elf')]
+
+
+def reached(o, call):
+    """What a call calls, and these, and so on."""
+    calls, seen, todo = o.calls(), set(), [call]
+    while todo:
+        n = todo.pop()
+        if n in o.functions and n not in seen:
+            seen.add(n)
+            todo += calls.get(n, [])
+    return seen
+
+
+def alone(call):
+    """Code and stack of one call, in every build."""
+    rows = []
+    for name, triple in TARGETS:
+        for level in '-Os', '-O3':
+            o = elf.Object(elf.objects(built(level, triple))[0])
+            rows.append(['%s, %s' % (name, level), format(sum(o.functions[n]['size'] for n in reached(o, call)), ','), format(o.deepest(call)[0], ',')])
+    return '**The call alone**: bytes of code of all that it reaches, and of stack by frames.\n\n' + table(['build', 'code', 'stack'], rows)
 
 
 def goals(said):

@@ -152,6 +152,9 @@ void walk_jobs_model(const struct model *m, struct bytes answers, struct larsavi
 /* The answer bytes of a loaded model's questions to a label, lent; the library's number. */
 uint64_t answer_model(const struct voice *v, const struct model *m, struct bytes label, struct bytes *answers);
 
+/* How many questions a walk of a loaded tree can ask; out: number, 1 or 0, questions. The work is seen to be zero afterwards. */
+void depth_model(const struct model *m, uint64_t tree, uint64_t out[LARSAVIM_DEPTH_OUT]);
+
 /* ---- tree text, read again for messages (treetext.c) -------------------------------------------------------------------------- */
 
 /* Only texts in the grammar are read: the library has said so before. Any other bytes give some answer, and harm nothing. */
@@ -248,5 +251,7 @@ int save(char **words);             /* save.c */
 int demo(const char *path);         /* demo.c */
 int answers(char **words);          /* label.c */
 int say(char **words);              /* label.c */
+int depth(int n, char **words);     /* depth.c */
+void show_depth(const struct model *m); /* depth.c: of `inspect` */
 
 #endif

@@ -112,6 +112,7 @@ static int show_model(const struct voice *v, uint64_t which, struct memory *sum)
         show_sizes(&m, sum);
         good = leaves_fit(&m);
         puts(good ? "    leaf check: passed" : "    leaf check: FAILED, a leaf's number is 0 or past the entries of its tree");
+        show_depth(&m);
     }
     free_model(&m);
     return good;

@@ -13,6 +13,7 @@ static const char usage[] =
     "       larsavim say FILE LABEL                        where a label leads in every tree of every model\n"
     "       larsavim write FILE MODEL                      the tree text of a model, out of its tables: one id a line, blanks made even\n"
     "       larsavim save FILE OUT                         the voice with every tree text so written, in another file\n"
+    "       larsavim depth FILE [MODEL]                    how many questions a walk of each tree can ask, whatever the answers\n"
     "       larsavim dump FILE                             everything, one fact a line, for comparing\n"
     "       larsavim hex                                   the dump of each line of hex on standard input, then END\n"
     "       larsavim demo FILE                             a voice in which two lines bear one id, and which of them wins\n"
@@ -45,6 +46,8 @@ static int run(const char *verb, int n, char **words) {
         return n == 2 ? write_text(words) : wrong("write takes FILE MODEL", NULL);
     if (strcmp(verb, "save") == 0)
         return n == 2 ? save(words) : wrong("save takes FILE OUT", NULL);
+    if (strcmp(verb, "depth") == 0)
+        return n == 1 || n == 2 ? depth(n, words) : wrong("depth takes FILE and perhaps MODEL", NULL);
     if (strcmp(verb, "dump") == 0)
         return n == 1 ? dump(words[0]) : wrong("dump takes one FILE", NULL);
     if (strcmp(verb, "hex") == 0)

@@ -6,8 +6,9 @@
  *   1. each pointer is good for its length: that many bytes, 8-byte numbers or jobs can be read there (and written, where the parameter
  *      is not const), at an address that suits their type, and nobody else writes them until the call returns. A length of 0 asks
  *      nothing of its pointer, which may be null;
- *   2. nothing that is lent for writing (`words` of larsavim_open, the tables and the work of larsavim_load, the answers of
- *      larsavim_answers, the jobs, the buffer of larsavim_write, every `out`) overlaps another slice of the same call.
+ *   2. nothing that is lent for writing (`words` of larsavim_open, the tables and the work of larsavim_load, the work of
+ *      larsavim_depth, the answers of larsavim_answers, the jobs, the buffer of larsavim_write, every `out`) overlaps another slice
+ *      of the same call.
  *
  * Numbers are 64 bits wide; a slice is a pointer and, behind it, how many bytes, numbers or jobs it has. No call keeps a pointer.
  * 01 is docs/01-scope.md, whose words are used here; docs/INTEGRATION.md shows the calls at work.
@@ -79,6 +80,7 @@ extern "C" {
 #define LARSAVIM_WALK_OUT 3     /* number, PDF number, questions asked */
 #define LARSAVIM_WRITE_NEEDS_OUT 2 /* number, length */
 #define LARSAVIM_WRITE_OUT 2    /* number, length */
+#define LARSAVIM_DEPTH_OUT 3    /* number, 1 or 0, questions */
 
 /* ---- Opening -------------------------------------------------------------------------------------------------------------------
  * The header record crosses as words: LARSAVIM_WORDS numbers that an opening writes and later calls take back. Words that no
@@ -178,6 +180,7 @@ uint64_t larsavim_pair(const uint64_t *words, uint64_t words_len, uint64_t field
 #define LARSAVIM_TREE_ROW 6
 #define LARSAVIM_RECORD_ROW 4
 #define LARSAVIM_WORK_A_LINE 6  /* numbers of work for each line of the longest tree */
+#define LARSAVIM_WORK_A_RECORD 4 /* numbers of work of larsavim_depth for each record of the tree */
 
 /* What a model needs, without tables. out: number (0, 12 to 19, 20), place, line, then rows of questions, patterns, trees and
  * records, values, numbers of work, and the width (values in an entry). Refused: all but the number are 0. */
@@ -208,6 +211,14 @@ uint64_t larsavim_answers(const uint8_t *label, uint64_t label_len, const uint64
  * inside the tree's records and the table, kind, answer byte (24), then the limit (25). */
 uint64_t larsavim_walk(const uint64_t *trees, uint64_t trees_len, const uint64_t *records, uint64_t records_len, uint64_t tree,
                        const uint8_t *answers, uint64_t answers_len, uint64_t limit, uint64_t *out, uint64_t out_len);
+
+/* How many questions a walk of one tree can ask, whatever the answers. out: number (0, 20, 24), 1 or 0, questions. 1: no path of references from the first record
+ * meets a record twice, each branch taken freely, and `questions` is the greatest number of questions on any path; no walk of the tree asks more, and with a limit of
+ * that many none is ended by it (25). 0: some path does, and only the limit ends a walk that goes round; `questions` is 0. Order: 20 for `out`, then 20 where the
+ * work has fewer than LARSAVIM_WORK_A_RECORD numbers for each record of the tree's row, then 24 as in larsavim_walk, answers aside, of any record that a path can meet. The
+ * work may hold anything before; afterwards it is zero over its whole length, but unchanged after 20. */
+uint64_t larsavim_depth(const uint64_t *trees, uint64_t trees_len, const uint64_t *records, uint64_t records_len, uint64_t tree, int64_t *work,
+                        uint64_t work_len, uint64_t *out, uint64_t out_len);
 
 /* One walk of a sentence. larsavim_walk_jobs fills number, pdf and asked; tree, limit and start stay. */
 struct larsavim_job {

@@ -133,3 +133,14 @@ struct bytes write_model(const struct model *m, struct bytes data) {
     text.len = needed;
     return text;
 }
+
+void depth_model(const struct model *m, uint64_t tree, uint64_t out[LARSAVIM_DEPTH_OUT]) {
+    uint64_t numbers, *told = answer_slice(LARSAVIM_DEPTH_OUT);
+    int64_t *work = lend_rows(row_of(m, TREES, tree)[2], LARSAVIM_WORK_A_RECORD, &numbers);
+    larsavim_depth(m->table[TREES], used(m, TREES), m->table[RECORDS], used(m, RECORDS), tree, work, numbers, told, LARSAVIM_DEPTH_OUT);
+    memcpy(out, told, 8 * LARSAVIM_DEPTH_OUT);
+    for (uint64_t i = 0; i < numbers; i++)
+        if (work[i] != 0)
+            stop("the library left something in its work");
+    give_back(work, 8 * numbers);
+}

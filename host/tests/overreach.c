@@ -29,6 +29,7 @@ __typeof__(larsavim_walk) __real_larsavim_walk, __wrap_larsavim_walk;
 __typeof__(larsavim_walk_jobs) __real_larsavim_walk_jobs, __wrap_larsavim_walk_jobs;
 __typeof__(larsavim_leaves) __real_larsavim_leaves, __wrap_larsavim_leaves;
 __typeof__(larsavim_answers) __real_larsavim_answers, __wrap_larsavim_answers;
+__typeof__(larsavim_depth) __real_larsavim_depth, __wrap_larsavim_depth;
 
 uint64_t __wrap_larsavim_open(const uint8_t *file, uint64_t file_len, uint64_t *words, uint64_t words_len, uint64_t *out, uint64_t out_len) {
     uint64_t number = __real_larsavim_open(file, file_len, words, words_len, out, out_len);
@@ -121,5 +122,15 @@ uint64_t __wrap_larsavim_answers(const uint8_t *label, uint64_t label_len, const
     touch("answers.patterns", patterns, 8 * patterns_len);
     touch("answers.data", data, data_len);
     touch("answers.answers", answers, answers_len);
+    return number;
+}
+
+uint64_t __wrap_larsavim_depth(const uint64_t *trees, uint64_t trees_len, const uint64_t *records, uint64_t records_len, uint64_t tree, int64_t *work, uint64_t work_len, uint64_t *out,
+                               uint64_t out_len) {
+    uint64_t number = __real_larsavim_depth(trees, trees_len, records, records_len, tree, work, work_len, out, out_len);
+    touch("depth.trees", trees, 8 * trees_len);
+    touch("depth.records", records, 8 * records_len);
+    touch("depth.work", work, 8 * work_len);
+    touch("depth.out", out, 8 * out_len);
     return number;
 }

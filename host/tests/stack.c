@@ -12,7 +12,7 @@
 #define STACK (1024 * 1024)
 #define PAINT 0xa5
 
-enum { CALLS = 6 };
+enum { CALLS = 7 };
 /* The tables, and where the answer of larsavim_needs has their rows, the work and the width. */
 enum { TABLES = 5, ROWS = 3, WORK = ROWS + TABLES, WIDTH };
 
@@ -27,6 +27,7 @@ static uint64_t file_len, words[LARSAVIM_WORDS], which, out[LARSAVIM_NEEDS_OUT],
 static int64_t *work;
 static const uint64_t width[TABLES] = {LARSAVIM_QUESTION_ROW, LARSAVIM_PATTERN_ROW, LARSAVIM_TREE_ROW, LARSAVIM_RECORD_ROW, 1};
 static uint8_t answers[LARSAVIM_FILE_LIMIT];
+static int64_t depths[LARSAVIM_FILE_LIMIT / 8];
 
 static void call_open(void) { larsavim_open(file, file_len, words, LARSAVIM_WORDS, out, LARSAVIM_OPEN_OUT); }
 static void call_needs(void) { larsavim_needs(file, file_len, words, LARSAVIM_WORDS, which, needs, LARSAVIM_NEEDS_OUT); }
@@ -42,6 +43,10 @@ static void call_leaves(void) {
 static void call_answers(void) {
     static const uint8_t label[] = "sh^i-ch+i=sil";
     larsavim_answers(label, sizeof label - 1, table[0], lent[0], table[1], lent[1], file + words[LARSAVIM_DATA_START], words[LARSAVIM_DATA_LEN], answers, sizeof answers);
+}
+
+static void call_depth(void) {
+    larsavim_depth(table[2], lent[2], table[3], lent[3], 0, depths, sizeof depths / 8, out, LARSAVIM_DEPTH_OUT);
 }
 
 static void on_painted_stack(void) {
@@ -88,6 +93,7 @@ static void measure_model(uint64_t most[CALLS]) {
         keep_most(&most[3], stack_of(call_walk));
         keep_most(&most[4], stack_of(call_leaves));
         keep_most(&most[5], stack_of(call_answers));
+        keep_most(&most[6], stack_of(call_depth));
     }
     for (int t = 0; t < TABLES; t++)
         free(table[t]);
@@ -108,7 +114,7 @@ static void measure_file(const char *path, uint64_t most[CALLS]) {
 }
 
 int main(int argc, char **argv) {
-    static const char *const name[CALLS] = {"open", "needs", "load", "walk", "leaves", "answers"};
+    static const char *const name[CALLS] = {"open", "needs", "load", "walk", "leaves", "answers", "depth"};
     uint64_t most[CALLS] = {0};
     stack = malloc(STACK);
     if (stack == NULL)

@@ -1,3 +1,4 @@
 pub mod Laws
 pub mod Determined
 pub mod Partly
+pub mod Depths

@@ -16,6 +16,7 @@ use face_write::length_said;
 use face_write::write_said;
 use table_put::put2;
 use table_put::put4;
+use walk_depth::depth_said;
 use walk_leaves::leaves_fit;
 ghost use mathlib.Core.Path.{_≡_};
 ghost use mathlib.Core.List.{[], _∷_};
@@ -27,6 +28,7 @@ ghost use Rattle.face_jobs.specs.Done.{jobsDone};
 ghost use Rattle.load_model.specs.Load.{lent};
 ghost use Rattle.larsavim.specs.Face.{rowsNumbers, neededNumbers, Opens, Comments, Gets, Pairs, Needs, Loads, Walks, Leaves};
 ghost use Rattle.larsavim.specs.Write.{Measures, Writes};
+ghost use Rattle.larsavim.specs.Depths.{DepthTells};
 
 // 20: a lent slice is too short.
 const ROOM: u64 = 20;
@@ -49,6 +51,8 @@ const WALK_OUT: usize = 3;
 const WRITE_NEEDS_OUT: usize = 2;
 
 const WRITE_OUT: usize = 2;
+
+const DEPTH_OUT: usize = 3;
 
 // Three numbers to the front.
 fn put3(out: &mut [u64], a: u64, b: u64, c: u64)
@@ -303,4 +307,23 @@ pub extern "C" fn larsavim_write(
     let wrote = write_said(buffer, data, questions, patterns, trees, records);
     put2(out, 0, wrote.number, wrote.len);
     wrote.number
+}
+
+// How many questions a walk of one tree can ask.
+#[no_mangle]
+pub extern "C" fn larsavim_depth(
+    trees: &[u64],
+    records: &[u64],
+    tree: u64,
+    work: &mut [i64],
+    out: &mut [u64],
+) -> u64
+    ensures { λ r. ⌜ DepthTells (now (trees .entry)) (now (records .entry)) tree (now (work .entry)) (now (out .entry)) r (now (work .exit)) (now (out .exit)) ⌝ }
+{
+    if out.len() < DEPTH_OUT {
+        return ROOM;
+    }
+    let depth = depth_said(trees, records, tree, work);
+    put3(out, depth.number, depth.answer, depth.questions);
+    depth.number
 }

@@ -14,6 +14,7 @@ use Rattle.written.specs.Linking.{Row}
 use Rattle.written.specs.Depths as depths
 use Rattle.written.specs.Depths.{DepthSaid, TreeDepth}
 use Rattle.written.proofs.Deepest.{depth-deep}
+use Rattle.written.proofs.Paths.{tree-depth-once}
 use Rattle.table_rows.specs.Rows.{treeThere, treeFirst, treeRecords, treeTable, recordTable}
 use Rattle.table_rows.proofs.Stand.{tree-there, tree-missing}
 use Rattle.walk_reach.specs.Seeing.{treeRecordsOf}
@@ -96,3 +97,15 @@ module _ (T R : List ℕ) (t : ℕ) {w : List ℤ} where
             (subst (λ (m : ℕ). judgedAs (treeRecordsOf R m (treeRecords T t)) r) f (subst (λ (m : ℕ). judgedAs (treeRecordsOf R first m) r) c j));
         work = z ∙ work-zero w (r .number) (never-20 j);
       }
+
+-- ---- what is promised fixes the answer and the work
+
+-- the three numbers back
+fromSaid : DepthSaid → Depth
+fromSaid x = record { number = x .number; answer = x .answer; questions = x .questions }
+
+pub says-once : {T R : List ℕ} {t : ℕ} {w w₁ w₂ : List ℤ} {r s : Depth} → DepthSays T R t w r w₁ → DepthSays T R t w s w₂ → (r ≡ s) × (w₁ ≡ w₂)
+unfolding fromSaid
+says-once {w = w} {r = r} {s = s} x y =
+    let e : r ≡ s = ap fromSaid (tree-depth-once (x .answered) (y .answered)) in
+    (e, x .work ∙ ap (λ (d : Depth). workAfter w (d .number)) e ∙ sym (y .work))
