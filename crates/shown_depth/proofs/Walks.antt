@@ -39,9 +39,9 @@ module _ (T R : List ℕ) (t : ℕ) where
   recordsOfTree = treeRecordsOf R (treeFirst T t) (treeRecords T t)
 
   -- what a row of the tree table says of its records
-  row-says : {s f c l : ℕ} → Nth (treeTable T) t (s ∷ f ∷ c ∷ l ∷ []) → (f ≡ treeFirst T t) × (c ≡ treeRecords T t)
+  row-says : {s f c l v e : ℕ} → Nth (treeTable T) t (s ∷ f ∷ c ∷ l ∷ v ∷ e ∷ []) → (f ≡ treeFirst T t) × (c ≡ treeRecords T t)
   unfolding treeTable
-  row-says {s} {f} {c} {l} h = let e : s ∷ f ∷ c ∷ l ∷ [] ≡ treeRow T t = row-of (treeRow T) (treeRows T) h .1 in (cc, cc)
+  row-says {s} {f} {c} {l} {v} {e} h = let q : s ∷ f ∷ c ∷ l ∷ v ∷ e ∷ [] ≡ treeRow T t = row-of (treeRow T) (treeRows T) h .1 in (cc, cc)
 
   -- a yes is told of the records of a tree that is there
   depth-of : {w : ℕ} {x : DepthSaid} → TreeDepth (treeTable T) (recordTable R) w t x → x .answer ≡ 1 → depths.Depth recordsOfTree (deep (x .questions))

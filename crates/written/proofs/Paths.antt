@@ -91,7 +91,7 @@ module _ {rows : List Row} where
   depth-once (Depth.deepest {j = j} {d = d} f r p all) (Depth.deepest {j = i} {d = e} g s q every) =
       let z : d ≡ e = omega (arith, all i e q, every j d p) in ap deep z
 
-same-row : {a b c d e f g h : ℕ} → a ∷ b ∷ c ∷ d ∷ [] ≡ e ∷ f ∷ g ∷ h ∷ [] → (b ≡ f) × (c ≡ g)
+same-row : {a b c d v w e f g h x y : ℕ} → a ∷ b ∷ c ∷ d ∷ v ∷ w ∷ [] ≡ e ∷ f ∷ g ∷ h ∷ x ∷ y ∷ [] → (b ≡ f) × (c ≡ g)
 same-row e = (cc, cc)
 
 pub tree-depth-once : {trees records : List Row} {work t : ℕ} {x y : DepthSaid} → TreeDepth trees records work t x → TreeDepth trees records work t y → x ≡ y

@@ -54,6 +54,6 @@ module _ (rows : List Row) where
 -- tree t of the tables, with so many numbers of work: four a record of its row, before its records are looked at
 pub data TreeDepth (trees records : List Row) (work : ℕ) : ℕ → DepthSaid → Type 0 where
   missing : {t : ℕ} → ((r : Row) → ¬ Nth trees t r) → TreeDepth trees records work t (refusedBy 24)
-  short : {t state first count lines : ℕ} → Nth trees t (state ∷ first ∷ count ∷ lines ∷ []) → work < 4 * count → TreeDepth trees records work t (refusedBy 20)
-  there : {t state first count lines : ℕ} {x : DepthSaid}
-      → Nth trees t (state ∷ first ∷ count ∷ lines ∷ []) → 4 * count ≤ work → Depth (take count (drop first records)) x → TreeDepth trees records work t x
+  short : {t state first count lines value entries : ℕ} → Nth trees t (state ∷ first ∷ count ∷ lines ∷ value ∷ entries ∷ []) → work < 4 * count → TreeDepth trees records work t (refusedBy 20)
+  there : {t state first count lines value entries : ℕ} {x : DepthSaid}
+      → Nth trees t (state ∷ first ∷ count ∷ lines ∷ value ∷ entries ∷ []) → 4 * count ≤ work → Depth (take count (drop first records)) x → TreeDepth trees records work t x
