@@ -101,17 +101,17 @@ module _ {s : List ℕ} {h : record-of.Header} {m : models.Model} {p : Plan} (k 
   pub there-room : room? ≡ true → Room (said k) t
   unfolding roomFor
   there-room e =
-      let a = parts (leb (p .questions) (length (t .questions) / 4)) _ e in
-      let b = parts (leb (p .patterns) (length (t .patterns) / 2)) _ (a .1) in
-      let c = parts (leb (p .trees) (length (t .trees) / 6)) _ (b .1) in
-      let d = parts (leb (p .records) (length (t .records) / 4)) _ (c .1) in
-      let f = parts (leb (p .entries * p .width) (length (t .values))) _ (d .1) in
+      let f = parts _ (leb (p .lines) (length (t .work) / 6)) e in
+      let v = parts _ (leb (p .entries * p .width) (length (t .values))) (f .0) in
+      let d = parts _ (leb (p .records) (length (t .records) / 4)) (v .0) in
+      let c = parts _ (leb (p .trees) (length (t .trees) / 6)) (d .0) in
+      let b = parts (leb (p .questions) (length (t .questions) / 4)) (leb (p .patterns) (length (t .patterns) / 2)) (c .0) in
       record {
-        questions = subst (λ (n : ℕ). n ≤ length (t .questions) / 4) (k .questions) (leb-true _ _ (a .0));
-        patterns = subst (λ (n : ℕ). n ≤ length (t .patterns) / 2) (k .patterns) (leb-true _ _ (b .0));
-        trees = subst (λ (n : ℕ). n ≤ length (t .trees) / 6) (k .trees) (leb-true _ _ (c .0));
-        records = subst (λ (n : ℕ). n ≤ length (t .records) / 4) (k .records) (leb-true _ _ (d .0));
-        values = subst (λ (n : ℕ). n ≤ length (t .values)) (k .entries) (leb-true _ _ (f .0));
+        questions = subst (λ (n : ℕ). n ≤ length (t .questions) / 4) (k .questions) (leb-true _ _ (b .0));
+        patterns = subst (λ (n : ℕ). n ≤ length (t .patterns) / 2) (k .patterns) (leb-true _ _ (b .1));
+        trees = subst (λ (n : ℕ). n ≤ length (t .trees) / 6) (k .trees) (leb-true _ _ (c .1));
+        records = subst (λ (n : ℕ). n ≤ length (t .records) / 4) (k .records) (leb-true _ _ (d .1));
+        values = subst (λ (n : ℕ). n ≤ length (t .values)) (k .entries) (leb-true _ _ (v .1));
         work = subst (λ (n : ℕ). n ≤ length (t .work) / 6) (k .lines) (leb-true _ _ (f .1));
       }
 

@@ -1,12 +1,14 @@
 -- Tables that a load has filled are written: cut to the rows that it returned they have a text, so the call answers 0 there, or 20 for room, and never 24, 22 or 17.
 -- Assumes that the tables had room, as a load that is done has seen, and that the record table is a slice: fewer than 2^63 numbers.
 use mathlib.Core.Path.{_≡_, refl, sym, ap, ap₂, _∙_, subst}
-use mathlib.Core.Bool.{Bool, true, false, cond}
+use mathlib.Core.Bool.{Bool, true, false, cond, _&&_}
 use mathlib.Core.Logic.{_⊎_, inl, inr}
 use mathlib.Core.List.{List, [], _∷_, _++_, map, flatten, zipWith}
 use Prim.Native.Nat.{ℕ, zero, suc, _+_, _-_, _*_, _/_, _^_, _≤_, _<_}
 use native.Mathlib.Decide.{decLe}
 use native.Mathlib.Omega.{arith}
+use borrow.Author.Tests.{leb-true}
+use lib.Dec.{leb}
 use lib.ListN.{length, getD, take, drop, length-append, length-map}
 use lib.Seq.{sets, take-at}
 use Rattle.written.specs.Bytes.{Span}
@@ -21,6 +23,7 @@ use Rattle.written.proofs.Walk.{no-row}
 use Rattle.written.specs.Writing.{PatternsSay, QuestionsSay, Written, Measured, Wrote, NotWritten, firstFour}
 use Rattle.written_back.proofs.Again.{layout-says, filled-writes}
 use Rattle.laws.specs.Totals.{total, largest, anyOf}
+use Rattle.laws.proofs.Every.{first-of, second-of}
 use Rattle.laws.proofs.Tables.{part-sets}
 use Rattle.table_rows.specs.Rows as table
 use Rattle.table_rows.specs.Rows.{recordRows, rowsFrom, questionTable, patternTable, treeTable, recordTable}
@@ -33,10 +36,16 @@ use Rattle.tree_survey.specs.declared.Survey.{Survey}
 use Rattle.tree_survey.specs.declared.Survey.the-variants as survey
 use Rattle.tree_survey.proofs.Said.{survey-said}
 use Rattle.load_choose.specs.declared.Which.{Which}
-use Rattle.load_plan.specs.Plans.{dataOf}
+use Rattle.pdf_blocks.proofs.Joined.{Small}
+use Rattle.load_plan.specs.Plans.{dataOf, planned}
+use Rattle.load_plan.specs.declared.Plan.{Plan}
+use Rattle.load_plan.specs.declared.Planned.the-variants.{Model}
 use Rattle.load_plan.proofs.Laws.{was, needs-sound}
-use Rattle.load_model.specs.Load.{Tables, After}
+use Rattle.load_model.specs.Load.{Tables, After, roomFor, roomIn, loadOf}
+use Rattle.load_model.specs.declared.Loaded.the-variants.{Done}
 use Rattle.shown_load.specs.Stored.{Stored}
+use Rattle.shown_load.proofs.Numbers.{Way, kept, written, way}
+use Rattle.shown_load.proofs.Says.{load-stored}
 use Rattle.write_tables.specs.declared.Answer.{Answer}
 use Rattle.write_tables.specs.Answers.{measureOf, Answered, numberOf}
 use Rattle.shown_write.proofs.Call.{Writes, measure-complete, write-complete}
@@ -212,3 +221,59 @@ module _ {s : List ℕ} {h : Header} {which : Which} {L : Tables} {x : After} (k
       go : Dec (length (load-written .0) ≤ length e) → (numberOf n ≡ 0) ⊎ (numberOf n ≡ 20)
       go (yes l) = inl (write-complete d Q P T R few e c (Wrote.done (load-written .1) l refl refl) .0)
       go (no l) = inr (write-complete d Q P T R few e c (Wrote.refused (NotWritten.no-room (load-written .1) (omega arith)) refl) .0)
+
+-- ---- every load
+
+module _ (s : List ℕ) (h : Header) (which : Which) (L : Tables) where
+  -- a load that is done had room for its plan
+  record Room (p : Plan) : Type 0 where
+    for-questions : 4 * p .questions ≤ length (L .questions)
+    for-patterns : 2 * p .patterns ≤ length (L .patterns)
+    for-trees : 6 * p .trees ≤ length (L .trees)
+    for-records : 4 * p .records ≤ length (L .records)
+
+  rooms : (p : Plan) → roomIn p L ≡ true → Room p
+  unfolding roomFor
+  rooms p e =
+      let a = leb (p .questions) (length (L .questions) / 4) in
+      let b = leb (p .patterns) (length (L .patterns) / 2) in
+      let c = leb (p .trees) (length (L .trees) / 6) in
+      let d = leb (p .records) (length (L .records) / 4) in
+      let four = first-of (a && b && c && d) _ (first-of _ _ e) in
+      let three = first-of (a && b && c) d four in
+      let two = first-of (a && b) c three in
+      record {
+        for-questions = omega (arith, leb-true (p .questions) (length (L .questions) / 4) (first-of a b two));
+        for-patterns = omega (arith, leb-true (p .patterns) (length (L .patterns) / 2) (second-of a b two));
+        for-trees = omega (arith, leb-true (p .trees) (length (L .trees) / 6) (second-of (a && b) c three));
+        for-records = omega (arith, leb-true (p .records) (length (L .records) / 4) (second-of (a && b && c) d four));
+      }
+
+  had-room : {n₁ n₂ n₃ n₄ n₅ : ℕ} → loadOf s h which L .answer ≡ Done n₁ n₂ n₃ n₄ n₅ → (p : Plan) → Model p ≡ planned s h which → Room p
+  had-room {n₁} {n₂} {n₃} {n₄} {n₅} k p e = go (loadOf s h which L) (way s h which L) k
+    where
+      go : (x : After) → Way s h which L x → x .answer ≡ Done n₁ n₂ n₃ n₄ n₅ → Room p
+      go x (kept y n) k = let u : _≡_ {A = ℕ} 0 1 = cc in absurd (omega arith)
+      go x (written o g m) k = let u : o ≡ p = cc in subst Room u (rooms o m)
+
+  module _ (short-file : length s < 2 ^ 63) (small : Small s) (short : length (L .records) < 2 ^ 63) where
+    abbrev X : Tables
+    X = loadOf s h which L .tables
+
+    -- whatever a load has filled, cut to the rows that it returned, is written or has no room
+    pub load-saved : {n₁ n₂ n₃ n₄ n₅ : ℕ} → loadOf s h which L .answer ≡ Done n₁ n₂ n₃ n₄ n₅ → {e f : List ℕ} {n : Answer}
+        → Answered e (dataOf s h) (take (4 * n₁) (X .questions)) (take (2 * n₂) (X .patterns)) (take (6 * n₃) (X .trees)) (take (4 * n₄) (X .records)) n f
+        → (numberOf n ≡ 0) ⊎ (numberOf n ≡ 20)
+    load-saved {n₁} {n₂} {n₃} {n₄} {n₅} k {e} {f} {n} c =
+        let y = load-stored s h which short-file small L k in
+        let o = had-room k (y .p) (y .chose .plan) in
+        let z = sym k ∙ y .counts in
+        let m₁ : n₁ ≡ y .p .questions = cc in
+        let m₂ : n₂ ≡ y .p .patterns = cc in
+        let m₃ : n₃ ≡ y .p .trees = cc in
+        let m₄ : n₄ ≡ y .p .records = cc in
+        load-writes y (o .for-questions) (o .for-patterns) (o .for-trees) (o .for-records) short
+        (subst (λ (i : ℕ). Answered e (dataOf s h) (take (4 * i) (X .questions)) (take (2 * y .p .patterns) (X .patterns)) (take (6 * y .p .trees) (X .trees)) (take (4 * y .p .records) (X .records)) n f) m₁
+        (subst (λ (i : ℕ). Answered e (dataOf s h) (take (4 * n₁) (X .questions)) (take (2 * i) (X .patterns)) (take (6 * y .p .trees) (X .trees)) (take (4 * y .p .records) (X .records)) n f) m₂
+        (subst (λ (i : ℕ). Answered e (dataOf s h) (take (4 * n₁) (X .questions)) (take (2 * n₂) (X .patterns)) (take (6 * i) (X .trees)) (take (4 * y .p .records) (X .records)) n f) m₃
+        (subst (λ (i : ℕ). Answered e (dataOf s h) (take (4 * n₁) (X .questions)) (take (2 * n₂) (X .patterns)) (take (6 * n₃) (X .trees)) (take (4 * i) (X .records)) n f) m₄ c))))
