@@ -28,6 +28,7 @@ use Rattle.table_rows.proofs.Stand.{length-from, row-there, nth-at}
 use Rattle.write_records.specs.Records.{ofRecord}
 use Rattle.write_records.proofs.Laws.{record-says}
 use Rattle.write_rows.proofs.Four.{textRow, text-rows}
+use Rattle.write_questions.proofs.Hidden.{not-same}
 use Rattle.write_questions.specs.Tests.{unlikeName, lastNamed, asksOther, notHidden, noneHidden, questionsFit}
 use Rattle.write_links.specs.Tests.{leafAt, bareIn, linesIn, bodyIn, treeIn, grown, linksFit}
 use Rattle.shown_write.proofs.Questions.{name-is}
@@ -123,20 +124,6 @@ trees-many TreeRows.none = refl
 trees-many (TreeRows.more a r b w) = ap suc (trees-many w)
 
 -- ---- names
-
-same-says : (u v : List ℕ) → same u v ≡ true → u ≡ v
-unfolding same
-same-says [] [] e = refl
-same-says [] (c ∷ v) e = let z : _≡_ {A = ℕ} 0 1 = cc in absurd (omega arith)
-same-says (b ∷ u) [] e = let z : _≡_ {A = ℕ} 0 1 = cc in absurd (omega arith)
-same-says (b ∷ u) (c ∷ v) e = ap₂ _∷_ (eqb-true b c (first-of _ _ e)) (same-says u v (second-of (eqb b c) _ e))
-
-not-same : (u v : List ℕ) → (u ≡ v → ⊥) → same u v ≡ false
-not-same u v n = go (same u v) refl
-  where
-    go : (b : Bool) → same u v ≡ b → same u v ≡ false
-    go true e = absurd (n (same-says u v e))
-    go false e = e
 
 module _ (d Q : List ℕ) where
   -- the names of the questions that the rows say

@@ -20,6 +20,7 @@ use Rattle.table_rows.specs.Rows.{questionRows, recordRows, recordKind, recordQ
 use Rattle.write_parts.specs.Parts.{each, refOf, lineOf, questionOf}
 use Rattle.write_records.specs.Records.{ofRecord}
 use Rattle.write_parts.proofs.Laws.{ref-line, ref-leaf}
+use Rattle.write_questions.proofs.Hidden.{same-same}
 use Rattle.write_questions.specs.Tests.{unlikeName, lastNamed, asksOther, notHidden, noneHidden}
 use Rattle.write_counts.specs.Counts.{counted}
 use Rattle.write_links.specs.Tests.{leafIn, refIn, lineIn, unlike}
@@ -39,11 +40,6 @@ deep (suc k) = refl
 
 id-once : (a b : ℕ) → negℤ (pos a) ≡ negℤ (pos b) → a ≡ b
 id-once a b e = sym (deep a) ∙ ap depth e ∙ deep b
-
-same-same : (w : List ℕ) → same w w ≡ true
-unfolding same
-same-same [] = refl
-same-same (b ∷ w) = ap₂ _&&_ (eq-eqb b b refl) (same-same w)
 
 -- ---- references and lines by themselves
 

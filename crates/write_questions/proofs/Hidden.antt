@@ -1,15 +1,66 @@
 -- Which record asks a question, and which question is the last of its name: what was compared, as the tests say it.
-use mathlib.Core.Path.{_≡_, sym, ap, ap₂, _∙_}
-use mathlib.Core.Bool.{Bool, true, false, not, _&&_, _||_}
-use mathlib.Core.List.{List}
+use mathlib.Core.Path.{_≡_, refl, sym, ap, ap₂, _∙_}
+use mathlib.Core.Bool.{Bool, true, false, not, cond, _&&_, _||_}
+use mathlib.Core.List.{List, [], _∷_}
 use Prim.Native.Nat.{ℕ, _+_, _-_}
-use borrow.Author.Tests.{eq-eqb, ne-eqb}
-use lib.Dec.{eqb}
+use native.Mathlib.Omega.{arith}
+use borrow.Author.Tests.{ltb-false, eq-eqb, ne-eqb, eqb-true}
+use lib.Dec.{ltb, eqb}
 use Rattle.written.specs.Bytes.{same}
 use Rattle.laws.specs.Every.{all}
-use Rattle.link_order.specs.Keys.{nameAt}
+use Rattle.laws.proofs.Every.{first-of, second-of}
+use Rattle.link_order.specs.Keys.{nameKey, nameAt}
+use Rattle.link_order.specs.Sides.{sideOf}
+use Rattle.link_order.specs.declared.Side.the-variants.{Below, Same, Above}
+use Rattle.link_order.proofs.Names.{Small, name-one, is-same}
 use Rattle.table_rows.specs.Rows.{questionRows, recordRows, recordKind, recordQuestion}
 use Rattle.write_questions.specs.Tests.{unlikeName, lastNamed, asksOther, notHidden}
+
+-- ---- two names
+
+pub same-same : (w : List ℕ) → same w w ≡ true
+unfolding same
+same-same [] = refl
+same-same (b ∷ w) = ap₂ _&&_ (eq-eqb b b refl) (same-same w)
+
+pub same-says : (u v : List ℕ) → same u v ≡ true → u ≡ v
+unfolding same
+same-says [] [] e = refl
+same-says [] (c ∷ v) e = let z : _≡_ {A = ℕ} 0 1 = cc in absurd (omega arith)
+same-says (b ∷ u) [] e = let z : _≡_ {A = ℕ} 0 1 = cc in absurd (omega arith)
+same-says (b ∷ u) (c ∷ v) e = ap₂ _∷_ (eqb-true b c (first-of _ _ e)) (same-says u v (second-of (eqb b c) _ e))
+
+pub not-same : (u v : List ℕ) → (u ≡ v → ⊥) → same u v ≡ false
+not-same u v n = go (same u v) refl
+  where
+    go : (b : Bool) → same u v ≡ b → same u v ≡ false
+    go true e = absurd (n (same-says u v e))
+    go false e = e
+
+-- by how their keys stand
+module _ (u v : List ℕ) where
+  sides : (b c : Bool) → ltb (nameKey u) (nameKey v) ≡ b → ltb (nameKey v) (nameKey u) ≡ c → sideOf (nameKey u) (nameKey v) ≡ cond b Below (cond c Above Same)
+  unfolding sideOf
+  sides b c e f = ap₂ (λ (x y : Bool). cond x Below (cond y Above Same)) e f
+
+  pub by-same : Small u → Small v → Same ≡ sideOf (nameKey u) (nameKey v) → true ≡ same u v
+  by-same s t q = go (ltb (nameKey u) (nameKey v)) (ltb (nameKey v) (nameKey u)) refl refl
+    where
+      go : (b c : Bool) → ltb (nameKey u) (nameKey v) ≡ b → ltb (nameKey v) (nameKey u) ≡ c → true ≡ same u v
+      go true c e f = let z = q ∙ sides true c e f in let w : _≡_ {A = ℕ} 0 1 = cc in absurd (omega arith)
+      go false true e f = let z = q ∙ sides false true e f in let w : _≡_ {A = ℕ} 0 1 = cc in absurd (omega arith)
+      go false false e f =
+          let k : nameKey u ≡ nameKey v = omega (arith, ltb-false (nameKey u) (nameKey v) e, ltb-false (nameKey v) (nameKey u) f) in
+          sym (ap (λ (w : List ℕ). same w v) (name-one u v s t k) ∙ same-same v)
+
+  unlike : (nameKey u ≡ nameKey v → ⊥) → false ≡ same u v
+  unlike n = sym (not-same u v (λ e. n (ap nameKey e)))
+
+  pub by-below : Below ≡ sideOf (nameKey u) (nameKey v) → false ≡ same u v
+  by-below q = unlike (λ e. let z = q ∙ sym (is-same e) in let w : _≡_ {A = ℕ} 0 1 = cc in omega arith)
+
+  pub by-above : Above ≡ sideOf (nameKey u) (nameKey v) → false ≡ same u v
+  by-above q = unlike (λ e. let z = q ∙ sym (is-same e) in let w : _≡_ {A = ℕ} 0 1 = cc in omega arith)
 
 -- ---- a record
 

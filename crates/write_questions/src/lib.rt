@@ -1,5 +1,6 @@
 // Whether some text reads back to question and pattern rows (02, Wish 6: 17), and which question a line can ask: the last of its name. Any tables.
-//
+use link_order::Side;
+use link_order::compare_names;
 use link_order::name_of;
 use table_rows::pattern_len;
 use table_rows::pattern_rows;
@@ -10,10 +11,10 @@ use table_rows::question_rows;
 use table_rows::record_kind;
 use table_rows::record_question;
 use table_rows::record_rows;
-use text_numbers::same_bytes;
 ghost use mathlib.Core.Path.{_≡_};
 ghost use mathlib.Core.Bool.{not};
 ghost use Prim.Native.Nat.{_<_, _≤_};
+ghost use Rattle.written.specs.Bytes.{same};
 ghost use Rattle.laws.specs.Every.{all};
 ghost use Rattle.table_rows.specs.Rows.{questionRows, patternRows, recordRows};
 ghost use Rattle.write_questions.specs.Tests.{nextIn, chained, someByte, questionsFit, lastNamed, asksOther, notHidden, noneHidden};
@@ -85,6 +86,17 @@ pub fn questions_fit(questions: &[u64], patterns: &[u64]) -> bool
     some_bytes(patterns)
 }
 
+// Whether two names are the same. By their ends: names mostly begin alike.
+fn same_name(a: &[u8], b: &[u8]) -> bool
+    ensures { λ r. ⌜ r ≡ same (now (a .entry)) (now (b .entry)) ⌝ }
+{
+    match compare_names(a, b) {
+        Side::Same => true,
+        Side::Below => false,
+        Side::Above => false,
+    }
+}
+
 // Whether q is the last question of its name.
 fn last_named(s: &[u8], questions: &[u64], q: u64) -> bool
     requires { ⌜ q < questionRows (now questions) ⌝ }
@@ -94,7 +106,7 @@ fn last_named(s: &[u8], questions: &[u64], q: u64) -> bool
     let name = name_of(s, questions, q);
     let mut j = q + 1;
     while j < n {
-        if same_bytes(name_of(s, questions, j), name) {
+        if same_name(name_of(s, questions, j), name) {
             return false;
         }
         j = j + 1;

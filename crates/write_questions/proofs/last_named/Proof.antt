@@ -29,11 +29,11 @@ loop-holds c = going-none _ _ _
 name-of-requires-2 : tie.Need-name-of-requires-2 Inv-loop μ-loop
 name-of-requires-2 c κs = search needs
 
-same-bytes-requires : tie.Need-same-bytes-requires Inv-loop μ-loop
-same-bytes-requires c κs = search needs
+same-name-requires : tie.Need-same-name-requires Inv-loop μ-loop
+same-name-requires c κs = search needs
 
 returns : tie.Need-returns Inv-loop μ-loop
-returns c = last-so (c .before .before .before .before .before .before .before .before .before .args .s .now) (c .before .before .before .before .before .before .before .before .before .args .questions .now) (c .before .before .before .before .before .before .before .before .before .args .q) (c .before .before .before .before .before .before .question-rows .ensures) (going-off _ _ _ _ (c .before .before .before .before .loop .inv) (c .before .before .before .loop-test .taken) (named-so (c .before .before .before .before .before .before .before .before .before .args .s .now) (c .before .before .before .before .before .before .before .before .before .args .questions .now) (c .before .before .before .before .before .before .before .before .before .args .q) (c .before .before .before .before .loop .j) (c .before .before .name-of2 .ensures) (c .before .before .before .before .before .name-of .ensures) (c .before .same-bytes .ensures) (c .if1 .taken)))
+returns c = last-so (c .before .before .before .before .before .before .before .before .before .args .s .now) (c .before .before .before .before .before .before .before .before .before .args .questions .now) (c .before .before .before .before .before .before .before .before .before .args .q) (c .before .before .before .before .before .before .question-rows .ensures) (going-off _ _ _ _ (c .before .before .before .before .loop .inv) (c .before .before .before .loop-test .taken) (named-so (c .before .before .before .before .before .before .before .before .before .args .s .now) (c .before .before .before .before .before .before .before .before .before .args .questions .now) (c .before .before .before .before .before .before .before .before .before .args .q) (c .before .before .before .before .loop .j) (c .before .before .name-of2 .ensures) (c .before .before .before .before .before .name-of .ensures) (c .before .same-name .ensures) (c .if1 .taken)))
 
 add-j-2 : tie.Need-add-j-2 Inv-loop μ-loop
 add-j-2 c = search needs
@@ -42,7 +42,7 @@ loop-less : tie.Need-loop-less Inv-loop μ-loop
 loop-less c = search needs
 
 loop-again : tie.Need-loop-again Inv-loop μ-loop
-loop-again c = going-on _ _ _ _ (c .before .before .before .before .loop .inv) (c .before .before .before .loop-test .taken) (named-so (c .before .before .before .before .before .before .before .before .before .args .s .now) (c .before .before .before .before .before .before .before .before .before .args .questions .now) (c .before .before .before .before .before .before .before .before .before .args .q) (c .before .before .before .before .loop .j) (c .before .before .name-of2 .ensures) (c .before .before .before .before .before .name-of .ensures) (c .before .same-bytes .ensures) (c .if1 .left))
+loop-again c = going-on _ _ _ _ (c .before .before .before .before .loop .inv) (c .before .before .before .loop-test .taken) (named-so (c .before .before .before .before .before .before .before .before .before .args .s .now) (c .before .before .before .before .before .before .before .before .before .args .questions .now) (c .before .before .before .before .before .before .before .before .before .args .q) (c .before .before .before .before .loop .j) (c .before .before .name-of2 .ensures) (c .before .before .before .before .before .name-of .ensures) (c .before .same-name .ensures) (c .if1 .left))
 
 returns-2 : tie.Need-returns-2 Inv-loop μ-loop
 returns-2 c = last-so (c .before .before .before .before .before .before .args .s .now) (c .before .before .before .before .before .before .args .questions .now) (c .before .before .before .before .before .before .args .q) (c .before .before .before .question-rows .ensures) (going-end _ _ _ _ (c .before .loop .inv) (c .loop-test .left))
@@ -58,7 +58,7 @@ last-named-spec =
     add-j
     loop-holds
     name-of-requires-2
-    same-bytes-requires
+    same-name-requires
     returns
     add-j-2
     loop-less
