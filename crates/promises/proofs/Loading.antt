@@ -60,7 +60,7 @@ clash e = absurd (omega arith)
 -- ---- what a plan says is a model that is read
 
 module _ {s : List ℕ} {h : record-of.Header} {m : models.Model} {p : Plan} (k : PlanSaid s h m p) where
-  pub said : ModelSaid
+  abbrev pub said : ModelSaid
   said = record { text = k .text; rows = k .rows; width = p .width; values = k .values }
 
   pub reads : ReadsModel widening s h m said (k .layout)
@@ -178,7 +178,7 @@ module _ {s : List ℕ} (bytes : Bytes s) {h : record-of.Header} (says : record-
 
   -- how every load ends
   pub load-ends : Ends (L .answer) (L .tables)
-  unfolding loadOf
+  unfolding loadOf filled
   load-ends = go (planned s (headerRecord h) (whichOf m)) refl
     where
       D : List ℕ

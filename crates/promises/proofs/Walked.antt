@@ -184,7 +184,7 @@ loaded-zero {s} {h} {m} {t} {out = out} (ended a x) e = go x e
 
 -- A file of bytes is opened with 0, a model of it loaded with 0 from the words that the opening wrote, and one of its trees walked, over the tables cut to the load's answer,
 -- with a byte for each question: the walk ends as the written one.
-module _ {s w out w′ o : List ℕ} (bytes : Bytes s) (open-call : Opens s w out 0 w′ o) (m : models.Model) (t : Tables) (out₁ : List ℕ) {t′ : Tables} {o₁ : List ℕ}
+module _ (s w out w′ o : List ℕ) (bytes : Bytes s) (open-call : Opens s w out 0 w′ o) (m : models.Model) (t : Tables) (out₁ : List ℕ) (t′ : Tables) (o₁ : List ℕ)
     (load-call : Loads s w′ (models.modelNumber m) t out₁ 0 t′ o₁) where
   -- the file says a record, and text and block of the model a model
   pub found : (h : record-of.Header) × record-of.Says s h × LoadedZero s h m t out₁ t′ o₁

@@ -170,7 +170,7 @@ module _ {s : List ℕ} {h : Header} {which : Which} {L : Tables} {x : After} (k
   question-rows =
       let f = fours-questions 0 (k .l .questions) in
       let m : 4 * k .p .questions ≡ length (flatten (questionRows 0 (k .l .questions))) =
-          omega (arith, length-flat (questionRows 0 (k .l .questions)) f, questions-many said-questions, k .chose .questions) in
+      omega (arith, length-flat (questionRows 0 (k .l .questions)) f, questions-many said-questions, k .chose .questions) in
       ap questionTable (cut (L .questions) (questionRows 0 (k .l .questions)) (4 * k .p .questions) m room-questions (k .at-questions)) ∙ question-table (questionRows 0 (k .l .questions)) f
 
   pattern-rows : patternTable P ≡ patternRows (k .l .questions)
@@ -200,12 +200,13 @@ module _ {s : List ℕ} {h : Header} {which : Which} {L : Tables} {x : After} (k
   -- they have a text
   pub load-written : (w : List ℕ) × Writes d Q P T R w
   load-written =
-      let y = filled-writes d (k .p .«text_end») (k .chose .says) (k .linked) (omega (arith, k .record-count, room-records, short)) in
-      (y .0,
-      subst (λ (l : List Row). Written d l (patternTable P) (firstFour (treeTable T)) (recordTable R) (y .0)) (sym question-rows)
-      (subst (λ (l : List Row). Written d (questionRows 0 (k .l .questions)) l (firstFour (treeTable T)) (recordTable R) (y .0)) (sym pattern-rows)
-      (subst (λ (l : List Row). Written d (questionRows 0 (k .l .questions)) (patternRows (k .l .questions)) l (recordTable R) (y .0)) (sym tree-rows)
-      (subst (λ (l : List Row). Written d (questionRows 0 (k .l .questions)) (patternRows (k .l .questions)) (k .tree-rows) l (y .0)) (sym record-rows) (y .1)))))
+      let y = filled-writes d (k .p .«text_end») (k .chose .says) (k .linked) (omega (arith, k .record-count, room-records, short)) in (
+        y .0,
+        subst (λ (l : List Row). Written d l (patternTable P) (firstFour (treeTable T)) (recordTable R) (y .0)) (sym question-rows)
+            (subst (λ (l : List Row). Written d (questionRows 0 (k .l .questions)) l (firstFour (treeTable T)) (recordTable R) (y .0)) (sym pattern-rows)
+            (subst (λ (l : List Row). Written d (questionRows 0 (k .l .questions)) (patternRows (k .l .questions)) l (recordTable R) (y .0)) (sym tree-rows)
+            (subst (λ (l : List Row). Written d (questionRows 0 (k .l .questions)) (patternRows (k .l .questions)) (k .tree-rows) l (y .0)) (sym record-rows) (y .1)))),
+      )
 
   few : recordRows R ≤ 2 ^ 63
   few = omega (arith, ap length record-cut, length-flat (k .record-rows) (fours-model (k .linked)), k .record-count, room-records, short)
