@@ -30,6 +30,8 @@ __typeof__(larsavim_walk_jobs) __real_larsavim_walk_jobs, __wrap_larsavim_walk_j
 __typeof__(larsavim_leaves) __real_larsavim_leaves, __wrap_larsavim_leaves;
 __typeof__(larsavim_answers) __real_larsavim_answers, __wrap_larsavim_answers;
 __typeof__(larsavim_depth) __real_larsavim_depth, __wrap_larsavim_depth;
+__typeof__(larsavim_write_needs) __real_larsavim_write_needs, __wrap_larsavim_write_needs;
+__typeof__(larsavim_write) __real_larsavim_write, __wrap_larsavim_write;
 
 uint64_t __wrap_larsavim_open(const uint8_t *file, uint64_t file_len, uint64_t *words, uint64_t words_len, uint64_t *out, uint64_t out_len) {
     uint64_t number = __real_larsavim_open(file, file_len, words, words_len, out, out_len);
@@ -132,5 +134,31 @@ uint64_t __wrap_larsavim_depth(const uint64_t *trees, uint64_t trees_len, const 
     touch("depth.records", records, 8 * records_len);
     touch("depth.work", work, 8 * work_len);
     touch("depth.out", out, 8 * out_len);
+    return number;
+}
+
+uint64_t __wrap_larsavim_write_needs(const uint8_t *data, uint64_t data_len, const uint64_t *questions, uint64_t questions_len, const uint64_t *patterns, uint64_t patterns_len,
+                                     const uint64_t *trees, uint64_t trees_len, const uint64_t *records, uint64_t records_len, uint64_t *out, uint64_t out_len) {
+    uint64_t number = __real_larsavim_write_needs(data, data_len, questions, questions_len, patterns, patterns_len, trees, trees_len, records, records_len, out, out_len);
+    touch("write_needs.data", data, data_len);
+    touch("write_needs.questions", questions, 8 * questions_len);
+    touch("write_needs.patterns", patterns, 8 * patterns_len);
+    touch("write_needs.trees", trees, 8 * trees_len);
+    touch("write_needs.records", records, 8 * records_len);
+    touch("write_needs.out", out, 8 * out_len);
+    return number;
+}
+
+uint64_t __wrap_larsavim_write(const uint8_t *data, uint64_t data_len, const uint64_t *questions, uint64_t questions_len, const uint64_t *patterns, uint64_t patterns_len,
+                               const uint64_t *trees, uint64_t trees_len, const uint64_t *records, uint64_t records_len, uint8_t *buffer, uint64_t buffer_len, uint64_t *out,
+                               uint64_t out_len) {
+    uint64_t number = __real_larsavim_write(data, data_len, questions, questions_len, patterns, patterns_len, trees, trees_len, records, records_len, buffer, buffer_len, out, out_len);
+    touch("write.data", data, data_len);
+    touch("write.questions", questions, 8 * questions_len);
+    touch("write.patterns", patterns, 8 * patterns_len);
+    touch("write.trees", trees, 8 * trees_len);
+    touch("write.records", records, 8 * records_len);
+    touch("write.buffer", buffer, buffer_len);
+    touch("write.out", out, 8 * out_len);
     return number;
 }
