@@ -86,14 +86,14 @@ void show_depth(const struct model *m) {
         if (out[0] != LARSAVIM_SUCCESS)
             printf("    tree %" PRIu64 " has nothing to walk\n", t);
         else if (out[1] == 0)
-            printf("    tree %" PRIu64 " goes round: a walk may be ended by its limit alone\n", t);
+            printf("    tree %" PRIu64 " goes round: some walk is ended by its limit alone\n", t);
         else if (out[2] > most) {
             most = out[2];
             deepest = t;
         }
     }
     if (most > 0)
-        printf("    deepest tree: %" PRIu64 ", a walk asks %" PRIu64 " questions at most\n", deepest, most);
+        printf("    questions that a walk can ask: at most %" PRIu64 ", in tree %" PRIu64 "\n", most, deepest);
     else
-        puts("    no walk that ends asks a question");
+        puts("    questions that a walk can ask: none");
 }
