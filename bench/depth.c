@@ -33,15 +33,15 @@ static void *room(uint64_t bytes) {
 }
 
 static void load(uint64_t which) {
-    static const uint64_t width[6] = {LARSAVIM_QUESTION_ROW, LARSAVIM_PATTERN_ROW, LARSAVIM_TREE_ROW, LARSAVIM_RECORD_ROW, LARSAVIM_BLOCK_ROW, 1};
-    uint64_t needs[LARSAVIM_NEEDS_OUT], out[LARSAVIM_LOAD_OUT], *table[6];
+    static const uint64_t width[5] = {LARSAVIM_QUESTION_ROW, LARSAVIM_PATTERN_ROW, LARSAVIM_TREE_ROW, LARSAVIM_RECORD_ROW, 1};
+    uint64_t needs[LARSAVIM_NEEDS_OUT], out[LARSAVIM_LOAD_OUT], *table[5];
     struct model *m = &model[models];
     if (larsavim_needs(file, file_len, words, LARSAVIM_WORDS, which, needs, LARSAVIM_NEEDS_OUT) != LARSAVIM_SUCCESS)
         return;
-    for (int t = 0; t < 6; t++)
+    for (int t = 0; t < 5; t++)
         table[t] = room(8 * width[t] * needs[3 + t]);
     if (larsavim_load(file, file_len, words, LARSAVIM_WORDS, which, table[0], width[0] * needs[3], table[1], width[1] * needs[4], table[2], width[2] * needs[5], table[3], width[3] * needs[6],
-                      table[4], width[4] * needs[7], table[5], needs[8], room(8 * needs[9]), needs[9], out, LARSAVIM_LOAD_OUT) != LARSAVIM_SUCCESS)
+                      table[4], needs[7], (int64_t *)room(8 * needs[8]), needs[8], out, LARSAVIM_LOAD_OUT) != LARSAVIM_SUCCESS)
         exit(2);
     m->trees = table[2];
     m->records = table[3];

@@ -90,8 +90,9 @@ class Object:
         return out
 
     def tabled(self):
-        """The functions whose code refers to constants. A jump through a table needs one, and so does a look into a table."""
-        inside = lambda y: 0 < y['section'] < len(self.sections) and self.kind(self.sections[y['section']]) == CONSTANTS
+        """The functions whose code refers to constants. A jump through a table needs one, and so does a look into a table. A single number that riscv64 keeps in memory
+        (.LCPI, of the compiler's pool) is none."""
+        inside = lambda y: 0 < y['section'] < len(self.sections) and self.kind(self.sections[y['section']]) == CONSTANTS and not y['name'].startswith('.LCPI')
         return {user for user, y, _ in self.references() if user and inside(y)}
 
     def frames(self):

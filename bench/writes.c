@@ -8,8 +8,8 @@
 
 #include "larsavim.h"
 
-enum { TABLES = 6 };
-static const uint64_t width[TABLES] = {LARSAVIM_QUESTION_ROW, LARSAVIM_PATTERN_ROW, LARSAVIM_TREE_ROW, LARSAVIM_RECORD_ROW, LARSAVIM_BLOCK_ROW, 1};
+enum { TABLES = 5 };
+static const uint64_t width[TABLES] = {LARSAVIM_QUESTION_ROW, LARSAVIM_PATTERN_ROW, LARSAVIM_TREE_ROW, LARSAVIM_RECORD_ROW, 1};
 
 static uint8_t *file;
 static uint64_t file_len, words[LARSAVIM_WORDS], needs[LARSAVIM_NEEDS_OUT], *table[TABLES], lent[TABLES];
@@ -30,8 +30,8 @@ static void *room(uint64_t bytes) {
 
 static uint64_t load(uint64_t which) {
     uint64_t out[LARSAVIM_LOAD_OUT], start = now();
-    larsavim_load(file, file_len, words, LARSAVIM_WORDS, which, table[0], lent[0], table[1], lent[1], table[2], lent[2], table[3], lent[3], table[4], lent[4], table[5], lent[5], work,
-                  needs[9], out, LARSAVIM_LOAD_OUT);
+    larsavim_load(file, file_len, words, LARSAVIM_WORDS, which, table[0], lent[0], table[1], lent[1], table[2], lent[2], table[3], lent[3], table[4], lent[4], work,
+                  needs[8], out, LARSAVIM_LOAD_OUT);
     return now() - start;
 }
 
@@ -59,7 +59,7 @@ static void measure(uint64_t which, int repetitions) {
         lent[t] = needs[3 + t] * width[t];
         table[t] = room(8 * lent[t]);
     }
-    work = room(8 * needs[9]);
+    work = room(8 * needs[8]);
     load(which);
     write_needs(&len);
     buffer = room(len);

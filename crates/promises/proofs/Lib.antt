@@ -1,5 +1,6 @@
 pub mod Moved
 pub mod Opening
+pub mod Writing
 pub mod Linking
 pub mod Asked
 pub mod Plans

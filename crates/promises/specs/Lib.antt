@@ -1,3 +1,4 @@
 pub mod Opening
+pub mod Writing
 pub mod Loading
 pub mod Walking
