@@ -3,7 +3,7 @@
 
 #include "host.h"
 
-/* One tree, a line. 1 if a walk of it always ends by itself. */
+/* One tree, a line. 1 if every walk of it ends by itself. */
 static int put_depth(const struct model *m, uint64_t tree) {
     uint64_t out[LARSAVIM_DEPTH_OUT];
     depth_model(m, tree, out);
@@ -17,7 +17,7 @@ static int put_depth(const struct model *m, uint64_t tree) {
     if (out[0] == LARSAVIM_SUCCESS && out[1] == 1)
         return 1;
     fprintf(stderr, "model %" PRIu64 ", tree %" PRIu64 ": %s\n", m->which, tree,
-            out[0] == LARSAVIM_SUCCESS ? "a path goes round, so a walk is ended by its limit alone" : "there is nothing to walk, or a path leads outside the tree");
+            out[0] == LARSAVIM_SUCCESS ? "a path goes round, so a walk may be ended by its limit alone" : "there is nothing to walk, or a path leads outside the tree");
     return 0;
 }
 
@@ -86,7 +86,7 @@ void show_depth(const struct model *m) {
         if (out[0] != LARSAVIM_SUCCESS)
             printf("    tree %" PRIu64 " has nothing to walk\n", t);
         else if (out[1] == 0)
-            printf("    tree %" PRIu64 " goes round: some walk is ended by its limit alone\n", t);
+            printf("    tree %" PRIu64 ": a path goes round, so a walk may be ended by its limit alone\n", t);
         else if (out[2] > most) {
             most = out[2];
             deepest = t;
