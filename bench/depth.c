@@ -80,7 +80,7 @@ static void all_trees(int rounds) {
 
 /* n lines and a leaf: a chain, a ladder (both sides go on), a ring. */
 static void long_tables(int rounds) {
-    for (uint64_t n = 3125; n <= 200000; n *= 8)
+    for (uint64_t n = 1000; n <= 1000000; n *= 10)
         for (int kind = 0; kind < 3; kind++) {
             uint64_t tree[LARSAVIM_TREE_ROW] = {2, 0, n + 1, n}, *records = room(8 * LARSAVIM_RECORD_ROW * (n + 1)), best = UINT64_MAX, out[LARSAVIM_DEPTH_OUT];
             int64_t *work = room(8 * LARSAVIM_WORK_A_RECORD * (n + 1));
