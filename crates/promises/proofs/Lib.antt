@@ -5,6 +5,8 @@ pub mod Linking
 pub mod Asked
 pub mod Plans
 pub mod NoModel
+pub mod Beside
 pub mod Loading
+pub mod Sharing
 pub mod Walking
 pub mod Walked
