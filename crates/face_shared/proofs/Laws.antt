@@ -29,6 +29,13 @@ bounds-are l h a b c d e = fun-ext at
     at records = d
     at values = e
 
+-- the test of the side
+pub standing-past : (d : ℕ) (b : Bool) → 1 < d → false ≡ (leb d 1 && b)
+standing-past d b h = sym (ap (λ (c : Bool). c && b) (lt-leb d 1 h))
+
+pub standing-in : (d : ℕ) {r : Bool} (b : Bool) → d ≤ 1 → r ≡ b → r ≡ (leb d 1 && b)
+standing-in d b h e = e ∙ sym (ap (λ (c : Bool). c && b) (le-leb d 1 h))
+
 -- ---- a load
 
 module _ (s w : List ℕ) (n d : ℕ) (mine other : Held) (T : Lent) where
@@ -48,8 +55,11 @@ module _ (s w : List ℕ) (n d : ℕ) (mine other : Held) (T : Lent) where
     pub shared-overlap : standing d mine other (rowsOf T) ≡ false → SharedSaid s w n d mine other T (untouched 24 T .rows) T
     shared-overlap g = let e = by-standing false g in (sym (ap (λ (o : Filled). o .rows) e), sym (ap (λ (o : Filled). o .tables) e))
 
-    pub shared-loads : standing d mine other (rowsOf T) ≡ true → {r : Rows} {T₁ : Lent} → LoadSaid s w n (sideAt d) other T r T₁ → SharedSaid s w n d mine other T r T₁
-    shared-loads g l = let e = by-standing true g in (l .0 ∙ sym (ap (λ (o : Filled). o .rows) e), l .1 ∙ sym (ap (λ (o : Filled). o .tables) e))
+    pub shared-loads : standing d mine other (rowsOf T) ≡ true → {o : Held} → o ≡ other → {r : Rows} {T₁ : Lent} → LoadSaid s w n (sideAt d) o T r T₁ → SharedSaid s w n d mine other T r T₁
+    shared-loads g {o} i {r} {T₁} l₀ =
+        let l : LoadSaid s w n (sideAt d) other T r T₁ = subst (λ (o : Held). LoadSaid s w n (sideAt d) o T r T₁) i l₀ in
+        let e = by-standing true g in
+        (l .0 ∙ sym (ap (λ (o : Filled). o .rows) e), l .1 ∙ sym (ap (λ (o : Filled). o .tables) e))
 
   -- as the code judges it
   pub judged-standing : {a b : Held} {c : Bool} → a ≡ mine → b ≡ other
@@ -74,9 +84,9 @@ module _ (d : ℕ) (mine other : Held) (q a t c v : List ℕ) where
 
   pub unload-side : d ≤ 1 → {m o : Held} {r : Bool} {q₁ a₁ t₁ c₁ v₁ : List ℕ} → m ≡ mine → o ≡ other → Unloads (sideAt d) m o q a t c v r q₁ a₁ t₁ c₁ v₁ → UnloadSaid d mine other q a t c v r q₁ a₁ t₁ c₁ v₁
   unfolding unloadedOf unloadOf
-  unload-side h {r = r} {q₁} {a₁} {t₁} {c₁} {v₁} i j u₀ =
+  unload-side h {o = o} {r} {q₁} {a₁} {t₁} {c₁} {v₁} i j u₀ =
       let u : Unloads (sideAt d) mine other q a t c v r q₁ a₁ t₁ c₁ v₁ =
-      subst (λ (o : Held). Unloads (sideAt d) mine o q a t c v r q₁ a₁ t₁ c₁ v₁) j (subst (λ (m : Held). Unloads (sideAt d) m _ q a t c v r q₁ a₁ t₁ c₁ v₁) i u₀) in
+      subst (λ (o : Held). Unloads (sideAt d) mine o q a t c v r q₁ a₁ t₁ c₁ v₁) j (subst (λ (m : Held). Unloads (sideAt d) m o q a t c v r q₁ a₁ t₁ c₁ v₁) i u₀) in
       let e : standing d mine other (tablesOf q a t c v) ≡ stands (tablesOf q a t c v) mine other = ap (λ (b : Bool). b && stands (tablesOf q a t c v) mine other) (le-leb d 1 h) in
       record {
         done = u .done ∙ sym e;

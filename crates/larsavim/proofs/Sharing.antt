@@ -1,6 +1,6 @@
 -- What a shared load and an unload promise fixes what they return and every lent slice.
 use mathlib.Core.Path.{_≡_, sym, ap, _∙_}
-use mathlib.Core.Bool.{Bool, cond}
+use mathlib.Core.Bool.{Bool, true, false, cond}
 use mathlib.Core.List.{List, [], _∷_}
 use mathlib.Core.Logic.{_⊎_, inl, inr}
 use Prim.Native.Nat.{ℕ, _≤_, _<_}
@@ -11,6 +11,7 @@ use Rattle.written.specs.Sharing as sharing
 use Rattle.load_model.specs.Load.{Tables}
 use Rattle.load_shared.specs.Beside.{Tabled}
 use Rattle.face_model.specs.declared.Rows.{Rows}
+use Rattle.face_shared.specs.Answers.{heldAt, UnloadSaid}
 use Rattle.larsavim.specs.Face.{rowsNumbers}
 use Rattle.larsavim.specs.Sharing.{heldLeft, LoadShares, UnloadTells}
 
@@ -66,3 +67,12 @@ unload-once {held = held} (UnloadTells.told {b = p} m n i a b) (UnloadTells.told
       b ∙ ap (λ (z : Bool). cond z (sets held 0 (0 ∷ 0 ∷ 0 ∷ 0 ∷ 0 ∷ [])) held) e ∙ sym b′,
       tabled-same (i .tables) (j .tables),
     )
+
+-- ---- each way through an unload
+
+module _ (d : ℕ) (held other q a t c v : List ℕ) {b : Bool} {q₁ a₁ t₁ c₁ v₁ : List ℕ} (l : 5 ≤ length held) (m : 5 ≤ length other) (u : UnloadSaid d (heldAt held) (heldAt other) q a t c v b q₁ a₁ t₁ c₁ v₁) where
+  pub unload-refused : b ≡ false → UnloadTells d held other q a t c v 24 held q₁ a₁ t₁ c₁ v₁
+  unload-refused e = UnloadTells.told l m u (sym (ap (λ (b : Bool). cond b 0 24) e)) (sym (ap (λ (b : Bool). cond b (sets held 0 (0 ∷ 0 ∷ 0 ∷ 0 ∷ 0 ∷ [])) held) e))
+
+  pub unload-zeroed : b ≡ true → {held₁ : List ℕ} → held₁ ≡ sets held 0 (0 ∷ 0 ∷ 0 ∷ 0 ∷ 0 ∷ []) → UnloadTells d held other q a t c v 0 held₁ q₁ a₁ t₁ c₁ v₁
+  unload-zeroed e f = UnloadTells.told l m u (sym (ap (λ (b : Bool). cond b 0 24) e)) (f ∙ sym (ap (λ (b : Bool). cond b (sets held 0 (0 ∷ 0 ∷ 0 ∷ 0 ∷ 0 ∷ [])) held) e))
