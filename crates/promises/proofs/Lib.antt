@@ -8,5 +8,6 @@ pub mod NoModel
 pub mod Beside
 pub mod Loading
 pub mod Sharing
+pub mod Apart
 pub mod Walking
 pub mod Walked

@@ -1,5 +1,5 @@
 -- `larsavim_load_shared`, of words that an opening of the file wrote, and `larsavim_unload` keep their promises. That neither changes what the other task sees, of any words, bounds
--- and tables, is said in `shown_apart` Kept.
+-- and tables, is said in Apart.
 use mathlib.Core.Path.{_≡_, refl, sym, ap, _∙_, subst, fun-ext}
 use mathlib.Core.Bool.{Bool, true, false, cond, _&&_, true≢false}
 use mathlib.Core.List.{List, [], _∷_}

@@ -148,8 +148,8 @@ module _ (d : List ℕ) (p : Plan) (sound : Sound d p) (w : List ℤ) where
   unlinked-not (ends.QuestionRef i j) z e = refl
   unlinked-not (ends.LoneNode i) z e = refl
 
-  by-not : {words zeros : List ℕ} (b : Bool) → b ≡ false → cond b words zeros ≡ zeros
-  by-not {words} {zeros} b e = ap (λ (c : Bool). cond c words zeros) e
+  by-not : (words zeros : List ℕ) (b : Bool) → b ≡ false → cond b words zeros ≡ zeros
+  by-not words zeros b e = ap (λ (c : Bool). cond c words zeros) e
 
   zeroes : Zeroes (modelOf d p w)
   zeroes t e z h j =
@@ -157,11 +157,11 @@ module _ (d : List ℕ) (p : Plan) (sound : Sound d p) (w : List ℤ) where
       ap (λ (f : Filled Refusal). f .tables j) (fill-is t e) ∙ at n j
     where
       at : allLinked o ≡ false → (j : Table) → exact .tables j ≡ replicate (width j * needOf p j) 0
-      at n questions = by-not (allLinked o) n
-      at n patterns = by-not (allLinked o) n
-      at n trees = by-not (allLinked o) n
-      at n records = by-not (allLinked o) n
-      at n values = by-not (allLinked o) n
+      at n questions = by-not (same (wordsAt S (p .text))) (replicate (4 * p .questions) 0) (allLinked o) n
+      at n patterns = by-not (same (patternWords (questionsAt S (p .text) .items))) (replicate (2 * p .patterns) 0) (allLinked o) n
+      at n trees = by-not (withBlocks (treesStored S (p .text) (p .first)) 0 (blocksOf p B)) (replicate (6 * p .trees) 0) (allLinked o) n
+      at n records = by-not (same (recordsStored S (p .text) (p .first))) (replicate (4 * p .records) 0) (allLinked o) n
+      at n values = by-not (same (valuesAt B (p .block + 4 * p .trees) (p .width) (p .entries))) (replicate (1 * (p .entries * p .width)) 0) (allLinked o) n
 
   pub model-fills : Fills (modelOf d p w)
   model-fills = record { keeps = keeps; whole = whole; zeroes = zeroes }

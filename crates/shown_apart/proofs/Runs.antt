@@ -232,21 +232,21 @@ callOf unloading = unload
 
 unfoldable pub turnsOf : List Asks → List (Turn Refusal)
 turnsOf [] = []
-turnsOf (a ∷ as) = record { task = a .task; call = callOf (a .asked) } ∷ turnsOf as
+turnsOf (a ∷ asks) = record { task = a .task; call = callOf (a .asked) } ∷ turnsOf asks
 
 call-fills : (a : Asked) → EveryCall Fills (callOf a)
 call-fills (loading s u n w) = loads (words-fill s u n w)
 call-fills unloading = unloads
 
-turns-fill : (as : List Asks) → EveryTurn Fills (turnsOf as)
+turns-fill : (asks : List Asks) → EveryTurn Fills (turnsOf asks)
 unfolding turnsOf
 turns-fill [] = EveryTurn.none
-turns-fill (a ∷ as) = more (call-fills (a .asked)) (turns-fill as)
+turns-fill (a ∷ asks) = more (call-fills (a .asked)) (turns-fill asks)
 
 -- any calls of both, of any files, words and numbers
-pub calls-apart : (x : Side) (as : List Asks) (t t′ : Tables) → Wider t t′
-    → (run (turnsOf as) (empty t) .held x ≡ run (kept x (turnsOf as) (empty t)) (empty t′) .held x)
-    × (seen x (run (turnsOf as) (empty t) .held x) (run (turnsOf as) (empty t) .tables)
-    ≡ seen x (run (kept x (turnsOf as) (empty t)) (empty t′) .held x) (run (kept x (turnsOf as) (empty t)) (empty t′) .tables))
-    × (told x (turnsOf as) (empty t) ≡ answers (kept x (turnsOf as) (empty t)) (empty t′))
-calls-apart x as t t′ w = runs-apart x (turnsOf as) (turns-fill as) t t′ w
+pub calls-apart : (x : Side) (asks : List Asks) (t t′ : Tables) → Wider t t′
+    → (run (turnsOf asks) (empty t) .held x ≡ run (kept x (turnsOf asks) (empty t)) (empty t′) .held x)
+    × (seen x (run (turnsOf asks) (empty t) .held x) (run (turnsOf asks) (empty t) .tables)
+    ≡ seen x (run (kept x (turnsOf asks) (empty t)) (empty t′) .held x) (run (kept x (turnsOf asks) (empty t)) (empty t′) .tables))
+    × (told x (turnsOf asks) (empty t) ≡ answers (kept x (turnsOf asks) (empty t)) (empty t′))
+calls-apart x asks t t′ w = runs-apart x (turnsOf asks) (turns-fill asks) t t′ w
