@@ -81,19 +81,18 @@ after-held x p mine other t = go (holds mine) (stands t mine other) p
     go false true (model m) = room (roomBeside (m .need) other t && m .worked) m
 
 -- five numbers in front are the bounds
-five : (l : List ℕ) → 5 ≤ length l → (n : Held) → heldAt (sets l 0 (n questions ∷ n patterns ∷ n trees ∷ n records ∷ n values ∷ [])) ≡ n
+abbrev fiveOf : Held → List ℕ
+fiveOf n = n questions ∷ n patterns ∷ n trees ∷ n records ∷ n values ∷ []
+
+five : (l : List ℕ) → 5 ≤ length l → (n : Held) → heldAt (sets l 0 (fiveOf n)) ≡ n
 five l h n = fun-ext at
   where
-    V : List ℕ
-    V = n questions ∷ n patterns ∷ n trees ∷ n records ∷ n values ∷ []
-
-    at : (k : Table) → heldAt (sets l 0 V) k ≡ n k
-    unfolding V
-    at questions = sets-at V l 0 0 0 (omega arith) (omega arith)
-    at patterns = sets-at V l 0 1 0 (omega arith) (omega arith)
-    at trees = sets-at V l 0 2 0 (omega arith) (omega arith)
-    at records = sets-at V l 0 3 0 (omega arith) (omega arith)
-    at values = sets-at V l 0 4 0 (omega arith) (omega arith)
+    at : (k : Table) → heldAt (sets l 0 (fiveOf n)) k ≡ n k
+    at questions = sets-at (fiveOf n) l 0 0 0 (omega arith) (omega arith)
+    at patterns = sets-at (fiveOf n) l 0 1 0 (omega arith) (omega arith)
+    at trees = sets-at (fiveOf n) l 0 2 0 (omega arith) (omega arith)
+    at records = sets-at (fiveOf n) l 0 3 0 (omega arith) (omega arith)
+    at values = sets-at (fiveOf n) l 0 4 0 (omega arith) (omega arith)
 
 held-left : (held : List ℕ) → 5 ≤ length held → (a : Answer Refusal) → heldAt (heldLeft (rowsFor a) held) ≡ heldAfter (heldAt held) a
 unfolding heldLeft

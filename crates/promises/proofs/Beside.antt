@@ -286,9 +286,9 @@ module _ {s : List ℕ} (bytes : Bytes s) {h : record-of.Header} (says : record-
           moved₂ (BesideEnds x s h m other t) (ap (λ (o : After). rowsNumbers (rowsBy (o .answer))) e) (ap (λ (o : After). o .tables) e) (BesideEnds.no-model (n .0) (n .1))
 
 -- what is said of the words of a record is said of the record
-pub words-said : {s : List ℕ} (m : models.Model) (x : Side) (other : Held) (t : Lent) (w : List ℕ) (h : record-of.Header) → 647 ≤ length w
+pub words-said : (s : List ℕ) (m : models.Model) (x : Side) (other : Held) (t : Lent) (w : List ℕ) (h : record-of.Header) → 647 ≤ length w
     → filledOf s (sets w 0 (recordWords h)) (models.modelNumber m) x other t ≡ filledBy (besideOf x s (headerRecord h) (whichOf m) other t)
 unfolding filledOf
-words-said {s} m x other t w h enough =
+words-said s m x other t w h enough =
     ap (λ (j : ℕ). filledIn j s (sets w 0 (recordWords h)) (models.modelNumber m) x other t) (record-judged w h enough)
     ∙ ap₂ (λ (r : Header) (n : Which). filledBy (besideOf x s r n other t)) (record-back w h enough) (which-number m)

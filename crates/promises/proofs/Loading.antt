@@ -90,7 +90,7 @@ module _ {s : List ℕ} (bytes : Bytes s) {h : record-of.Header} (says : record-
   module _ (w : List ℕ) (enough : 647 ≤ length w) (out : List ℕ) where
     -- what is said of the words of the record is said of the record
     said-of : filledOf s (sets w 0 (recordWords h)) (models.modelNumber m) bottom nothing t ≡ filledBy L
-    said-of = words-said m bottom nothing t w h enough
+    said-of = words-said s m bottom nothing t w h enough
 
     pub load-kept : {r : ℕ} {u : Tables} {o : List ℕ} → Loads s (sets w 0 (recordWords h)) (models.modelNumber m) t out r u o → AfterLoad s h m t out r u o
     unfolding answered written left

@@ -58,16 +58,15 @@ module _ {s : List ℕ} (bytes : Bytes s) {h : record-of.Header} (says : record-
         go true e b f = SharedEnds.holding (λ n. true≢false (sym e ∙ nothing-holds mine n))
         go false e true f =
             SharedEnds.loads (holds-nothing mine e) (standing-is d mine other (rowsOf t) f)
-            (subst (λ (o : Filled). BesideEnds (sideAt d) s h m other t (rowsNumbers (o .rows)) (o .tables)) (sym (words-said m (sideAt d) other t w h enough))
+            (subst (λ (o : Filled). BesideEnds (sideAt d) s h m other t (rowsNumbers (o .rows)) (o .tables)) (sym (words-said s m (sideAt d) other t w h enough))
             (beside-ends bytes says m (sideAt d) other t))
         go false e false f = SharedEnds.overlap (holds-nothing mine e) (not-standing d mine other (rowsOf t) f)
 
   pub shared-kept : (held other : List ℕ) (t : Lent) (out : List ℕ) {r : ℕ} {held₁ : List ℕ} {u : Lent} {o : List ℕ}
       → LoadShares s W (models.modelNumber m) d held other t out r held₁ u o → AfterShared s h m d held other t out r held₁ u o
-  shared-kept held other t out (LoadShares.no-room k a b c e) = moved₄ (AfterShared s h m d held other t out) a b c e (AfterShared.short k)
   unfolding heldLeft
+  shared-kept held other t out (LoadShares.no-room k a b c e) = moved₄ (AfterShared s h m d held other t out) a b c e (AfterShared.short k)
   shared-kept held other t out (LoadShares.told {x = x} k l n i a b c) =
-      let X = sharedOf s W (models.modelNumber m) d (heldAt held) (heldAt other) t in
       moved₄ (AfterShared s h m d held other t out) (a ∙ ap (λ (r : Rows). r .number) (i .0)) (b ∙ ap (λ (r : Rows). heldLeft r held) (i .0)) (i .1) (c ∙ ap (λ (r : Rows). sets out 0 (rowsNumbers r)) (i .0))
       (AfterShared.ended k l n (shared-ends (heldAt held) (heldAt other) t))
 
@@ -86,8 +85,8 @@ five x {q} {a} {t} {c} {v} e = fun-ext at
 
 pub unload-kept : (d : ℕ) (held other q a t c v : List ℕ) {r : ℕ} {held₁ q₁ a₁ t₁ c₁ v₁ : List ℕ} → UnloadTells d held other q a t c v r held₁ q₁ a₁ t₁ c₁ v₁
     → AfterUnload d held other (tablesOf q a t c v) r held₁ (tablesOf q₁ a₁ t₁ c₁ v₁)
-unload-kept d held other q a t c v (UnloadTells.no-room k e f g) = moved₃ (AfterUnload d held other (tablesOf q a t c v)) e f (five (tablesOf q a t c v) g) (AfterUnload.short k)
 unfolding unloadedOf
+unload-kept d held other q a t c v (UnloadTells.no-room k e f g) = moved₃ (AfterUnload d held other (tablesOf q a t c v)) e f (five (tablesOf q a t c v) g) (AfterUnload.short k)
 unload-kept d held other q a t c v (UnloadTells.told {b = b} k l u e f) =
     let T = tablesOf q a t c v in
     let z : b ≡ standing d (heldAt held) (heldAt other) T = u .done in
