@@ -127,20 +127,30 @@ static int work_is(const struct model *m, uint64_t value) {
     return 1;
 }
 
-/* Whether every table holds one value from a row on: the first, or the first that the load didn't need. */
-static int tables_are(const struct model *m, int beyond, uint64_t value) {
+/* Whether the rows that the model needs, and what is behind them, hold one value in every table. The needs are 0 where the file is refused. */
+static int needed_are(const struct model *m, uint64_t value) {
     for (int t = 0; t < TABLES; t++)
-        if (!all_are(m->table[t], beyond ? rows_of(m, t) * row_width[t] : 0, m->lent[t], value))
+        if (!all_are(m->table[t], 0, m->needs[OUT_ROWS + t] * row_width[t], value))
             return 0;
     return 1;
 }
 
+static int beyond_are(const struct model *m, uint64_t value) {
+    for (int t = 0; t < TABLES; t++)
+        if (!all_are(m->table[t], m->needs[OUT_ROWS + t] * row_width[t], m->lent[t], value))
+            return 0;
+    return 1;
+}
+
+/* 21 to 23 zero the rows needed and leave what is behind them (02, Wish 9). */
 static const char *after(const struct model *m) {
+    if (!beyond_are(m, UNTOUCHED))
+        return "changed";
     if (m->loaded[OUT_NUMBER] == LARSAVIM_SUCCESS)
-        return tables_are(m, 1, UNTOUCHED) && work_is(m, 0) ? "filled" : "changed";
-    if (tables_are(m, 0, UNTOUCHED) && work_is(m, UNTOUCHED))
-        return "kept";
-    return tables_are(m, 0, 0) && work_is(m, 0) ? "zero" : "changed";
+        return work_is(m, 0) ? "filled" : "changed";
+    if (m->loaded[OUT_NUMBER] <= LARSAVIM_ROOM)
+        return needed_are(m, UNTOUCHED) && work_is(m, UNTOUCHED) ? "kept" : "changed";
+    return needed_are(m, 0) && work_is(m, 0) ? "zero" : "changed";
 }
 
 /* ---- the rows ----------------------------------------------------------------------------------------------------------------- */

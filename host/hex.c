@@ -12,8 +12,7 @@ static int hex_digit(char c) {
     return c >= 'a' ? c - 'a' + 10 : c - 'A' + 10;
 }
 
-/* The bytes of a word of hex, in lent memory. 0 where it is none. */
-static int read_hex(const char *word, struct bytes *out) {
+int read_hex(const char *word, struct bytes *out) {
     size_t digits = strlen(word), len = digits / 2;
     uint8_t *at;
     if (digits % 2 != 0 || strspn(word, "0123456789abcdefABCDEF") != digits)

@@ -236,6 +236,36 @@ void put_text_hex(struct bytes file, uint64_t which);
 /* `larsavim: FILE: model 1, stream "MCP": ` on standard error. */
 void complain_model(const char *path, const struct voice *v, uint64_t which);
 
+/* ---- two tasks in the same tables (share.c, pair.c) ------------------------------------------------------------------------------ */
+
+/* Tables that two tasks share, and each task's bounds. */
+struct shared {
+    uint64_t *table[TABLES];
+    uint64_t lent[TABLES]; /* numbers of each table */
+    int64_t *work;
+    uint64_t work_lent;
+    uint64_t *held[2];
+};
+
+/* Tables and work of so many numbers, each UNTOUCHED; both tasks hold nothing. */
+void lend_shared(struct shared *s, const uint64_t numbers[TABLES], uint64_t work);
+void free_shared(struct shared *s);
+
+/* The library's number; out as larsavim_load's. */
+uint64_t load_shared(struct shared *s, const struct voice *v, uint64_t which, uint64_t side, uint64_t out[LARSAVIM_LOAD_OUT]);
+uint64_t unload_shared(struct shared *s, uint64_t side);
+
+/* A task's rows, cut out into memory of just their length; 0 where its bounds pass a table. To be freed as a model; its width is not set. */
+int own_rows(const struct shared *s, uint64_t side, struct model *m);
+
+int read_side(const char *word, uint64_t *side); /* `bottom` or `top` */
+
+/* Why a task's call was refused with 20, 24 or 29, of a model that needs so much. */
+void explain_shared(FILE *to, const struct shared *s, uint64_t side, const uint64_t *needs, uint64_t number);
+
+/* The bytes of a word of hex, in lent memory (hex.c). 0 where it is none. */
+int read_hex(const char *word, struct bytes *out);
+
 /* ---- the verbs ---------------------------------------------------------------------------------------------------------------- */
 
 int inspect(const char *path);      /* inspect.c */
@@ -252,6 +282,8 @@ int demo(const char *path);         /* demo.c */
 int answers(char **words);          /* label.c */
 int say(char **words);              /* label.c */
 int depth(int n, char **words);     /* depth.c */
+int pair_up(char **words);          /* pair.c */
+int share(void);                    /* share.c */
 void show_depth(const struct model *m); /* depth.c: of `inspect` */
 
 #endif

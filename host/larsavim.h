@@ -6,9 +6,9 @@
  *   1. each pointer is good for its length: that many bytes, 8-byte numbers or jobs can be read there (and written, where the parameter
  *      is not const), at an address that suits their type, and nobody else writes them until the call returns. A length of 0 asks
  *      nothing of its pointer, which may be null;
- *   2. nothing that is lent for writing (`words` of larsavim_open, the tables and the work of larsavim_load, the work of
- *      larsavim_depth, the answers of larsavim_answers, the jobs, the buffer of larsavim_write, every `out`) overlaps another slice
- *      of the same call.
+ *   2. nothing that is lent for writing (`words` of larsavim_open, the tables and the work of larsavim_load, the tables, the work and
+ *      `held` of the two calls of a task, the work of larsavim_depth, the answers of larsavim_answers, the jobs, the buffer of
+ *      larsavim_write, every `out`) overlaps another slice of the same call.
  *
  * Numbers are 64 bits wide; a slice is a pointer and, behind it, how many bytes, numbers or jobs it has. No call keeps a pointer.
  * 01 is docs/01-scope.md, whose words are used here; docs/INTEGRATION.md shows the calls at work.
@@ -50,7 +50,8 @@ extern "C" {
 #define LARSAVIM_QUESTREF 22  /* a line asks a question that isn't there; place and line as in 21. Of larsavim_write: a byte that no name or pattern can have */
 #define LARSAVIM_LONENODE 23  /* a tree's one reference is a node; place and line as in 21 */
 #define LARSAVIM_WALKTABLE 24 /* no such tree or no record in it, a record met outside its tree, the tables or the kinds, or no answer for its question.
-                               * Of larsavim_answers: a pattern outside its table or the data. Of larsavim_write: a row points outside its table or the data */
+                               * Of larsavim_answers: a pattern outside its table or the data. Of larsavim_write: a row points outside its table or the data.
+                               * Of larsavim_load_shared and larsavim_unload: the two tasks' bounds overlap or pass a table, or there is no such side */
 #define LARSAVIM_STEPS 25     /* another question would pass the walk's limit */
 #define LARSAVIM_TRAILER 26   /* the buffer is too short for a trailer, the file with it would pass the limit, or there are fewer than 12 data bytes */
 #define LARSAVIM_SUM 27       /* the trailer's sum isn't that of the bytes before it */
@@ -195,12 +196,44 @@ uint64_t larsavim_needs(const uint8_t *file, uint64_t file_len, const uint64_t *
  * records, and values; these five are 0 when refused. Order: 20 for `out` and words, 16 for the record, 13, 14, 15, the
  * width's limit (12), tree 16, 17, 18, PDF 16, 19, room 20, then linking, 21 to 23.
  * Success: the rows stand at the front of each table, what is beyond them is unchanged, the work is zero over its whole length.
- * Refused up to 20: everything lent but `out` is unchanged. 21 to 23: every table and the work are zero over their whole length.
+ * Refused up to 20: everything lent but `out` is unchanged. 21 to 23: in each table the rows that the model needs (larsavim_needs) are zero,
+ * what is beyond them is unchanged, and the work is zero over its whole length.
  * Later calls take the tables cut to the rows that the load returned. */
 uint64_t larsavim_load(const uint8_t *file, uint64_t file_len, const uint64_t *words, uint64_t words_len, uint64_t which,
                        uint64_t *questions, uint64_t questions_len, uint64_t *patterns, uint64_t patterns_len,
                        uint64_t *trees, uint64_t trees_len, uint64_t *records, uint64_t records_len,
                        uint64_t *values, uint64_t values_len, int64_t *work, uint64_t work_len, uint64_t *out, uint64_t out_len);
+
+/* ---- Two tasks in the same tables ------------------------------------------------------------------------------------------------
+ * Two tasks can hold a model each in one set of tables: the rows of the bottom task are the first of each table, those of the top task the last
+ * whole ones, in their order; what is left over behind the last whole row is nobody's. Each task keeps its own bounds, LARSAVIM_BOUNDS
+ * numbers that begin as 0 and that these two calls write; the other's are only read. Every reference of a row counts from the task's own first row of that
+ * table, so that its rows, cut out by LARSAVIM_FIRST, are those of a load into tables of its own, and all other calls take them so. Nothing that a task does changes
+ * the other's rows or bounds; the other is seen in one thing alone, whether there is room (20). The work belongs to one call. The two take turns: rule 1. */
+
+#define LARSAVIM_BOTTOM 0
+#define LARSAVIM_TOP 1
+#define LARSAVIM_BOUNDS 5       /* rows held of questions, patterns, trees, records; values. All 0: the task holds nothing */
+
+/* The first number of a task's `rows` rows, in a table of `len` numbers whose rows have `row` numbers: they are the row * rows numbers from there on. */
+#define LARSAVIM_FIRST(side, len, row, rows) ((side) == LARSAVIM_TOP ? (row) * ((len) / (row) - (rows)) : 0)
+
+/* Loads a model into one task's rows. out: as larsavim_load; number (0, 12 to 24, 29). held: the task's own bounds, written on 0 alone; other: the other task's.
+ * Order: 20 for out, held and other; 29 where a number of `held` is not 0; 24 where side is neither 0 nor 1, or the other's rows pass a table; then as larsavim_load, where a
+ * table's room is what the other's rows leave. Success: the task's rows are the model's. 21 to 23: the rows that it would have had are zero, and the task holds
+ * nothing. Nothing else differs, but for `out` and the work, which is as after larsavim_load. */
+uint64_t larsavim_load_shared(const uint8_t *file, uint64_t file_len, const uint64_t *words, uint64_t words_len, uint64_t which, uint64_t side,
+                              uint64_t *held, uint64_t held_len, const uint64_t *other, uint64_t other_len,
+                              uint64_t *questions, uint64_t questions_len, uint64_t *patterns, uint64_t patterns_len,
+                              uint64_t *trees, uint64_t trees_len, uint64_t *records, uint64_t records_len,
+                              uint64_t *values, uint64_t values_len, int64_t *work, uint64_t work_len, uint64_t *out, uint64_t out_len);
+
+/* Zeroes a task's rows and its bounds; of a task that holds nothing it changes nothing. Returns 0; 20 where bounds have fewer than LARSAVIM_BOUNDS numbers; 24 where side is
+ * neither 0 nor 1, or the two tasks' rows overlap or pass a table. Refused, nothing is written. */
+uint64_t larsavim_unload(uint64_t side, uint64_t *held, uint64_t held_len, const uint64_t *other, uint64_t other_len,
+                         uint64_t *questions, uint64_t questions_len, uint64_t *patterns, uint64_t patterns_len,
+                         uint64_t *trees, uint64_t trees_len, uint64_t *records, uint64_t records_len,
+                         uint64_t *values, uint64_t values_len);
 
 /* ---- Loaded tables -------------------------------------------------------------------------------------------------------------- */
 

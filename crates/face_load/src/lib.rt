@@ -1,15 +1,17 @@
-// A load by the words of a record, its answer in numbers (host/larsavim.h). Any file, any words, any tables, any numbers.
+// A load by the words of a record into one task's rows, its answer in numbers (host/larsavim.h). Any file, any words, any bounds, any tables, any numbers.
 use face_model::Rows;
 use face_model::which_of;
 use face_open::judged;
 use load_model::Loaded;
-use load_model::load;
+use load_shared::Held;
+use load_shared::load;
 ghost use mathlib.Core.Path.{_≡_};
 ghost use Rattle.load_model.specs.Load.{lent};
+ghost use Rattle.load_shared.specs.Beside.{sideOf, heldOf};
 ghost use Rattle.face_model.specs.Answers.{noRows, rowsBy};
 ghost use Rattle.face_load.specs.Answers.{LoadSaid};
 
-fn no_rows(number: u64, place: u64, line: u64) -> Rows
+pub fn no_rows(number: u64, place: u64, line: u64) -> Rows
     ensures { λ r. ⌜ r ≡ noRows number place line ⌝ }
 {
     Rows {
@@ -25,7 +27,7 @@ fn no_rows(number: u64, place: u64, line: u64) -> Rows
 }
 
 // A load's answer in numbers.
-fn rows_of(loaded: Loaded) -> Rows
+pub fn rows_of(loaded: Loaded) -> Rows
     ensures { λ r. ⌜ r ≡ rowsBy loaded ⌝ }
 {
     match loaded {
@@ -53,11 +55,13 @@ fn rows_of(loaded: Loaded) -> Rows
     }
 }
 
-// Loads the model that a number names.
+// Loads the model that a number names into a task's rows, beside those that the other holds.
 pub fn load_said(
     file: &[u8],
     words: &[u64],
     which: u64,
+    top: bool,
+    other: Held,
     questions: &mut [u64],
     patterns: &mut [u64],
     trees: &mut [u64],
@@ -65,7 +69,7 @@ pub fn load_said(
     values: &mut [u64],
     work: &mut [i64],
 ) -> Rows
-    ensures { λ r. ⌜ LoadSaid (now (file .entry)) (now (words .entry)) which (lent (now (questions .entry)) (now (patterns .entry)) (now (trees .entry)) (now (records .entry)) (now (values .entry)) (now (work .entry))) r (lent (now (questions .exit)) (now (patterns .exit)) (now (trees .exit)) (now (records .exit)) (now (values .exit)) (now (work .exit))) ⌝ }
+    ensures { λ r. ⌜ LoadSaid (now (file .entry)) (now (words .entry)) which (sideOf top) (heldOf other) (lent (now (questions .entry)) (now (patterns .entry)) (now (trees .entry)) (now (records .entry)) (now (values .entry)) (now (work .entry))) r (lent (now (questions .exit)) (now (patterns .exit)) (now (trees .exit)) (now (records .exit)) (now (values .exit)) (now (work .exit))) ⌝ }
 {
     let number = judged(words);
     if number == 0 {
@@ -73,6 +77,8 @@ pub fn load_said(
             file,
             words,
             which_of(which),
+            top,
+            other,
             questions,
             patterns,
             trees,

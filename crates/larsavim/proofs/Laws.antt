@@ -1,15 +1,19 @@
 -- How answers are written, and what a slice that is too short leaves.
-use mathlib.Core.Path.{_≡_, refl, sym, ap, _∙_}
+use mathlib.Core.Path.{_≡_, refl, sym, ap, _∙_, subst}
 use mathlib.Core.Bool.{Bool, cond}
 use mathlib.Core.List.{List, [], _∷_}
 use Prim.Native.Nat.{ℕ, _≤_, _<_}
-use borrow.Author.Tests.{lt-ltb, le-ltb}
+use borrow.Author.Tests.{lt-ltb, le-ltb, eq-eqb, ne-eqb}
 use lib.Dec.{ltb}
-use lib.ListN.{length}
+use lib.ListN.{length, set}
 use lib.Seq.{sets}
+use Rattle.written.specs.Sharing.{bottom, Held, nothing}
+use Rattle.load_model.specs.Load.{Tables}
 use Rattle.face_model.specs.declared.Needed.{Needed}
 use Rattle.face_model.specs.declared.Rows.{Rows}
+use Rattle.face_load.specs.Answers.{LoadSaid}
 use Rattle.larsavim.specs.Face.{answered, written, left, neededNumbers, rowsNumbers}
+use Rattle.larsavim.specs.Sharing.{heldLeft}
 
 module _ (k n : ℕ) where
   pub answer-short : (x : ℕ) → k < n → 20 ≡ answered k n x
@@ -57,3 +61,19 @@ pub needed-written : (x : Needed) (t t₁ t₂ t₃ : List ℕ) → t₁ ≡ set
     → t₃ ≡ sets t₂ 8 (x .work ∷ x .width ∷ []) → t₃ ≡ sets t 0 (neededNumbers x)
 needed-written x t t₁ t₂ t₃ e₁ e₂ e₃ =
     e₃ ∙ ap (λ (u : List ℕ). sets u 8 (x .work ∷ x .width ∷ [])) (e₂ ∙ ap (λ (u : List ℕ). sets u 4 (x .patterns ∷ x .trees ∷ x .records ∷ x .values ∷ [])) e₁)
+
+-- ---- a task's bounds
+
+pub keep-done : (x : Rows) (t t₁ : List ℕ) → x .number ≡ 0 → t₁ ≡ sets t 0 (x .questions ∷ x .patterns ∷ x .trees ∷ x .records ∷ []) → set t₁ 4 (x .values) ≡ heldLeft x t
+unfolding heldLeft
+keep-done x t t₁ z e =
+    ap (λ (u : List ℕ). set u 4 (x .values)) e
+    ∙ sym (ap (λ (b : Bool). cond b (sets t 0 (x .questions ∷ x .patterns ∷ x .trees ∷ x .records ∷ x .values ∷ [])) t) (eq-eqb (x .number) 0 z))
+
+pub keep-not : (x : Rows) (t : List ℕ) → (x .number ≡ 0 → ⊥) → t ≡ heldLeft x t
+unfolding heldLeft
+keep-not x t z = sym (ap (λ (b : Bool). cond b (sets t 0 (x .questions ∷ x .patterns ∷ x .trees ∷ x .records ∷ x .values ∷ [])) t) (ne-eqb (x .number) 0 z))
+
+-- bounds of nobody are nothing
+pub load-alone : (s w : List ℕ) (n : ℕ) (T : Tables) {o : Held} {r : Rows} {T₁ : Tables} → o ≡ nothing → LoadSaid s w n bottom o T r T₁ → LoadSaid s w n bottom nothing T r T₁
+load-alone s w n T {r = r} {T₁} e l = subst (λ (o : Held). LoadSaid s w n bottom o T r T₁) e l

@@ -14,6 +14,7 @@ use Rattle.face_model.specs.declared.Needed.{Needed}
 use Rattle.face_model.specs.declared.Rows.{Rows}
 use Rattle.face_model.specs.declared.Ended.{Ended}
 use Rattle.head_words.specs.Words.{flagWord}
+use Rattle.written.specs.Sharing.{bottom, nothing}
 use Rattle.load_model.specs.Load.{Tables}
 use Rattle.walk_leaves.specs.Checks.{leavesFit}
 use Rattle.face_open.specs.Answers.{openSaid, openWords, commentSaid, getSaid, pairSaid}
@@ -81,10 +82,10 @@ Pairs w i out = Answers out 3 (pairSaid w i .number) (pairNumbers (pairSaid w i)
 abbrev pub Needs : List ℕ → List ℕ → ℕ → List ℕ → ℕ → List ℕ → Type 0
 Needs s w n out = Answers out 10 (neededOf s w n .number) (neededNumbers (neededOf s w n))
 
--- larsavim_load: of a file, words, a model and what is lent, it returns x and leaves T₁ and o
+-- larsavim_load, the bottom task's beside nobody: of a file, words, a model and what is lent, it returns x and leaves T₁ and o
 abbrev pub Loads : List ℕ → List ℕ → ℕ → Tables → List ℕ → ℕ → Tables → List ℕ → Type 0
 Loads s u n T out x T₁ o =
-    (x ≡ answered (length out) 8 (filledOf s u n T .rows .number)) × (T₁ ≡ left out 8 T (filledOf s u n T .tables)) × (o ≡ written out 8 (rowsNumbers (filledOf s u n T .rows)))
+    (x ≡ answered (length out) 8 (filledOf s u n bottom nothing T .rows .number)) × (T₁ ≡ left out 8 T (filledOf s u n bottom nothing T .tables)) × (o ≡ written out 8 (rowsNumbers (filledOf s u n bottom nothing T .rows)))
 
 -- larsavim_walk
 abbrev pub Walks : List ℕ → List ℕ → ℕ → List ℕ → ℕ → List ℕ → ℕ → List ℕ → Type 0

@@ -11,9 +11,12 @@ use face_open::comment_said;
 use face_open::get_said;
 use face_open::open_words;
 use face_open::pair_said;
+use face_shared::shared_said;
+use face_shared::unload_said;
 use face_write::length_said;
 use face_write::write_said;
 use label_answers::answers_said;
+use load_shared::nobody;
 use table_put::put2;
 use table_put::put4;
 use walk_depth::depth_said;
@@ -29,9 +32,16 @@ ghost use Rattle.load_model.specs.Load.{lent};
 ghost use Rattle.larsavim.specs.Face.{rowsNumbers, neededNumbers, Opens, Comments, Gets, Pairs, Needs, Loads, Walks, Leaves};
 ghost use Rattle.larsavim.specs.Write.{Measures, Writes};
 ghost use Rattle.larsavim.specs.Depths.{DepthTells};
+ghost use Rattle.larsavim.specs.Sharing.{heldLeft, LoadShares, UnloadTells};
 
 // 20: a lent slice is too short.
 const ROOM: u64 = 20;
+
+// 24: bounds that overlap or pass a table, or a side that is neither.
+const OVERLAP: u64 = 24;
+
+// The numbers of a task's bounds.
+const BOUNDS: usize = 5;
 
 // The numbers of each answer.
 const OPEN_OUT: usize = 2;
@@ -71,6 +81,26 @@ fn put_rows(out: &mut [u64], rows: Rows)
 {
     put4(out, 0, rows.number, rows.place, rows.line, rows.questions);
     put4(out, 4, rows.patterns, rows.trees, rows.records, rows.values);
+}
+
+// A task's bounds after a load: its rows where it is done, else as they were.
+fn keep_rows(held: &mut [u64], rows: Rows)
+    requires { ⌜ 5 ≤ length (now held) ⌝ }
+    ensures { λ r. ⌜ now (held .exit) ≡ heldLeft rows (now (held .entry)) ⌝ }
+{
+    if rows.number == 0 {
+        put4(held, 0, rows.questions, rows.patterns, rows.trees, rows.records);
+        held[4] = rows.values;
+    }
+}
+
+// The bounds of a task that holds nothing.
+fn keep_nothing(held: &mut [u64])
+    requires { ⌜ 5 ≤ length (now held) ⌝ }
+    ensures { λ r. ⌜ now (held .exit) ≡ sets (now (held .entry)) 0 (0 ∷ 0 ∷ 0 ∷ 0 ∷ 0 ∷ []) ⌝ }
+{
+    put4(held, 0, 0, 0, 0, 0);
+    held[4] = 0;
 }
 
 // What a model needs, to the front.
@@ -167,7 +197,7 @@ pub extern "C" fn larsavim_needs(file: &[u8], words: &[u64], which: u64, out: &m
     needed.number
 }
 
-// Loads a model into the lent tables.
+// Loads a model into the lent tables: the bottom task, beside nobody.
 #[no_mangle]
 pub extern "C" fn larsavim_load(
     file: &[u8],
@@ -190,6 +220,8 @@ pub extern "C" fn larsavim_load(
         file,
         words,
         which,
+        false,
+        nobody(),
         questions,
         patterns,
         trees,
@@ -199,6 +231,82 @@ pub extern "C" fn larsavim_load(
     );
     put_rows(out, rows);
     rows.number
+}
+
+// Loads a model into one task's rows of tables that two tasks share.
+#[no_mangle]
+pub extern "C" fn larsavim_load_shared(
+    file: &[u8],
+    words: &[u64],
+    which: u64,
+    side: u64,
+    held: &mut [u64],
+    other: &[u64],
+    questions: &mut [u64],
+    patterns: &mut [u64],
+    trees: &mut [u64],
+    records: &mut [u64],
+    values: &mut [u64],
+    work: &mut [i64],
+    out: &mut [u64],
+) -> u64
+    ensures { λ r. ⌜ LoadShares (now (file .entry)) (now (words .entry)) which side (now (held .entry)) (now (other .entry)) (lent (now (questions .entry)) (now (patterns .entry)) (now (trees .entry)) (now (records .entry)) (now (values .entry)) (now (work .entry))) (now (out .entry)) r (now (held .exit)) (lent (now (questions .exit)) (now (patterns .exit)) (now (trees .exit)) (now (records .exit)) (now (values .exit)) (now (work .exit))) (now (out .exit)) ⌝ }
+{
+    if out.len() < LOAD_OUT {
+        return ROOM;
+    }
+    if held.len() < BOUNDS {
+        return ROOM;
+    }
+    if other.len() < BOUNDS {
+        return ROOM;
+    }
+    let rows = shared_said(
+        file,
+        words,
+        which,
+        side,
+        held,
+        other,
+        questions,
+        patterns,
+        trees,
+        records,
+        values,
+        work,
+    );
+    keep_rows(held, rows);
+    put_rows(out, rows);
+    rows.number
+}
+
+// Zeroes one task's rows and its bounds.
+#[no_mangle]
+pub extern "C" fn larsavim_unload(
+    side: u64,
+    held: &mut [u64],
+    other: &[u64],
+    questions: &mut [u64],
+    patterns: &mut [u64],
+    trees: &mut [u64],
+    records: &mut [u64],
+    values: &mut [u64],
+) -> u64
+    ensures { λ r. ⌜ UnloadTells side (now (held .entry)) (now (other .entry)) (now (questions .entry)) (now (patterns .entry)) (now (trees .entry)) (now (records .entry)) (now (values .entry)) r (now (held .exit)) (now (questions .exit)) (now (patterns .exit)) (now (trees .exit)) (now (records .exit)) (now (values .exit)) ⌝ }
+{
+    if held.len() < BOUNDS {
+        return ROOM;
+    }
+    if other.len() < BOUNDS {
+        return ROOM;
+    }
+    if !unload_said(
+        side, held, other, questions, patterns, trees, records, values,
+    ) {
+        return OVERLAP;
+    }
+    keep_nothing(held);
+    0
 }
 
 // Walks one tree.

@@ -1,4 +1,4 @@
--- What a plan and the room for it give each stage that writes; and each way through a load.
+-- What a plan and the room for it give each stage that writes; and each way through filling.
 use mathlib.Core.Path.{_≡_, refl, sym, ap, ap₂, _∙_, subst}
 use mathlib.Core.Bool.{Bool, true, false, cond, _&&_}
 use mathlib.Core.List.{List, [], _∷_, _++_}
@@ -16,24 +16,17 @@ use Rattle.pdf_blocks.specs.declared.Block.{Block}
 use Rattle.pdf_blocks.specs.declared.Block.the-variants as block
 use Rattle.pdf_values.specs.Folded.{withBlocks}
 use Rattle.pdf_values.proofs.Laws.{entry-width}
-use Rattle.error.specs.declared.Refusal.{Refusal}
-use Rattle.error.specs.declared.Refusal.the-variants as refusal
-use Rattle.head_record.specs.declared.Header.{Header}
-use Rattle.load_choose.specs.declared.Which.{Which}
 use Rattle.tree_question.specs.Questions.{questionsAt}
 use Rattle.load_questions.specs.Words.{patternWords}
 use Rattle.load_trees.specs.Trees.{allLinked}
 use Rattle.load_trees.specs.declared.Linked.{Linked}
 use Rattle.load_text.specs.Text.{Fits, wordsAt as questionRows, endAt, treesStored, recordsStored, kept, TextFilled}
 use Rattle.load_text.proofs.Laws.{kept-done, kept-not}
-use Rattle.load_plan.specs.Plans.{Sound, dataOf, planned}
-use Rattle.load_plan.specs.declared.Planned.{Planned}
-use Rattle.load_plan.specs.declared.Planned.the-variants as planned
+use Rattle.load_plan.specs.Plans.{Sound}
 use Rattle.load_plan.specs.declared.Plan.{Plan}
 use Rattle.load_plan.proofs.Laws.{was}
 use Rattle.load_model.specs.declared.Loaded.{Loaded}
-use Rattle.load_model.specs.declared.Loaded.the-variants.{Refused}
-use Rattle.load_model.specs.Load.{Tables, lent, After, roomFor, roomIn, BlockRoom, answerFor, blocksOf, keptTrees, filled, untouched, loadFor, loadOf, Is, Fills, Loads}
+use Rattle.load_model.specs.Load.{Tables, lent, roomFor, BlockRoom, answerFor, blocksOf, keptTrees, filled, Fills}
 
 -- ---- the size of a block
 
@@ -217,20 +210,3 @@ module _ (d : List ℕ) (p : Plan) (T : Tables) {S : List ℕ} {o : Linked} {l :
   fill-zero f g =
       let B = take (p .«block_end») d in
       filled-is refl (text-by f ∙ sym (trees-by f (treesStored S (p .text) (p .first)) B)) (kept-not o (T .values) (valuesAt B (p .block + 4 * p .trees) (p .width) (p .entries)) told f refl g)
-
-module _ (s : List ℕ) (h : Header) (which : Which) (T : Tables) where
-  pub load-refused : {x : Refusal} → planned.Refused x ≡ planned s h which → Loads s h which T (Refused x) T
-  unfolding loadOf
-  load-refused {x} e = subst (λ (o : Planned). Is (loadFor (dataOf s h) o T) (Refused x) T) e (refl, refl)
-
-  module _ (p : Plan) (e : planned.Model p ≡ planned s h which) where
-    by-room : (c : Bool) → roomIn p T ≡ c → {l : Loaded} {T₁ : Tables} → Is (cond c (filled (dataOf s h) p T) (untouched refusal.Room T)) l T₁ → Loads s h which T l T₁
-    unfolding loadOf
-    by-room c k {l} {T₁} z =
-        subst (λ (o : Planned). Is (loadFor (dataOf s h) o T) l T₁) e (subst (λ (c : Bool). Is (cond c (filled (dataOf s h) p T) (untouched refusal.Room T)) l T₁) (sym k) z)
-
-    pub load-room : {c : Bool} → c ≡ roomIn p T → c ≡ false → Loads s h which T (Refused refusal.Room) T
-    load-room k f = by-room false (sym k ∙ f) (refl, refl)
-
-    pub load-filled : {c : Bool} {d : List ℕ} {l : Loaded} {T₁ : Tables} → c ≡ roomIn p T → c ≡ true → d ≡ dataOf s h → Fills d p T l T₁ → Loads s h which T l T₁
-    load-filled {l = l} {T₁} k f y z = by-room true (sym k ∙ f) (subst (λ (d : List ℕ). Fills d p T l T₁) y z)

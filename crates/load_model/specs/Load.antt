@@ -1,5 +1,5 @@
--- What a load answers, and each lent slice after it, by the file's bytes, the record and the slices before it (01, 'Linking and tables'; 02, Wish 10).
--- Refusals up to 20 leave the slices as they were; 21 to 23 leave them zero.
+-- What a load into tables of its own answers, and each lent slice after it, by the file's bytes, the record and the slices before it (01, 'Linking and tables'; 02,
+-- Wish 10). Refusals up to 20 leave the slices as they were; 21 to 23 leave them zero. `load_shared` loads so into just the rows that a model needs (02, Wish 9).
 use mathlib.Core.Path.{_≡_}
 use mathlib.Core.Bool.{Bool, cond, _&&_}
 use mathlib.Core.List.{List}

@@ -9,12 +9,15 @@ use Rattle.written.specs.Models.{Model, modelNumber}
 use Rattle.load_model.specs.Load.{Tables}
 use Rattle.head_de.proofs.Sound.{Bytes}
 use Rattle.larsavim.specs.Face.{Opens, Comments, Gets, Pairs, Needs, Loads}
+use Rattle.larsavim.specs.Sharing.{LoadShares}
 use Rattle.promises.specs.Opening.{recordWords}
 use Rattle.promises.specs.Reading.{AfterComment, AfterGet, AfterPair}
 use Rattle.promises.specs.Loading.{AfterNeeds, AfterLoad}
+use Rattle.promises.specs.Sharing.{AfterShared}
 use Rattle.promises.proofs.Opening.{open-kept}
 use Rattle.promises.proofs.Reading.{comment-kept, get-kept, pair-kept}
 use Rattle.promises.proofs.Loading.{load-kept, needs-kept}
+use Rattle.promises.proofs.Sharing.{shared-kept}
 use Rattle.promises.proofs.Walked.{opened-zero}
 
 module _ (s w out w′ o : List ℕ) (open-call : Opens s w out 0 w′ o) where
@@ -42,3 +45,9 @@ module _ (s w out w′ o : List ℕ) (open-call : Opens s w out 0 w′ o) where
 
   pub then-load : (m : Model) (t : Tables) (out₁ : List ℕ) {r : ℕ} {t′ : Tables} {o₁ : List ℕ} → Loads s w′ (modelNumber m) t out₁ r t′ o₁ → AfterLoad s h m t out₁ r t′ o₁
   then-load m t out₁ {r} {t′} {o₁} c = load-kept bytes (record-said .1) m t w (record-said .2) out₁ (subst (λ (u : List ℕ). Loads s u (modelNumber m) t out₁ r t′ o₁) (record-said .3) c)
+
+  pub then-load-shared : (m : Model) (side : ℕ) (held other : List ℕ) (t : Tables) (out₁ : List ℕ) {r : ℕ} {held₁ : List ℕ} {t′ : Tables} {o₁ : List ℕ}
+      → LoadShares s w′ (modelNumber m) side held other t out₁ r held₁ t′ o₁ → AfterShared s h m side held other t out₁ r held₁ t′ o₁
+  then-load-shared m side held other t out₁ {r} {held₁} {t′} {o₁} c =
+      shared-kept bytes (record-said .1) m w (record-said .2) side held other t out₁
+      (subst (λ (u : List ℕ). LoadShares s u (modelNumber m) side held other t out₁ r held₁ t′ o₁) (record-said .3) c)

@@ -7,7 +7,10 @@ pub mod Reading
 pub mod Tables
 pub mod Plans
 pub mod NoModel
+pub mod Beside
 pub mod Loading
+pub mod Sharing
+pub mod Apart
 pub mod Walking
 pub mod Walked
 pub mod Front

@@ -2,4 +2,5 @@ pub mod Opening
 pub mod Reading
 pub mod Writing
 pub mod Loading
+pub mod Sharing
 pub mod Walking

@@ -1,7 +1,7 @@
 -- What `larsavim_load` promises of words that an opening of the file wrote: what it returns, every lent slice and `out` after it, by what the file says; and what
 -- `larsavim_needs` tells before it.
 use mathlib.Core.List.{List, [], _∷_, flatten}
-use Prim.Native.Nat.{ℕ, _/_, _≤_, _<_}
+use Prim.Native.Nat.{ℕ, _*_, _/_, _≤_, _<_}
 use lib.IntN.{ℤ, pos}
 use lib.ListN.{length, getD, replicate}
 use lib.Seq.{sets}
@@ -49,12 +49,15 @@ stored t x l trees records =
     lent (sets (t .questions) 0 (flatten (questionRows 0 (l .questions)))) (sets (t .patterns) 0 (flatten (patternRows (l .questions))))
     (sets (t .trees) 0 (flatten (folded trees (x .rows)))) (sets (t .records) 0 (flatten records)) (sets (t .values) 0 (x .values)) (replicate (length (t .work)) (pos 0))
 
--- zero over its whole length
-abbrev pub zeros : List ℕ → List ℕ
-zeros l = replicate (length l) 0
+-- a table whose first n numbers are zero, what is behind them as before
+abbrev pub zeros : List ℕ → ℕ → List ℕ
+zeros l n = sets l 0 (replicate n 0)
 
-abbrev pub zeroed : Tables → Tables
-zeroed t = lent (zeros (t .questions)) (zeros (t .patterns)) (zeros (t .trees)) (zeros (t .records)) (zeros (t .values)) (replicate (length (t .work)) (pos 0))
+-- the rows that the model needs are zero in each table (02, Wish 9), and all of the work
+abbrev pub zeroed : ModelSaid → Tables → Tables
+zeroed x t =
+    lent (zeros (t .questions) (4 * length (x .text .questions))) (zeros (t .patterns) (2 * patternsOf x)) (zeros (t .trees) (6 * length (x .text .trees)))
+    (zeros (t .records) (4 * recordsOf x)) (zeros (t .values) (length (x .values))) (replicate (length (t .work)) (pos 0))
 
 -- ---- the answer: number, place, line, then rows of questions, patterns, trees, records, and values
 
@@ -74,9 +77,9 @@ pub data LoadEnds (s : List ℕ) (h : Header) (m : Model) (t : Tables) : List �
   no-model : {n p k : ℕ} → NoModel widening s h m n p k → n ≤ 19 → LoadEnds s h m t (refusedNumbers n p k) t
   -- 20
   no-room : {x : ModelSaid} {l : Layout} → ReadsModel widening s h m x l → ¬ Room x t → LoadEnds s h m t (refusedNumbers 20 0 0) t
-  -- 21 to 23: its trees don't link; everything lent is zero
+  -- 21 to 23: its trees don't link; the rows that it needed are zero
   unlinked : {x : ModelSaid} {l : Layout} {n i k : ℕ}
-      → ReadsModel widening s h m x l → Room x t → ModelRefused (x .text .questions) (x .text .trees) n i k → LoadEnds s h m t (refusedNumbers n i k) (zeroed t)
+      → ReadsModel widening s h m x l → Room x t → ModelRefused (x .text .questions) (x .text .trees) n i k → LoadEnds s h m t (refusedNumbers n i k) (zeroed x t)
 
 pub data AfterLoad (s : List ℕ) (h : Header) (m : Model) (t : Tables) (out : List ℕ) : ℕ → Tables → List ℕ → Type 0 where
   short-out : length out < 8 → AfterLoad s h m t out 20 t out

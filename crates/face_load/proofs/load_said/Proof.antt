@@ -1,6 +1,7 @@
 -- `face_load::load_said`: by how the words are judged.
 use mathlib.Core.Path.{sym, _∙_}
 use Rattle.load_model.specs.Load.{lent}
+use Rattle.load_shared.specs.Beside.{sideOf, heldOf}
 use Rattle.face_open.proofs.Laws.{judged-room}
 use Rattle.face_load.proofs.Laws.{load-fit, load-unfit}
 use borrow.Author.Needs.{needs}
@@ -40,7 +41,7 @@ same-length-6 c = search needs
 returns : tie.Need-returns
 returns c =
     let a = c .before .before .before .before .before .before .before .before .before .before .before .before .before .before .before .before .before .before .before .before .before .before .before .before .before .before .before .before .before .args in
-    load-fit (a .file .now) (a .words .now) (a .which) (lent (a .questions .now) (a .patterns .now) (a .trees .now) (a .records .now) (a .values .now) (a .work .now)) (c .before .before .before .before .before .before .before .before .before .before .before .before .before .before .before .before .before .before .before .before .before .judged .ensures) (c .before .before .before .before .before .before .before .before .before .before .before .before .before .before .before .before .before .before .before .before .if1 .taken) (c .before .before .before .before .before .before .before .before .before .before .before .before .before .before .before .before .before .before .before .which-of .ensures) (c .before .before .before .before .before .before .before .before .before .before .before .before .load .ensures) (c .rows-of .ensures)
+    load-fit (a .file .now) (a .words .now) (a .which) (sideOf (a .top)) (heldOf (a .other)) (lent (a .questions .now) (a .patterns .now) (a .trees .now) (a .records .now) (a .values .now) (a .work .now)) (c .before .before .before .before .before .before .before .before .before .before .before .before .before .before .before .before .before .before .before .before .before .judged .ensures) (c .before .before .before .before .before .before .before .before .before .before .before .before .before .before .before .before .before .before .before .before .if1 .taken) (c .before .before .before .before .before .before .before .before .before .before .before .before .before .before .before .before .before .before .before .which-of .ensures) (c .before .before .before .before .before .before .before .before .before .before .before .before .load .ensures) (c .rows-of .ensures)
 
 no-rows-requires : tie.Need-no-rows-requires
 no-rows-requires c κs = search needs
@@ -48,7 +49,7 @@ no-rows-requires c κs = search needs
 returns-2 : tie.Need-returns-2
 returns-2 c =
     let a = c .before .before .before .before .before .before .before .before .before .before .args in
-    load-unfit (a .file .now) (a .words .now) (a .which) (lent (a .questions .now) (a .patterns .now) (a .trees .now) (a .records .now) (a .values .now) (a .work .now)) (c .before .before .judged .ensures) (c .before .if1 .left) (c .no-rows .ensures)
+    load-unfit (a .file .now) (a .words .now) (a .which) (sideOf (a .top)) (heldOf (a .other)) (lent (a .questions .now) (a .patterns .now) (a .trees .now) (a .records .now) (a .values .now) (a .work .now)) (c .before .before .judged .ensures) (c .before .if1 .left) (c .no-rows .ensures)
 
 pub load-said-spec : {M : Type 1} → statement M
 load-said-spec =

@@ -1,0 +1,227 @@
+-- A part that is cut out of a table and comes back is the task's rows put there, at any width; and each way through the functions.
+use mathlib.Core.Path.{_≡_, refl, sym, ap, _∙_, subst, fun-ext}
+use mathlib.Core.Bool.{Bool, true, false, not, cond, _&&_}
+use mathlib.Core.List.{List}
+use Prim.Native.Nat.{ℕ, _+_, _-_, _*_, _/_, _≤_, _<_}
+use native.Mathlib.Nat.{one-mul, div-one}
+use native.Mathlib.Omega.{arith}
+use lib.Dec.{leb}
+use lib.IntN.{ℤ}
+use lib.ListN.{length, take, drop, replicate, length-replicate}
+use lib.Seq.{sets}
+use borrow.Author.Tests.{leb-true, leb-false, le-leb, lt-leb, not-true, not-false}
+use borrow.Rule.Slice.PartMut.{putMid}
+use Rattle.laws.proofs.Tables.{part-put}
+use Rattle.written.specs.Sharing.{Side, Table, questions, patterns, trees, records, values, width, Tables, Held, nothing, startOf, firstRow, own, putRows, seen, cleared, Stand, stands}
+use Rattle.error.specs.declared.Refusal.{Refusal}
+use Rattle.error.specs.declared.Refusal.the-variants as refusal
+use Rattle.head_record.specs.declared.Header.{Header}
+use Rattle.load_choose.specs.declared.Which.{Which}
+use Rattle.load_plan.specs.Plans.{dataOf, planned}
+use Rattle.load_plan.specs.declared.Plan.{Plan}
+use Rattle.load_plan.specs.declared.Planned.{Planned}
+use Rattle.load_plan.specs.declared.Planned.the-variants as plan
+use Rattle.load_model.specs.declared.Loaded.{Loaded}
+use Rattle.load_model.specs.declared.Loaded.the-variants as loaded
+use Rattle.load_model.specs.Load.{Tables as Lent, lent, After as FillAfter, roomFor, filled, untouched as asLent, Is}
+use Rattle.load_model.proofs.Laws.{same-lent}
+use Rattle.load_apart.specs.Loads.{Done as Done′, Overlap, After, untouched, unloadOf}
+use Rattle.load_apart.proofs.Rows.{length-part, within, length-own}
+use Rattle.load_apart.proofs.Tests.{stands-is}
+use Rattle.load_apart.proofs.Apart.{unload-is}
+use Rattle.load_shared.specs.declared.Held.{Held as Bounds}
+use Rattle.load_shared.specs.Beside.{needOf, heldOf, tablesOf, rowsOf, withWork, standsAt, Fits, putBack, placedIn, roomBy, besideFor, besideOf, FillsOwn, LoadsBeside, Tabled, Unloads}
+
+-- ---- tests
+
+pub beside-is : (rows a b : ℕ) → b ≤ rows → leb a (rows - b) ≡ leb (a + b) rows
+beside-is rows a b h = go (leb (a + b) rows) refl
+  where
+    go : (x : Bool) → leb (a + b) rows ≡ x → leb a (rows - b) ≡ leb (a + b) rows
+    go true e = let f : a + b ≤ rows = leb-true _ _ e in le-leb a (rows - b) (omega arith) ∙ sym e
+    go false e = let f : rows < a + b = leb-false _ _ e in lt-leb a (rows - b) (omega arith) ∙ sym e
+
+pub nobody-is : heldOf (record { questions = 0; patterns = 0; trees = 0; records = 0; values = 0 }) ≡ nothing
+nobody-is = fun-ext at
+  where
+    at : (k : Table) → heldOf (record { questions = 0; patterns = 0; trees = 0; records = 0; values = 0 }) k ≡ nothing k
+    at questions = refl
+    at patterns = refl
+    at trees = refl
+    at records = refl
+    at values = refl
+
+pub need-is : (p : Plan) → heldOf (record { questions = p .questions; patterns = p .patterns; trees = p .trees; records = p .records; values = p .entries * p .width }) ≡ needOf p
+need-is p = fun-ext at
+  where
+    at : (k : Table) → heldOf (record { questions = p .questions; patterns = p .patterns; trees = p .trees; records = p .records; values = p .entries * p .width }) k ≡ needOf p k
+    at questions = refl
+    at patterns = refl
+    at trees = refl
+    at records = refl
+    at values = refl
+
+-- ---- a part that is cut out
+
+-- from a up to e are the n rows of a task
+pub record Cut (x : Side) (w : ℕ) (t : List ℕ) (n a e : ℕ) : Type 0 where
+  pub start : a ≡ startOf x w (length t) n
+  pub end : e ≡ a + w * n
+  pub room : n ≤ length t / w
+
+module _ (x : Side) (w : ℕ) (t : List ℕ) (n a e : ℕ) (c : Cut x w t n a e) where
+  pub cut-long : e - a ≡ w * n
+  cut-long = omega (arith, c .end)
+
+  pub cut-within : a + w * n ≤ length t
+  cut-within = subst (λ (b : ℕ). b + w * n ≤ length t) (sym (c .start)) (within x w (length t) n (c .room))
+
+  pub cut-own : take (e - a) (drop a t) ≡ own x w t n
+  cut-own = ap (λ (m : ℕ). take m (drop a t)) cut-long ∙ ap (λ (b : ℕ). take (w * n) (drop b t)) (c .start)
+
+  pub cut-length : length (take (e - a) (drop a t)) ≡ w * n
+  cut-length = ap length cut-own ∙ length-own x w t n (c .room)
+
+  pub cut-back : (ys : List ℕ) → length ys ≡ length (take (e - a) (drop a t)) → putMid a (e - a) t ys ≡ putRows x w t n ys
+  cut-back ys l =
+      ap (λ (m : ℕ). putMid a m t ys) cut-long ∙ part-put t a (w * n) ys (l ∙ cut-length) cut-within
+      ∙ ap (λ (b : ℕ). sets t b ys) (c .start)
+
+-- the rows of a task from the first on, in numbers
+pub cut-rows : (x : Side) (w : ℕ) (t : List ℕ) (n : ℕ) {r : ℕ} → r ≡ firstRow x (length t / w) n → n ≤ length t / w → Cut x w t n (w * r) (w * r + w * n)
+cut-rows x w t n e h = record { start = ap (λ (r : ℕ). w * r) e; end = refl; room = h }
+
+pub cut-ones : (x : Side) (t : List ℕ) (n : ℕ) {r : ℕ} → r ≡ firstRow x (length t) n → n ≤ length t → Cut x 1 t n r (r + n)
+cut-ones x t n {r} e h =
+    record {
+      start = e ∙ ap (λ (l : ℕ). firstRow x l n) (sym (div-one (length t))) ∙ sym (one-mul (firstRow x (length t / 1) n));
+      end = ap (λ (m : ℕ). r + m) (sym (one-mul n));
+      room = omega arith;
+    }
+
+-- ---- a plan filled into the parts
+
+pub room-true : (p : Plan) (q a t c v w : ℕ) → p .questions ≤ q / 4 → p .patterns ≤ a / 2 → p .trees ≤ t / 6 → p .records ≤ c / 4 → p .entries * p .width ≤ v → p .lines ≤ w / 6 → roomFor p q a t c v w ≡ true
+unfolding roomFor
+room-true p q a t c v w h i j k l m = rw (le-leb _ _ h, le-leb _ _ i, le-leb _ _ j, le-leb _ _ k, le-leb _ _ l, le-leb _ _ m) refl
+
+module _ (x : Side) (d : List ℕ) (p : Plan) (q a t c v : List ℕ) (w : List ℤ) {i i′ j j′ k k′ l l′ m m′ : ℕ} (cq : Cut x 4 q (p .questions) i i′) (ca : Cut x 2 a (p .patterns) j j′)
+    (ct : Cut x 6 t (p .trees) k k′) (cc′ : Cut x 4 c (p .records) l l′) (cv : Cut x 1 v (p .entries * p .width) m m′) where
+  pub parts-room : p .lines ≤ length w / 6 → roomFor p (length (take (i′ - i) (drop i q))) (length (take (j′ - j) (drop j a))) (length (take (k′ - k) (drop k t))) (length (take (l′ - l) (drop l c))) (length (take (m′ - m) (drop m v))) (length w) ≡ true
+  parts-room h =
+      room-true p _ _ _ _ _ _ (omega (arith, cut-length x 4 q (p .questions) i i′ cq)) (omega (arith, cut-length x 2 a (p .patterns) j j′ ca)) (omega (arith, cut-length x 6 t (p .trees) k k′ ct))
+      (omega (arith, cut-length x 4 c (p .records) l l′ cc′)) (omega (arith, cut-length x 1 v (p .entries * p .width) m m′ cv, one-mul (p .entries * p .width))) h
+
+  -- the parts that are lent are the task's rows
+  parts-own : lent (take (i′ - i) (drop i q)) (take (j′ - j) (drop j a)) (take (k′ - k) (drop k t)) (take (l′ - l) (drop l c)) (take (m′ - m) (drop m v)) w
+      ≡ withWork (seen x (needOf p) (tablesOf q a t c v)) w
+  parts-own =
+      same-lent (cut-own x 4 q (p .questions) i i′ cq) (cut-own x 2 a (p .patterns) j j′ ca) (cut-own x 6 t (p .trees) k k′ ct) (cut-own x 4 c (p .records) l l′ cc′)
+      (cut-own x 1 v (p .entries * p .width) m m′ cv) refl
+
+  pub own-filled : {r : Loaded} {q₁ a₁ t₁ c₁ v₁ : List ℕ} {w₁ : List ℤ}
+      → Is (filled d p (lent (take (i′ - i) (drop i q)) (take (j′ - j) (drop j a)) (take (k′ - k) (drop k t)) (take (l′ - l) (drop l c)) (take (m′ - m) (drop m v)) w)) r (lent q₁ a₁ t₁ c₁ v₁ w₁)
+      → length q₁ ≡ length (take (i′ - i) (drop i q)) → length a₁ ≡ length (take (j′ - j) (drop j a)) → length t₁ ≡ length (take (k′ - k) (drop k t)) → length c₁ ≡ length (take (l′ - l) (drop l c))
+      → length v₁ ≡ length (take (m′ - m) (drop m v))
+      → FillsOwn x d p (lent q a t c v w) r (lent (putMid i (i′ - i) q q₁) (putMid j (j′ - j) a a₁) (putMid k (k′ - k) t t₁) (putMid l (l′ - l) c c₁) (putMid m (m′ - m) v v₁) w₁)
+  unfolding placedIn
+  own-filled {q₁ = q₁} {a₁} {t₁} {c₁} {v₁} f lq la lt lc lv =
+      let e = ap (filled d p) parts-own in
+      let g = f .1 ∙ ap (λ (o : FillAfter). o .tables) e in (
+        f .0 ∙ ap (λ (o : FillAfter). o .answer) e,
+        same-lent
+            (cut-back x 4 q (p .questions) i i′ cq q₁ lq ∙ ap (λ (T : Lent). putRows x 4 q (p .questions) (T .questions)) g)
+            (cut-back x 2 a (p .patterns) j j′ ca a₁ la ∙ ap (λ (T : Lent). putRows x 2 a (p .patterns) (T .patterns)) g)
+            (cut-back x 6 t (p .trees) k k′ ct t₁ lt ∙ ap (λ (T : Lent). putRows x 6 t (p .trees) (T .trees)) g)
+            (cut-back x 4 c (p .records) l l′ cc′ c₁ lc ∙ ap (λ (T : Lent). putRows x 4 c (p .records) (T .records)) g)
+            (cut-back x 1 v (p .entries * p .width) m m′ cv v₁ lv ∙ ap (λ (T : Lent). putRows x 1 v (p .entries * p .width) (T .values)) g)
+            (ap (λ (T : Lent). T .work) g),
+      )
+
+-- ---- each way through a load
+
+pub stands-at : (x y : Held) (q a t c v : List ℕ) → standsAt x y (length q) (length a) (length t) (length c) (length v) ≡ stands (tablesOf q a t c v) x y
+unfolding standsAt stands
+stands-at x y q a t c v = refl
+
+-- what the test in the code tells
+pub stood : (x y : Held) (q a t c v : List ℕ) {b : Bool} → b ≡ standsAt x y (length q) (length a) (length t) (length c) (length v) → not b ≡ false → stands (tablesOf q a t c v) x y ≡ true
+stood x y q a t c v {b} e h = sym (stands-at x y q a t c v) ∙ sym e ∙ not-false b h
+
+pub not-stood : (x y : Held) (q a t c v : List ℕ) {b : Bool} → b ≡ standsAt x y (length q) (length a) (length t) (length c) (length v) → not b ≡ true → stands (tablesOf q a t c v) x y ≡ false
+not-stood x y q a t c v {b} e h = sym (stands-at x y q a t c v) ∙ sym e ∙ not-true b h
+
+pub stood-rows : (x y : Held) (q a t c v : List ℕ) {b : Bool} → b ≡ standsAt x y (length q) (length a) (length t) (length c) (length v) → not b ≡ false → Stand (tablesOf q a t c v) x y
+stood-rows x y q a t c v e h = stands-is (tablesOf q a t c v) x y (stood x y q a t c v e h)
+
+module _ (x : Side) (s : List ℕ) (h : Header) (which : Which) (other : Held) (T : Lent) where
+  pub load-refused : {z : Refusal} → plan.Refused z ≡ planned s h which → LoadsBeside x s h which other T (loaded.Refused z) T
+  unfolding besideOf
+  load-refused {z} e = subst (λ (o : Planned). Is (besideFor x other (dataOf s h) o T) (loaded.Refused z) T) e (refl, refl)
+
+  module _ (p : Plan) (e : plan.Model p ≡ planned s h which) where
+    by-room : (b : Bool) → roomBy p other T ≡ b → {l : Loaded} {T₁ : Lent} → Is (cond b (placedIn x (dataOf s h) p T) (asLent refusal.Room T)) l T₁ → LoadsBeside x s h which other T l T₁
+    unfolding besideOf
+    by-room b k {l} {T₁} z =
+        subst (λ (o : Planned). Is (besideFor x other (dataOf s h) o T) l T₁) e (subst (λ (b : Bool). Is (cond b (placedIn x (dataOf s h) p T) (asLent refusal.Room T)) l T₁) (sym k) z)
+
+    -- the rows as the code judges them, of bounds that are the plan's need
+    module _ (n : Bounds) {b : Bool} (i : heldOf n ≡ needOf p)
+        (j : b ≡ standsAt (heldOf n) other (length (T .questions)) (length (T .patterns)) (length (T .trees)) (length (T .records)) (length (T .values))) where
+      pub rows-judged : stands (rowsOf T) (needOf p) other ≡ b
+      rows-judged =
+          sym (stands-at (needOf p) other (T .questions) (T .patterns) (T .trees) (T .records) (T .values))
+          ∙ ap (λ (m : Held). standsAt m other (length (T .questions)) (length (T .patterns)) (length (T .trees)) (length (T .records)) (length (T .values))) (sym i) ∙ sym j
+
+      pub load-no-rows : not b ≡ true → LoadsBeside x s h which other T (loaded.Refused refusal.Room) T
+      load-no-rows f = by-room false (ap (λ (c : Bool). c && leb (p .lines) (length (T .work) / 6)) (rows-judged ∙ not-true b f)) (refl, refl)
+
+      pub load-no-lines : not b ≡ false → length (T .work) / 6 < p .lines → LoadsBeside x s h which other T (loaded.Refused refusal.Room) T
+      load-no-lines f l = by-room false (ap (λ (c : Bool). c && leb (p .lines) (length (T .work) / 6)) (rows-judged ∙ not-false b f) ∙ lt-leb _ _ l) (refl, refl)
+
+      pub load-filled : not b ≡ false → p .lines ≤ length (T .work) / 6 → {d : List ℕ} {l : Loaded} {T₁ : Lent} → d ≡ dataOf s h → FillsOwn x d p T l T₁ → LoadsBeside x s h which other T l T₁
+      load-filled f k {d} {l} {T₁} y z =
+          by-room true (ap (λ (c : Bool). c && leb (p .lines) (length (T .work) / 6)) (rows-judged ∙ not-false b f) ∙ le-leb _ _ k) (subst (λ (d : List ℕ). FillsOwn x d p T l T₁) y z)
+
+      -- bounds that stand have room for a plan that needs them
+      pub load-fits : not b ≡ false → p .lines ≤ length (T .work) / 6 → Fits p (length (T .questions)) (length (T .patterns)) (length (T .trees)) (length (T .records)) (length (T .values)) (length (T .work))
+      load-fits f k =
+          let g : Stand (rowsOf T) (needOf p) other = stands-is (rowsOf T) (needOf p) other (rows-judged ∙ not-false b f) in
+          record {
+            questions = omega (arith, g questions);
+            patterns = omega (arith, g patterns);
+            trees = omega (arith, g trees);
+            records = omega (arith, g records);
+            values = omega (arith, g values);
+            lines = k;
+          }
+
+-- ---- unloading
+
+pub cleared-part : (t : List ℕ) (a e : ℕ) → a ≤ e → e ≤ length t → {ys : List ℕ} → ys ≡ replicate (length (take (e - a) (drop a t))) 0 → putMid a (e - a) t ys ≡ sets t a (replicate (e - a) 0)
+cleared-part t a e h g {ys} f =
+    let l : length (take (e - a) (drop a t)) ≡ e - a = length-part t a (e - a) (omega arith) in
+    let z : ys ≡ replicate (e - a) 0 = f ∙ ap (λ (m : ℕ). replicate m 0) l in
+    ap (putMid a (e - a) t) z ∙ part-put t a (e - a) (replicate (e - a) 0) (length-replicate (e - a) 0) (omega arith)
+
+pub cleared-is : (x : Side) (w : ℕ) (t : List ℕ) (n a e : ℕ) → Cut x w t n a e → {t₁ : List ℕ} → t₁ ≡ sets t a (replicate (e - a) 0) → t₁ ≡ putRows x w t n (replicate (w * n) 0)
+cleared-is x w t n a e c f = f ∙ ap (λ (m : ℕ). sets t a (replicate m 0)) (cut-long x w t n a e c) ∙ ap (λ (b : ℕ). sets t b (replicate (w * n) 0)) (c .start)
+
+module _ (x : Side) (mine other : Held) (q a t c v : List ℕ) where
+  pub unload-not : stands (tablesOf q a t c v) mine other ≡ false → Unloads x mine other q a t c v false q a t c v
+  unfolding unloadOf
+  unload-not s =
+      record {
+        done = sym s;
+        tables =
+            subst (λ (b : Bool). Tabled (cond b (record { answer = Done′ nothing; tables = cleared x mine (tablesOf q a t c v); held = nothing }) (untouched {R = Refusal} Overlap mine (tablesOf q a t c v)) .tables) q a t c v) (sym s)
+            (record { questions = refl; patterns = refl; trees = refl; records = refl; values = refl });
+      }
+
+  pub unload-done : stands (tablesOf q a t c v) mine other ≡ true → {q₁ a₁ t₁ c₁ v₁ : List ℕ} → Tabled (cleared x mine (tablesOf q a t c v)) q₁ a₁ t₁ c₁ v₁ → Unloads x mine other q a t c v true q₁ a₁ t₁ c₁ v₁
+  unload-done s {q₁} {a₁} {t₁} {c₁} {v₁} l =
+      record {
+        done = sym s;
+        tables =
+            subst (λ (o : After Refusal). Tabled (o .tables) q₁ a₁ t₁ c₁ v₁) (sym (unload-is Refusal x mine other (tablesOf q a t c v) (stands-is (tablesOf q a t c v) mine other s))) l;
+      }

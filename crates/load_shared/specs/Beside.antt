@@ -1,0 +1,119 @@
+-- What a load into one task's rows answers and leaves, by the file's bytes, the record, the other task's bounds and the slices before it (01, 'Linking and tables'; 02,
+-- Wish 9); and what an unload leaves. Refusals up to 20 leave the slices as they were; 21 to 23 leave the rows needed zero, and all of the work.
+use mathlib.Core.Path.{_≡_}
+use mathlib.Core.Bool.{Bool, true, false, cond, _&&_}
+use mathlib.Core.List.{List}
+use Prim.Native.Nat.{ℕ, _+_, _*_, _/_, _≤_}
+use lib.Dec.{leb}
+use lib.IntN.{ℤ}
+use lib.ListN.{length}
+use Rattle.written.specs.Sharing.{Side, bottom, top, Table, questions, patterns, trees, records, values, width, wholeRows, Tables, Held, seen, placed, everyTable, stands}
+use Rattle.error.specs.declared.Refusal.{Refusal}
+use Rattle.error.specs.declared.Refusal.the-variants as refusal
+use Rattle.head_record.specs.declared.Header.{Header}
+use Rattle.load_choose.specs.declared.Which.{Which}
+use Rattle.load_plan.specs.Plans.{dataOf, planned}
+use Rattle.load_plan.specs.declared.Plan.{Plan}
+use Rattle.load_plan.specs.declared.Planned.{Planned}
+use Rattle.load_plan.specs.declared.Planned.the-variants as plan
+use Rattle.load_model.specs.declared.Loaded.{Loaded}
+use Rattle.load_model.specs.Load.{Tables as Lent, lent, After, filled, untouched, Is}
+use Rattle.load_apart.specs.Loads.{unloadOf}
+use Rattle.load_shared.specs.declared.Held.{Held as Bounds}
+
+abbrev pub sideOf : Bool → Side
+sideOf true = top
+sideOf false = bottom
+
+abbrev pub heldOf : Bounds → Held
+heldOf h questions = h .questions
+heldOf h patterns = h .patterns
+heldOf h trees = h .trees
+heldOf h records = h .records
+heldOf h values = h .values
+
+abbrev pub needOf : Plan → Held
+needOf p questions = p .questions
+needOf p patterns = p .patterns
+needOf p trees = p .trees
+needOf p records = p .records
+needOf p values = p .entries * p .width
+
+abbrev pub tablesOf : List ℕ → List ℕ → List ℕ → List ℕ → List ℕ → Tables
+tablesOf q a t c v questions = q
+tablesOf q a t c v patterns = a
+tablesOf q a t c v trees = t
+tablesOf q a t c v records = c
+tablesOf q a t c v values = v
+
+-- the five tables of what is lent
+abbrev pub rowsOf : Lent → Tables
+rowsOf T = tablesOf (T .questions) (T .patterns) (T .trees) (T .records) (T .values)
+
+-- five tables, and the work
+abbrev pub withWork : Tables → List ℤ → Lent
+withWork t w = lent (t questions) (t patterns) (t trees) (t records) (t values) w
+
+-- the same of lengths
+abbrev pub lengthsOf : ℕ → ℕ → ℕ → ℕ → ℕ → Table → ℕ
+lengthsOf q a t c v questions = q
+lengthsOf q a t c v patterns = a
+lengthsOf q a t c v trees = t
+lengthsOf q a t c v records = c
+lengthsOf q a t c v values = v
+
+-- bounds stand beside each other in tables of so many numbers
+unfoldable pub standsAt : Held → Held → ℕ → ℕ → ℕ → ℕ → ℕ → Bool
+standsAt x y q a t c v = everyTable (λ k. leb (x k + y k) (wholeRows (width k) (lengthsOf q a t c v k)))
+
+-- ---- a load
+
+-- room for a plan in tables of so many numbers
+pub record Fits (p : Plan) (q a t c v w : ℕ) : Type 0 where
+  pub questions : p .questions ≤ q / 4
+  pub patterns : p .patterns ≤ a / 2
+  pub trees : p .trees ≤ t / 6
+  pub records : p .records ≤ c / 4
+  pub values : p .entries * p .width ≤ v
+  pub lines : p .lines ≤ w / 6
+
+-- what filling made of a task's own rows, put where these stand
+abbrev pub putBack : Side → Plan → Lent → After → After
+putBack x p T f = record { answer = f .answer; tables = withWork (placed x (needOf p) (rowsOf (f .tables)) (rowsOf T)) (f .tables .work) }
+
+-- a plan in the data d, filled into a task's own rows
+unfoldable pub placedIn : Side → List ℕ → Plan → Lent → After
+placedIn x d p T = putBack x p T (filled d p (withWork (seen x (needOf p) (rowsOf T)) (T .work)))
+
+-- 20: the rows fit beside the other's, and the work has room for the longest tree
+abbrev pub roomBy : Plan → Held → Lent → Bool
+roomBy p other T = stands (rowsOf T) (needOf p) other && leb (p .lines) (length (T .work) / 6)
+
+abbrev pub besideFor : Side → Held → List ℕ → Planned → Lent → After
+besideFor x other d (plan.Refused z) T = untouched z T
+besideFor x other d (plan.Model p) T = cond (roomBy p other T) (placedIn x d p T) (untouched refusal.Room T)
+
+-- of a task that holds nothing
+unfoldable pub besideOf : Side → List ℕ → Header → Which → Held → Lent → After
+besideOf x s h which other T = besideFor x other (dataOf s h) (planned s h which) T
+
+-- ---- the contracts
+
+abbrev pub FillsOwn : Side → List ℕ → Plan → Lent → Loaded → Lent → Type 0
+FillsOwn x d p T = Is (placedIn x d p T)
+
+abbrev pub LoadsBeside : Side → List ℕ → Header → Which → Held → Lent → Loaded → Lent → Type 0
+LoadsBeside x s h which other T = Is (besideOf x s h which other T)
+
+-- the slices are these tables
+pub record Tabled (x : Tables) (q a t c v : List ℕ) : Type 0 where
+  pub questions : q ≡ x questions
+  pub patterns : a ≡ x patterns
+  pub trees : t ≡ x trees
+  pub records : c ≡ x records
+  pub values : v ≡ x values
+
+-- an unload: whether it was done, and the tables after it
+pub record Unloads (x : Side) (mine other : Held) (q a t c v : List ℕ) (r : Bool) (q₁ a₁ t₁ c₁ v₁ : List ℕ) : Type 0 where
+  pub done : r ≡ stands (tablesOf q a t c v) mine other
+  pub tables : Tabled (unloadOf {R = Refusal} x mine other (tablesOf q a t c v) .tables) q₁ a₁ t₁ c₁ v₁

@@ -1,0 +1,4 @@
+pub mod Fills
+pub mod Same
+pub mod Kept
+pub mod Runs

@@ -1,0 +1,260 @@
+/* share.c: two tasks in the same tables, call by call: a script on standard input, an answer a line, for comparing the library with another reader.
+ *
+ *   tables Q P T R V W             so many numbers in each table and in the work, each 5a5a5a5a5a5a5a5a; both tasks hold nothing
+ *   load SIDE MODEL HEX            LOAD number place line questions patterns trees records values
+ *   unload SIDE                    UNLOAD number
+ *   held SIDE Q P T R V            bounds that no call handed back; no answer
+ *   walk SIDE TREE ANSWERS LIMIT   WALK number PDF asked, over the task's own rows
+ *   leaves SIDE WIDTH              LEAVES yes or no, of the task's own rows
+ *   show                           HELD bottom .., HELD top .., then the numbers of each table and of the work, a line each
+ *
+ * SIDE is `bottom` or `top`. A file that doesn't open has the opening's number and place. Rows that pass a table are 24 of a walk, and no of a check. */
+#include <ctype.h>
+#include <inttypes.h>
+#include <string.h>
+
+#include "host.h"
+
+enum { SIDES = 2, SHARE_WORDS = 7 };
+
+static const char *const side_name[SIDES] = {"bottom", "top"};
+
+int read_side(const char *word, uint64_t *side) {
+    for (*side = 0; *side < SIDES; ++*side)
+        if (strcmp(word, side_name[*side]) == 0)
+            return 1;
+    return 0;
+}
+
+/* ---- tables of two tasks ------------------------------------------------------------------------------------------------------- */
+
+/* Memory for so many numbers, each UNTOUCHED; or nothing where there can't be. */
+static uint64_t *lend_painted(uint64_t numbers) {
+    uint64_t *at;
+    if (numbers > SIZE_MAX / 16)
+        stop("there is not enough memory for the tables");
+    at = lend(8 * numbers);
+    for (uint64_t i = 0; i < numbers; i++)
+        at[i] = UNTOUCHED;
+    return at;
+}
+
+void lend_shared(struct shared *s, const uint64_t numbers[TABLES], uint64_t work) {
+    for (int t = 0; t < TABLES; t++) {
+        s->lent[t] = numbers[t];
+        s->table[t] = lend_painted(numbers[t]);
+    }
+    s->work_lent = work;
+    s->work = (int64_t *)lend_painted(work);
+    for (int x = 0; x < SIDES; x++) {
+        s->held[x] = lend(8 * LARSAVIM_BOUNDS);
+        memset(s->held[x], 0, 8 * LARSAVIM_BOUNDS);
+    }
+}
+
+void free_shared(struct shared *s) {
+    for (int t = 0; t < TABLES; t++)
+        give_back(s->table[t], 8 * s->lent[t]);
+    give_back(s->work, 8 * s->work_lent);
+    for (int x = 0; x < SIDES; x++)
+        give_back(s->held[x], 8 * LARSAVIM_BOUNDS);
+}
+
+uint64_t load_shared(struct shared *s, const struct voice *v, uint64_t which, uint64_t side, uint64_t out[LARSAVIM_LOAD_OUT]) {
+    uint64_t *loaded = answer_slice(LARSAVIM_LOAD_OUT);
+    uint64_t number = larsavim_load_shared(v->file.at, v->file.len, v->words, LARSAVIM_WORDS, which, side, s->held[side], LARSAVIM_BOUNDS, s->held[1 - side], LARSAVIM_BOUNDS,
+                                           s->table[QUESTIONS], s->lent[QUESTIONS], s->table[PATTERNS], s->lent[PATTERNS], s->table[TREES], s->lent[TREES], s->table[RECORDS],
+                                           s->lent[RECORDS], s->table[VALUES], s->lent[VALUES], s->work, s->work_lent, loaded, LARSAVIM_LOAD_OUT);
+    memcpy(out, loaded, 8 * LARSAVIM_LOAD_OUT);
+    return number;
+}
+
+uint64_t unload_shared(struct shared *s, uint64_t side) {
+    return larsavim_unload(side, s->held[side], LARSAVIM_BOUNDS, s->held[1 - side], LARSAVIM_BOUNDS, s->table[QUESTIONS], s->lent[QUESTIONS], s->table[PATTERNS], s->lent[PATTERNS],
+                           s->table[TREES], s->lent[TREES], s->table[RECORDS], s->lent[RECORDS], s->table[VALUES], s->lent[VALUES]);
+}
+
+int own_rows(const struct shared *s, uint64_t side, struct model *m) {
+    for (int t = 0; t < TABLES; t++)
+        if (s->held[side][t] > s->lent[t] / row_width[t])
+            return 0;
+    memset(m, 0, sizeof *m);
+    for (int t = 0; t < TABLES; t++) {
+        uint64_t rows = s->held[side][t], first = LARSAVIM_FIRST(side, s->lent[t], row_width[t], rows);
+        m->loaded[OUT_ROWS + t] = rows;
+        m->lent[t] = rows * row_width[t];
+        m->table[t] = lend(8 * m->lent[t]);
+        if (rows > 0)
+            memcpy(m->table[t], s->table[t] + first, (size_t)(8 * m->lent[t]));
+    }
+    m->work = lend(0);
+    return 1;
+}
+
+/* ---- the script ---------------------------------------------------------------------------------------------------------------- */
+
+struct script {
+    struct shared s;
+    int begun, refused;
+};
+
+static void put_numbers(const char *name, const uint64_t *at, uint64_t len) {
+    for (const char *c = name; *c != '\0'; c++)
+        putchar(toupper((unsigned char)*c));
+    for (uint64_t i = 0; i < len; i++)
+        printf(" %" PRIu64, at[i]);
+    putchar('\n');
+}
+
+static void show(const struct shared *s) {
+    for (int x = 0; x < SIDES; x++) {
+        printf("HELD %s", side_name[x]);
+        for (int k = 0; k < LARSAVIM_BOUNDS; k++)
+            printf(" %" PRIu64, s->held[x][k]);
+        putchar('\n');
+    }
+    for (int t = 0; t < TABLES; t++)
+        put_numbers(table_name[t], s->table[t], s->lent[t]);
+    put_numbers("work", (const uint64_t *)s->work, s->work_lent);
+}
+
+static void put_load(struct script *c, uint64_t side, uint64_t which, struct bytes file) {
+    struct voice v;
+    uint64_t out[LARSAVIM_LOAD_OUT] = {0};
+    open_voice(&v, file);
+    out[OUT_NUMBER] = v.number;
+    out[OUT_PLACE] = v.place;
+    if (v.number == LARSAVIM_SUCCESS)
+        load_shared(&c->s, &v, which, side, out);
+    close_voice(&v);
+    fputs("LOAD", stdout);
+    for (int i = 0; i < LARSAVIM_LOAD_OUT; i++)
+        printf(" %" PRIu64, out[i]);
+    putchar('\n');
+    c->refused |= out[OUT_NUMBER] != LARSAVIM_SUCCESS;
+}
+
+static void put_own_walk(struct script *c, uint64_t side, uint64_t tree, struct bytes answers, uint64_t limit) {
+    struct model m;
+    uint64_t out[LARSAVIM_WALK_OUT] = {LARSAVIM_WALKTABLE, 0, 0};
+    if (own_rows(&c->s, side, &m)) {
+        walk_model(&m, tree, answers, limit, out);
+        free_model(&m);
+    }
+    printf("WALK %" PRIu64 " %" PRIu64 " %" PRIu64 "\n", out[0], out[1], out[2]);
+    c->refused |= out[0] != LARSAVIM_SUCCESS;
+}
+
+static void put_leaves(struct script *c, uint64_t side, uint64_t width) {
+    struct model m;
+    int fit = 0;
+    if (own_rows(&c->s, side, &m)) {
+        m.needs[OUT_WIDTH] = width;
+        fit = leaves_fit(&m);
+        free_model(&m);
+    }
+    printf("LEAVES %s\n", fit ? "yes" : "no");
+    c->refused |= !fit;
+}
+
+static const char *answer_tables(struct script *c, char **words) {
+    uint64_t numbers[TABLES], work;
+    for (int t = 0; t < TABLES; t++)
+        if (!read_number(words[1 + t], &numbers[t]))
+            return "has a wrong number of numbers";
+    if (!read_number(words[1 + TABLES], &work))
+        return "has a wrong number of numbers";
+    if (c->begun)
+        free_shared(&c->s);
+    lend_shared(&c->s, numbers, work);
+    c->begun = 1;
+    return NULL;
+}
+
+static const char *answer_held(struct script *c, char **words, uint64_t side) {
+    uint64_t numbers[LARSAVIM_BOUNDS];
+    for (int k = 0; k < LARSAVIM_BOUNDS; k++)
+        if (!read_number(words[2 + k], &numbers[k]))
+            return "has a wrong bound";
+    memcpy(c->s.held[side], numbers, sizeof numbers);
+    return NULL;
+}
+
+static const char *answer_load(struct script *c, char **words, uint64_t side) {
+    uint64_t which;
+    struct bytes file;
+    if (!read_number(words[2], &which))
+        return "has a wrong MODEL";
+    if (!read_hex(words[3], &file))
+        return "has a file that is no hex";
+    put_load(c, side, which, file);
+    give_back(file.at, file.len);
+    return NULL;
+}
+
+static const char *answer_walk(struct script *c, char **words, uint64_t side) {
+    uint64_t tree, limit;
+    struct bytes answers;
+    if (!read_number(words[2], &tree) || !read_number(words[4], &limit))
+        return "has a wrong TREE or LIMIT";
+    if (!read_answers(words[3], &answers))
+        return "has wrong ANSWERS";
+    put_own_walk(c, side, tree, answers, limit);
+    give_back(answers.at, answers.len);
+    return NULL;
+}
+
+static const char *answer_leaves(struct script *c, char **words, uint64_t side) {
+    uint64_t width;
+    if (!read_number(words[2], &width))
+        return "has a wrong WIDTH";
+    put_leaves(c, side, width);
+    return NULL;
+}
+
+/* A line of a task: its verb, a side and more. */
+static const char *answer_task(struct script *c, char **words, int n) {
+    uint64_t side;
+    if (n < 2 || !read_side(words[1], &side))
+        return "has no SIDE, which is `bottom` or `top`";
+    if (strcmp(words[0], "load") == 0 && n == 4)
+        return answer_load(c, words, side);
+    if (strcmp(words[0], "held") == 0 && n == 2 + LARSAVIM_BOUNDS)
+        return answer_held(c, words, side);
+    if (strcmp(words[0], "walk") == 0 && n == 5)
+        return answer_walk(c, words, side);
+    if (strcmp(words[0], "leaves") == 0 && n == 3)
+        return answer_leaves(c, words, side);
+    if (strcmp(words[0], "unload") == 0 && n == 2) {
+        uint64_t number = unload_shared(&c->s, side);
+        printf("UNLOAD %" PRIu64 "\n", number);
+        c->refused |= number != LARSAVIM_SUCCESS;
+        return NULL;
+    }
+    return "is no load, unload, held, walk or leaves with its words";
+}
+
+static const char *answer(char *line, void *with) {
+    struct script *c = with;
+    char *words[SHARE_WORDS];
+    int n = cut(line, words, SHARE_WORDS);
+    if (n == 2 + TABLES && strcmp(words[0], "tables") == 0)
+        return answer_tables(c, words);
+    if (!c->begun)
+        return "comes before `tables`";
+    if (n == 1 && strcmp(words[0], "show") == 0) {
+        show(&c->s);
+        return NULL;
+    }
+    return answer_task(c, words, n);
+}
+
+int share(void) {
+    struct script c;
+    int status;
+    memset(&c, 0, sizeof c);
+    status = answer_lines("share", answer, &c);
+    if (c.begun)
+        free_shared(&c.s);
+    return status == ALL_WELL && c.refused ? REFUSED : status;
+}
