@@ -12,7 +12,7 @@ static int hex_digit(char c) {
     return c >= 'a' ? c - 'a' + 10 : c - 'A' + 10;
 }
 
-int read_hex(const char *word, struct bytes *out) {
+int bytes_of_hex(const char *word, struct bytes *out) {
     size_t digits = strlen(word), len = digits / 2;
     uint8_t *at;
     if (digits % 2 != 0 || strspn(word, "0123456789abcdefABCDEF") != digits)
@@ -29,7 +29,7 @@ static int walk_words(struct bytes file, char **words) {
     struct asked_walk w;
     if (!read_number(words[1], &w.which) || !read_number(words[2], &w.tree) || !read_number(words[4], &w.limit))
         return 0;
-    if (!read_hex(strcmp(words[3], "-") == 0 ? "" : words[3], &w.answers))
+    if (!bytes_of_hex(strcmp(words[3], "-") == 0 ? "" : words[3], &w.answers))
         return 0;
     walk_line(file, &w, NULL);
     give_back(w.answers.at, w.answers.len);
@@ -51,7 +51,7 @@ static const char *answer(char *line, void *nothing) {
     int n = cut(line, words, 5), good = 1;
     struct bytes file;
     (void)nothing;
-    if ((n != 1 && n != 2 && n != 5) || !read_hex(words[0], &file))
+    if ((n != 1 && n != 2 && n != 5) || !bytes_of_hex(words[0], &file))
         return wrong;
     if (n == 5)
         good = walk_words(file, words);

@@ -264,7 +264,7 @@ int read_side(const char *word, uint64_t *side); /* `bottom` or `top` */
 void explain_shared(FILE *to, const struct shared *s, uint64_t side, const uint64_t *needs, uint64_t number);
 
 /* The bytes of a word of hex, in lent memory (hex.c). 0 where it is none. */
-int read_hex(const char *word, struct bytes *out);
+int bytes_of_hex(const char *word, struct bytes *out);
 
 /* ---- the verbs ---------------------------------------------------------------------------------------------------------------- */
 

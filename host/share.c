@@ -185,7 +185,7 @@ static const char *answer_load(struct script *c, char **words, uint64_t side) {
     struct bytes file;
     if (!read_number(words[2], &which))
         return "has a wrong MODEL";
-    if (!read_hex(words[3], &file))
+    if (!bytes_of_hex(words[3], &file))
         return "has a file that is no hex";
     put_load(c, side, which, file);
     give_back(file.at, file.len);

@@ -89,7 +89,14 @@ fn keep_rows(held: &mut [u64], rows: Rows)
     ensures { λ r. ⌜ now (held .exit) ≡ heldLeft rows (now (held .entry)) ⌝ }
 {
     if rows.number == 0 {
-        put4(held, 0, rows.questions, rows.patterns, rows.trees, rows.records);
+        put4(
+            held,
+            0,
+            rows.questions,
+            rows.patterns,
+            rows.trees,
+            rows.records,
+        );
         held[4] = rows.values;
     }
 }
@@ -301,7 +308,14 @@ pub extern "C" fn larsavim_unload(
         return ROOM;
     }
     if !unload_said(
-        side, held, other, questions, patterns, trees, records, values,
+        side,
+        held,
+        other,
+        questions,
+        patterns,
+        trees,
+        records,
+        values,
     ) {
         return OVERLAP;
     }

@@ -175,4 +175,3 @@ module _ {d : ℕ} {held other q a t c v : List ℕ} {r : ℕ} {held₁ q₁ a�
       go true e =
           ap (seen (opposite (sideAt d)) (heldAt other)) (tabled _ q₁ a₁ t₁ c₁ v₁ (u .tables) ∙ unload-so d (leb-true d 1 e) (heldAt held) (heldAt other) (tablesOf q a t c v))
           ∙ apart.unload-rows-apart Refusal (sideAt d) (heldAt held) (heldAt other) (tablesOf q a t c v)
-

@@ -22,7 +22,7 @@ rows-of-requires : tie.Need-rows-of-requires
 rows-of-requires c κs = search needs
 
 returns : tie.Need-returns
-returns c = 
+returns c =
     let a = c .before .before .before .before .before .before .before .before .before .before .before .before .before .before .args in
     let q = shared-held (a .file .now) (a .words .now) (a .which) (a .side) (heldAt (a .held .now)) (heldAt (a .other .now)) (lent (a .questions .now) (a .patterns .now) (a .trees .now) (a .records .now) (a .values .now) (a .work .now)) (sym (ap holds (c .before .before .before .before .bounds .ensures)) ∙ sym (c .before .before .holding .ensures) ∙ c .before .if1 .taken) in
     (c .rows-of .ensures ∙ q .0, q .1)
@@ -34,7 +34,7 @@ rows-of-requires-2 : tie.Need-rows-of-requires-2
 rows-of-requires-2 c κs = search needs
 
 returns-2 : tie.Need-returns-2
-returns-2 c = 
+returns-2 c =
     let a = c .before .before .before .before .before .before .before .before .before .before .before .before .before .before .before .before .args in
     let q = shared-overlap (a .file .now) (a .words .now) (a .which) (a .side) (heldAt (a .held .now)) (heldAt (a .other .now)) (lent (a .questions .now) (a .patterns .now) (a .trees .now) (a .records .now) (a .values .now) (a .work .now)) (sym (ap holds (c .before .before .before .before .before .before .bounds .ensures)) ∙ sym (c .before .before .before .before .holding .ensures) ∙ c .before .before .before .if1 .left) (judged-standing (a .file .now) (a .words .now) (a .which) (a .side) (heldAt (a .held .now)) (heldAt (a .other .now)) (lent (a .questions .now) (a .patterns .now) (a .trees .now) (a .records .now) (a .values .now) (a .work .now)) (c .before .before .before .before .before .before .bounds .ensures) (c .before .before .before .before .before .bounds2 .ensures) (c .before .before .standing .ensures) ∙ not-true _ (c .before .if2 .taken)) in
     (c .rows-of2 .ensures ∙ q .0, q .1)
@@ -61,7 +61,7 @@ same-length-6 : tie.Need-same-length-6
 same-length-6 c = search needs
 
 returns-3 : tie.Need-returns-3
-returns-3 c = 
+returns-3 c =
     let a = c .before .before .before .before .before .before .before .before .before .before .before .before .before .before .before .before .before .before .before .before .before .before .before .before .before .before .before .before .before .before .before .before .before .args in
     shared-loads (a .file .now) (a .words .now) (a .which) (a .side) (heldAt (a .held .now)) (heldAt (a .other .now)) (lent (a .questions .now) (a .patterns .now) (a .trees .now) (a .records .now) (a .values .now) (a .work .now)) (sym (ap holds (c .before .before .before .before .before .before .before .before .before .before .before .before .before .before .before .before .before .before .before .before .before .before .before .bounds .ensures)) ∙ sym (c .before .before .before .before .before .before .before .before .before .before .before .before .before .before .before .before .before .before .before .before .before .holding .ensures) ∙ c .before .before .before .before .before .before .before .before .before .before .before .before .before .before .before .before .before .before .before .before .if1 .left) (judged-standing (a .file .now) (a .words .now) (a .which) (a .side) (heldAt (a .held .now)) (heldAt (a .other .now)) (lent (a .questions .now) (a .patterns .now) (a .trees .now) (a .records .now) (a .values .now) (a .work .now)) (c .before .before .before .before .before .before .before .before .before .before .before .before .before .before .before .before .before .before .before .before .before .before .before .bounds .ensures) (c .before .before .before .before .before .before .before .before .before .before .before .before .before .before .before .before .before .before .before .before .before .before .bounds2 .ensures) (c .before .before .before .before .before .before .before .before .before .before .before .before .before .before .before .before .before .before .before .standing .ensures) ∙ not-false _ (c .before .before .before .before .before .before .before .before .before .before .before .before .before .before .before .before .before .before .if2 .left)) (c .before .before .before .before .before .before .before .before .before .before .before .before .before .before .before .before .before .before .before .before .before .before .bounds2 .ensures) (c .before .before .before .before .before .before .before .before .before .before .before .load-said .ensures)
 

@@ -6,7 +6,7 @@ use Rattle.face_shared.proofs.unload_said.Statement.{statement}
 use Rattle.face_shared.proofs.unload_said.Tie as tie
 
 returns : tie.Need-returns
-returns c = 
+returns c =
     let a = c .before .before .before .before .before .before .before .before .args in
     unload-past (a .side) (heldAt (a .held .now)) (heldAt (a .other .now)) (a .questions .now) (a .patterns .now) (a .trees .now) (a .records .now) (a .values .now) (c .if1 .taken)
 
@@ -35,7 +35,7 @@ same-length-5 : tie.Need-same-length-5
 same-length-5 c = search needs
 
 returns-2 : tie.Need-returns-2
-returns-2 c = 
+returns-2 c =
     let a = c .before .before .before .before .before .before .before .before .before .before .before .before .before .before .before .before .before .before .before .before .before .before .before .before .before .before .args in
     unload-side (a .side) (heldAt (a .held .now)) (heldAt (a .other .now)) (a .questions .now) (a .patterns .now) (a .trees .now) (a .records .now) (a .values .now) (c .before .before .before .before .before .before .before .before .before .before .before .before .before .before .before .before .before .before .if1 .left) (c .before .before .before .before .before .before .before .before .before .before .before .before .before .before .before .before .before .bounds .ensures) (c .before .before .before .before .before .before .before .before .before .before .before .before .before .before .before .before .bounds2 .ensures) (c .before .before .before .before .before .before .before .before .before .before .unload .ensures)
 

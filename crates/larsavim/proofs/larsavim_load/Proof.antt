@@ -42,7 +42,7 @@ same-length-7 : tie.Need-same-length-7
 same-length-7 c = search needs
 
 returns-2 : tie.Need-returns-2
-returns-2 c = 
+returns-2 c =
     let a = c .before .before .before .before .before .before .before .before .before .before .before .before .before .before .before .before .before .before .before .before .before .before .before .before .before .before .before .before .before .before .before .before .args in
     let h = c .before .before .before .before .before .before .before .before .before .before .before .before .before .before .before .before .before .before .before .before .before .before .before .if1 .left in
     let l = load-alone (a .file .now) (a .words .now) (a .which) (lent (a .questions .now) (a .patterns .now) (a .trees .now) (a .records .now) (a .values .now) (a .work .now)) (c .before .before .before .before .before .before .before .before .before .before .before .before .before .before .before .before .before .before .before .before .before .before .nobody .ensures) (c .before .before .before .before .before .before .before .before .before .before .before .before .before .before .before .load-said .ensures) in

@@ -126,18 +126,18 @@ part-fill-end-5 : tie.Need-part-fill-end-5
 part-fill-end-5 c = omega (arith, c .before .before .before .before .first-row5 .ensures .1, c .before .before .before .before .before .before .before .before .before .before .before .before .before .before .before .before .before .before .before .before .good, c .before .before .before .before .before .before .before .before .before .before .before .before .before .before .before .before .before .before .before .before .pre .1 .values)
 
 fill-requires : tie.Need-fill-requires
-fill-requires c κs = 
+fill-requires c κs =
     let a = c .before .before .before .before .before .before .before .before .before .before .before .before .before .before .before .before .before .before .before .before .before .before .args in
     let h = c .before .before .before .before .before .before .before .before .before .before .before .before .before .before .before .before .before .before .before .before .before .before .pre in
     let x = sideOf (a .top) in (
       h .0,
       parts-room x (a .d .now) (a .p) (a .questions .now) (a .patterns .now) (a .trees .now) (a .records .now) (a .values .now) (a .work .now)
-    (cut-rows x 4 (a .questions .now) (a .p .questions) (c .before .before .before .before .before .before .before .before .before .before .before .before .before .before .first-row .ensures .0) (h .1 .questions))
-    (cut-rows x 2 (a .patterns .now) (a .p .patterns) (c .before .before .before .before .before .before .before .before .before .before .before .before .first-row2 .ensures .0) (h .1 .patterns))
-    (cut-rows x 6 (a .trees .now) (a .p .trees) (c .before .before .before .before .before .before .before .before .before .before .first-row3 .ensures .0) (h .1 .trees))
-    (cut-rows x 4 (a .records .now) (a .p .records) (c .before .before .before .before .before .before .before .before .first-row4 .ensures .0) (h .1 .records))
-    (cut-ones x (a .values .now) (a .p .entries * a .p .width) (c .before .before .before .before .before .before .first-row5 .ensures .0) (h .1 .values))
-    (h .1 .lines),
+          (cut-rows x 4 (a .questions .now) (a .p .questions) (c .before .before .before .before .before .before .before .before .before .before .before .before .before .before .first-row .ensures .0) (h .1 .questions))
+          (cut-rows x 2 (a .patterns .now) (a .p .patterns) (c .before .before .before .before .before .before .before .before .before .before .before .before .first-row2 .ensures .0) (h .1 .patterns))
+          (cut-rows x 6 (a .trees .now) (a .p .trees) (c .before .before .before .before .before .before .before .before .before .before .first-row3 .ensures .0) (h .1 .trees))
+          (cut-rows x 4 (a .records .now) (a .p .records) (c .before .before .before .before .before .before .before .before .first-row4 .ensures .0) (h .1 .records))
+          (cut-ones x (a .values .now) (a .p .entries * a .p .width) (c .before .before .before .before .before .before .first-row5 .ensures .0) (h .1 .values))
+          (h .1 .lines),
     )
 
 same-length : tie.Need-same-length
@@ -159,7 +159,7 @@ same-length-6 : tie.Need-same-length-6
 same-length-6 c = search needs
 
 returns : tie.Need-returns
-returns c = 
+returns c =
     let a = c .before .before .before .before .before .before .before .before .before .before .before .before .before .before .before .before .before .before .before .before .before .before .before .before .before .before .before .before .before .before .before .before .before .before .args in
     let h = c .before .before .before .before .before .before .before .before .before .before .before .before .before .before .before .before .before .before .before .before .before .before .before .before .before .before .before .before .before .before .before .before .before .before .pre in
     let x = sideOf (a .top) in

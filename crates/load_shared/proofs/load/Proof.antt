@@ -22,7 +22,7 @@ enum-known-p : tie.Need-enum-known-p
 enum-known-p c = search needs
 
 need-requires : tie.Need-need-requires
-need-requires c κs = 
+need-requires c κs =
     let a = c .before .before .before .before .before .before .before .before .before .before .before .args in
     let h = headerAt (a .words .now) in
     let s = needs-sound (a .file .now) h (a .which) _ (sym (c .before .p .given .1) ∙ c .before .before .before .needs .ensures) in
@@ -32,12 +32,12 @@ stand-requires : tie.Need-stand-requires
 stand-requires c κs = search needs
 
 returns : tie.Need-returns
-returns c = 
+returns c =
     let a = c .before .before .before .before .before .before .before .before .before .before .before .before .before .before .args in
     load-no-rows (sideOf (a .top)) (a .file .now) (headerAt (a .words .now)) (a .which) (heldOf (a .other)) (lent (a .questions .now) (a .patterns .now) (a .trees .now) (a .records .now) (a .values .now) (a .work .now)) _ (sym (c .before .before .before .before .p .given .1) ∙ c .before .before .before .before .before .before .needs .ensures) (c .before .before .need .result) (c .before .before .need .ensures) (c .before .stand .ensures) (c .if1 .taken)
 
 returns-2 : tie.Need-returns-2
-returns-2 c = 
+returns-2 c =
     let a = c .before .before .before .before .before .before .before .before .before .before .before .before .before .before .before .before .args in
     load-no-lines (sideOf (a .top)) (a .file .now) (headerAt (a .words .now)) (a .which) (heldOf (a .other)) (lent (a .questions .now) (a .patterns .now) (a .trees .now) (a .records .now) (a .values .now) (a .work .now)) _ (sym (c .before .before .before .before .before .before .p .given .1) ∙ c .before .before .before .before .before .before .before .before .needs .ensures) (c .before .before .before .before .need .result) (c .before .before .before .before .need .ensures) (c .before .before .before .stand .ensures) (c .before .before .if1 .left) (c .if2 .taken)
 
@@ -45,14 +45,14 @@ data-of-requires : tie.Need-data-of-requires
 data-of-requires c κs = search needs
 
 fill-own-requires : tie.Need-fill-own-requires
-fill-own-requires c κs = 
+fill-own-requires c κs =
     let a = c .before .before .before .before .before .before .before .before .before .before .before .before .before .before .before .before .before .before .before .before .before .before .before .args in
     let e = sym (c .before .before .before .before .before .before .before .before .before .before .before .before .before .p .given .1) ∙ c .before .before .before .before .before .before .before .before .before .before .before .before .before .before .before .needs .ensures in
     let s = needs-sound (a .file .now) (headerAt (a .words .now)) (a .which) _ e in
     (subst (λ d. Sound d (c .before .before .before .before .before .before .before .before .before .before .before .before .before .p .given .0 .0)) (sym (c .before .before .before .before .before .before .data-of .ensures)) s, load-fits (sideOf (a .top)) (a .file .now) (headerAt (a .words .now)) (a .which) (heldOf (a .other)) (lent (a .questions .now) (a .patterns .now) (a .trees .now) (a .records .now) (a .values .now) (a .work .now)) _ e (c .before .before .before .before .before .before .before .before .before .before .before .need .result) (c .before .before .before .before .before .before .before .before .before .before .before .need .ensures) (c .before .before .before .before .before .before .before .before .before .before .stand .ensures) (c .before .before .before .before .before .before .before .before .before .if1 .left) (c .before .before .before .before .before .before .before .if2 .left))
 
 returns-3 : tie.Need-returns-3
-returns-3 c = 
+returns-3 c =
     let a = c .before .before .before .before .before .before .before .before .before .before .before .args in
     load-refused (sideOf (a .top)) (a .file .now) (headerAt (a .words .now)) (a .which) (heldOf (a .other)) (lent (a .questions .now) (a .patterns .now) (a .trees .now) (a .records .now) (a .values .now) (a .work .now)) (sym (c .before .refusal .given .1) ∙ c .before .before .before .needs .ensures)
 
@@ -75,7 +75,7 @@ same-length-6 : tie.Need-same-length-6
 same-length-6 c = search needs
 
 returns-4 : tie.Need-returns-4
-returns-4 c = 
+returns-4 c =
     let a = c .before .before .before .before .before .before .before .before .before .before .before .before .before .before .before .before .before .before .before .before .before .before .before .before .before .before .before .before .before .before .before .before .before .before .before .args in
     load-filled (sideOf (a .top)) (a .file .now) (headerAt (a .words .now)) (a .which) (heldOf (a .other)) (lent (a .questions .now) (a .patterns .now) (a .trees .now) (a .records .now) (a .values .now) (a .work .now)) _ (sym (c .before .before .before .before .before .before .before .before .before .before .before .before .before .before .before .before .before .before .before .before .before .before .before .before .before .p .given .1) ∙ c .before .before .before .before .before .before .before .before .before .before .before .before .before .before .before .before .before .before .before .before .before .before .before .before .before .before .before .needs .ensures) (c .before .before .before .before .before .before .before .before .before .before .before .before .before .before .before .before .before .before .before .before .before .before .before .need .result) (c .before .before .before .before .before .before .before .before .before .before .before .before .before .before .before .before .before .before .before .before .before .before .before .need .ensures) (c .before .before .before .before .before .before .before .before .before .before .before .before .before .before .before .before .before .before .before .before .before .before .stand .ensures) (c .before .before .before .before .before .before .before .before .before .before .before .before .before .before .before .before .before .before .before .before .before .if1 .left) (c .before .before .before .before .before .before .before .before .before .before .before .before .before .before .before .before .before .before .before .if2 .left) (c .before .before .before .before .before .before .before .before .before .before .before .before .before .before .before .before .before .before .data-of .ensures) (c .before .before .before .before .before .before .before .before .before .before .before .fill-own .ensures)
 
