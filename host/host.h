@@ -7,6 +7,7 @@
 #include <stdio.h>
 
 #include "larsavim.h"
+#include "larsavim_model.h"
 
 /* Exit statuses. */
 enum {
@@ -107,20 +108,24 @@ int is_unasked_gv(const struct voice *v, uint64_t which);
 
 /* ---- models (model.c) --------------------------------------------------------------------------------------------------------- */
 
-enum { QUESTIONS, PATTERNS, TREES, RECORDS, VALUES, TABLES };
+/* A model and the tables lent for it are a struct larsavim_model. */
+enum {
+    QUESTIONS = LARSAVIM_QUESTIONS,
+    PATTERNS = LARSAVIM_PATTERNS,
+    TREES = LARSAVIM_TREES,
+    RECORDS = LARSAVIM_RECORDS,
+    VALUES = LARSAVIM_VALUES,
+    TABLES = LARSAVIM_TABLES
+};
 
 /* Where the answers of larsavim_needs and larsavim_load have what. */
-enum { OUT_NUMBER, OUT_PLACE, OUT_LINE, OUT_ROWS, OUT_WORK = OUT_ROWS + TABLES, OUT_WIDTH };
-
-/* A model and the tables lent for it. */
-struct model {
-    uint64_t which;
-    uint64_t needs[LARSAVIM_NEEDS_OUT];
-    uint64_t loaded[LARSAVIM_LOAD_OUT];
-    uint64_t *table[TABLES];
-    uint64_t lent[TABLES]; /* numbers of each table */
-    int64_t *work;
-    uint64_t work_lent;
+enum {
+    OUT_NUMBER = LARSAVIM_OUT_NUMBER,
+    OUT_PLACE = LARSAVIM_LOAD_PLACE,
+    OUT_LINE = LARSAVIM_LOAD_LINE,
+    OUT_ROWS = LARSAVIM_LOAD_QUESTIONS,
+    OUT_WORK = LARSAVIM_NEEDS_WORK,
+    OUT_WIDTH = LARSAVIM_NEEDS_WIDTH
 };
 
 extern const uint64_t row_width[TABLES]; /* numbers in a row; 1 for values */
@@ -129,31 +134,31 @@ extern const char *const table_name[TABLES];
 #define UNTOUCHED UINT64_C(0x5a5a5a5a5a5a5a5a) /* what tables and work hold before a load */
 
 /* Loads a model into tables of the rows that it needs and so many more, and as many lines of work more. Its number is loaded[0]. */
-void load_model(const struct voice *v, uint64_t which, uint64_t spare, struct model *m);
-void free_model(struct model *m);
+void load_model(const struct voice *v, uint64_t which, uint64_t spare, struct larsavim_model *m);
+void free_model(struct larsavim_model *m);
 
 /* Later calls take the tables cut to the rows that the load returned: moves each to memory of just that length. */
-void cut_tables(struct model *m);
+void cut_tables(struct larsavim_model *m);
 
-uint64_t rows_of(const struct model *m, int table);
-uint64_t width_of(const struct model *m);
-const uint64_t *row_of(const struct model *m, int table, uint64_t i);
-int leaves_fit(const struct model *m);
+uint64_t rows_of(const struct larsavim_model *m, int table);
+uint64_t width_of(const struct larsavim_model *m);
+const uint64_t *row_of(const struct larsavim_model *m, int table, uint64_t i);
+int leaves_fit(const struct larsavim_model *m);
 
 /* A walk over a loaded model's tables; out: number, PDF number, questions asked. */
-void walk_model(const struct model *m, uint64_t tree, struct bytes answers, uint64_t limit, uint64_t out[LARSAVIM_WALK_OUT]);
+void walk_model(const struct larsavim_model *m, uint64_t tree, struct bytes answers, uint64_t limit, uint64_t out[LARSAVIM_WALK_OUT]);
 
 /* The tree text of a loaded model, out of its tables, in lent memory of just its length. */
-struct bytes write_model(const struct model *m, struct bytes data);
+struct bytes write_model(const struct larsavim_model *m, struct bytes data);
 
 /* The walks of a sentence, filled where they stand. */
-void walk_jobs_model(const struct model *m, struct bytes answers, struct larsavim_job *jobs, uint64_t count);
+void walk_jobs_model(const struct larsavim_model *m, struct bytes answers, struct larsavim_job *jobs, uint64_t count);
 
 /* The answer bytes of a loaded model's questions to a label, lent; the library's number. */
-uint64_t answer_model(const struct voice *v, const struct model *m, struct bytes label, struct bytes *answers);
+uint64_t answer_model(const struct voice *v, const struct larsavim_model *m, struct bytes label, struct bytes *answers);
 
 /* How many questions a walk of a loaded tree can ask; out: number, 1 or 0, questions. The work is seen to be zero afterwards. */
-void depth_model(const struct model *m, uint64_t tree, uint64_t out[LARSAVIM_DEPTH_OUT]);
+void depth_model(const struct larsavim_model *m, uint64_t tree, uint64_t out[LARSAVIM_DEPTH_OUT]);
 
 /* ---- tree text, read again for messages (treetext.c) -------------------------------------------------------------------------- */
 
@@ -252,6 +257,6 @@ int demo(const char *path);         /* demo.c */
 int answers(char **words);          /* label.c */
 int say(char **words);              /* label.c */
 int depth(int n, char **words);     /* depth.c */
-void show_depth(const struct model *m); /* depth.c: of `inspect` */
+void show_depth(const struct larsavim_model *m); /* depth.c: of `inspect` */
 
 #endif

@@ -32,8 +32,8 @@ static void show_comment(const struct voice *v) {
     if (larsavim_comment(v->file.len, v->words, LARSAVIM_WORDS, sizeof fallback - 1, out, LARSAVIM_COMMENT_OUT) != LARSAVIM_SUCCESS)
         stop("the library refuses the record that it opened");
     printf("  %-20s ", "COMMENT");
-    if (out[1] == 0)
-        put_quoted(stdout, part(v->file, out[2], out[3]));
+    if (out[LARSAVIM_COMMENT_SLICE] == 0)
+        put_quoted(stdout, part(v->file, out[LARSAVIM_COMMENT_START], out[LARSAVIM_COMMENT_LENGTH]));
     else
         fputs(fallback, stdout);
     putchar('\n');
@@ -76,11 +76,11 @@ struct memory {
     uint64_t tables, work;
 };
 
-static uint64_t table_bytes(const struct model *m, int table) {
+static uint64_t table_bytes(const struct larsavim_model *m, int table) {
     return rows_of(m, table) * row_width[table] * 8;
 }
 
-static void show_sizes(const struct model *m, struct memory *sum) {
+static void show_sizes(const struct larsavim_model *m, struct memory *sum) {
     uint64_t work = m->needs[OUT_WORK] * 8, tables = 0, width = width_of(m);
     for (int t = 0; t < TABLES; t++) {
         printf("    %-10s %10" PRIu64 " %10" PRIu64 " bytes\n", table_name[t], rows_of(m, t), table_bytes(m, t));
@@ -96,7 +96,7 @@ static void show_sizes(const struct model *m, struct memory *sum) {
 
 /* 1 if the model is in order. */
 static int show_model(const struct voice *v, uint64_t which, struct memory *sum) {
-    struct model m;
+    struct larsavim_model m;
     int good;
     printf("\nmodel %" PRIu64 ", ", which);
     put_model_name(stdout, v, which);
@@ -159,7 +159,7 @@ int inspect(const char *path) {
 
 /* A line for a model that doesn't load or fails the leaf check; nothing for one that is in order. */
 static int check_model(const char *path, const struct voice *v, uint64_t which) {
-    struct model m;
+    struct larsavim_model m;
     int loads, good;
     if (is_unasked_gv(v, which))
         return 1;

@@ -73,6 +73,10 @@ int main(int argc, char **argv) {
         fputs(usage, stdout);
         return output_failed() ? TROUBLE : ALL_WELL;
     }
+    if (strcmp(argv[1], "version") == 0 || strcmp(argv[1], "--version") == 0) {
+        puts("larsavim " LARSAVIM_VERSION);
+        return output_failed() ? TROUBLE : ALL_WELL;
+    }
     status = run(argv[1], argc - 2, argv + 2);
     return output_failed() ? TROUBLE : status;
 }
