@@ -56,6 +56,11 @@ extern "C" {
 #define LARSAVIM_WALKTABLE 24 /* no such tree or no record in it, a record met outside its tree, the tables or the kinds, or no answer for its question.
                                * Of larsavim_answers: a pattern outside its table or the data. Of larsavim_write: a row points outside its table or the data */
 #define LARSAVIM_STEPS 25     /* another question would pass the walk's limit */
+#define LARSAVIM_TRAILER 26   /* the buffer is too short for a trailer, the file with it would pass the limit, or there are fewer than 12 data bytes */
+#define LARSAVIM_SUM 27       /* the trailer's sum isn't that of the bytes before it */
+#define LARSAVIM_TRAILER_ROWS 28 /* the trailer's rows don't end where its last three numbers begin, or aren't the text's */
+#define LARSAVIM_HELD 29      /* the task already holds a model */
+#define LARSAVIM_OTHER_ROWS 37 /* record rows that don't belong to the tree */
 
 /* A place is a file offset, counted from 0, for 2 to 8 and 10; for 17 of a load an offset from the first data byte (LARSAVIM_DATA_START): the
  * first byte of the question or tree that doesn't fit, of other text after a tree, or the end of the range where no tree stands; the tree,

@@ -3,7 +3,7 @@ use mathlib.Core.Path.{_≡_}
 use native.Mathlib.Omega.{arith}
 use Rattle.error.specs.Numbers.{numberOf}
 use Rattle.error.specs.declared.Refusal.{Refusal}
-use Rattle.error.specs.declared.Refusal.the-variants.{Split, Utf8, Eof, ExpectedBool, ExpectedInteger, ExpectedArrayComma, ExpectedMapColon, ExpectedMapNewline, Field, Number, Limit, NoPosition, NoStream, UseGv, Range, Text, State, Block, Room, NodeRef, QuestionRef, LoneNode, WalkTable, Steps}
+use Rattle.error.specs.declared.Refusal.the-variants.{Split, Utf8, Eof, ExpectedBool, ExpectedInteger, ExpectedArrayComma, ExpectedMapColon, ExpectedMapNewline, Field, Number, Limit, NoPosition, NoStream, UseGv, Range, Text, State, Block, Room, NodeRef, QuestionRef, LoneNode, WalkTable, Steps, NoTrailer, TrailerSum, TrailerRows, Held, OtherRows}
 
 pub never-11 : (r : Refusal) → ¬ (numberOf r ≡ 11)
 never-11 Split e = omega (arith, e)
@@ -30,3 +30,8 @@ never-11 (QuestionRef t k) e = omega (arith, e)
 never-11 (LoneNode t k) e = omega (arith, e)
 never-11 WalkTable e = omega (arith, e)
 never-11 Steps e = omega (arith, e)
+never-11 NoTrailer e = omega (arith, e)
+never-11 TrailerSum e = omega (arith, e)
+never-11 TrailerRows e = omega (arith, e)
+never-11 Held e = omega (arith, e)
+never-11 OtherRows e = omega (arith, e)

@@ -1,8 +1,8 @@
--- 01's 'Numbers the loader gives': the number, the place and the line of each refusal. Where 01 says 0, 0. 11 is retired (02, Wish 14).
+-- 01's 'Numbers the loader gives': the number, the place and the line of each refusal. Where 01 says 0, 0. 11 is retired (02, Wish 14). 26 to 29 and 37 are 02's.
 use Prim.Native.Nat.{ℕ}
 use Rattle.error.specs.declared.Refusal.{Refusal}
 use Rattle.error.specs.declared.Told.{Told}
-use Rattle.error.specs.declared.Refusal.the-variants.{Split, Utf8, Eof, ExpectedBool, ExpectedInteger, ExpectedArrayComma, ExpectedMapColon, ExpectedMapNewline, Field, Number, Limit, NoPosition, NoStream, UseGv, Range, Text, State, Block, Room, NodeRef, QuestionRef, LoneNode, WalkTable, Steps}
+use Rattle.error.specs.declared.Refusal.the-variants.{Split, Utf8, Eof, ExpectedBool, ExpectedInteger, ExpectedArrayComma, ExpectedMapColon, ExpectedMapNewline, Field, Number, Limit, NoPosition, NoStream, UseGv, Range, Text, State, Block, Room, NodeRef, QuestionRef, LoneNode, WalkTable, Steps, NoTrailer, TrailerSum, TrailerRows, Held, OtherRows}
 
 abbrev pub numberOf : Refusal → ℕ
 numberOf Split = 1
@@ -29,6 +29,11 @@ numberOf (QuestionRef t k) = 22
 numberOf (LoneNode t k) = 23
 numberOf WalkTable = 24
 numberOf Steps = 25
+numberOf NoTrailer = 26
+numberOf TrailerSum = 27
+numberOf TrailerRows = 28
+numberOf Held = 29
+numberOf OtherRows = 37
 
 -- 2 to 8 and 10: a file offset; 17: an offset into the data (02, Wish 2); 21 to 23: the tree
 abbrev pub placeOf : Refusal → ℕ
@@ -56,6 +61,11 @@ placeOf (QuestionRef t k) = t
 placeOf (LoneNode t k) = t
 placeOf WalkTable = 0
 placeOf Steps = 0
+placeOf NoTrailer = 0
+placeOf TrailerSum = 0
+placeOf TrailerRows = 0
+placeOf Held = 0
+placeOf OtherRows = 0
 
 -- 21 to 23: the line
 abbrev pub lineOf : Refusal → ℕ
@@ -83,6 +93,11 @@ lineOf (QuestionRef t k) = k
 lineOf (LoneNode t k) = k
 lineOf WalkTable = 0
 lineOf Steps = 0
+lineOf NoTrailer = 0
+lineOf TrailerSum = 0
+lineOf TrailerRows = 0
+lineOf Held = 0
+lineOf OtherRows = 0
 
 -- all three
 abbrev pub toldOf : Refusal → Told

@@ -1,5 +1,5 @@
-// After header/error.rs: why a call refuses. `Refusal` has a case for each of 01's numbers from 1 to 25 but 11, with the place that 01 gives it. 11 is
-// retired (02, Wish 14): no input gave it, and it is not given again.
+// After header/error.rs: why a call refuses. `Refusal` has a case for each of 01's numbers from 1 to 25 but 11, with the place that 01 gives it, and for
+// those of 02 that have one. 11 is retired (02, Wish 14): no input gave it, and it is not given again.
 // Only this crate and the C boundary look into its cases; all others build a case or pass it on.
 ghost use mathlib.Core.Path.{_≡_};
 ghost use Rattle.error.specs.Numbers.{toldOf, numberOf, placeOf, lineOf};
@@ -54,6 +54,16 @@ pub enum Refusal {
     WalkTable,
     // 25: the walk's limit is met
     Steps,
+    // 26: no room for a trailer, or too few data bytes for one (02, Wish 7)
+    NoTrailer,
+    // 27: the trailer's sum differs
+    TrailerSum,
+    // 28: the trailer's rows are not the text's
+    TrailerRows,
+    // 29: the task already holds a model (02, Wish 9)
+    Held,
+    // 37: record rows that don't belong to the tree (02, Wish 13)
+    OtherRows,
 }
 
 // What a refusal says in numbers: 01's number; the place, an offset or the tree of 21 to 23, 0 where there is none; the line of 21 to 23, else 0.
@@ -102,6 +112,11 @@ impl Refusal {
             Refusal::LoneNode { tree, line } => says(23, tree, line),
             Refusal::WalkTable => says(24, 0, 0),
             Refusal::Steps => says(25, 0, 0),
+            Refusal::NoTrailer => says(26, 0, 0),
+            Refusal::TrailerSum => says(27, 0, 0),
+            Refusal::TrailerRows => says(28, 0, 0),
+            Refusal::Held => says(29, 0, 0),
+            Refusal::OtherRows => says(37, 0, 0),
         }
     }
 

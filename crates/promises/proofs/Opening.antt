@@ -115,6 +115,11 @@ above-zero (refusal.QuestionRef t k) = omega arith
 above-zero (refusal.LoneNode t k) = omega arith
 above-zero refusal.WalkTable = omega arith
 above-zero refusal.Steps = omega arith
+above-zero refusal.NoTrailer = omega arith
+above-zero refusal.TrailerSum = omega arith
+above-zero refusal.TrailerRows = omega arith
+above-zero refusal.Held = omega arith
+above-zero refusal.OtherRows = omega arith
 
 pub never-zero : {s : List ℕ} → Bytes s → {n p : ℕ} → Refused s n p → ¬ (n ≡ 0)
 never-zero {s} bytes {n} {p} x e = go (open-sound bytes)

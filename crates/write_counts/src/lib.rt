@@ -1,4 +1,4 @@
-// Whether lines refer to each leaf of a tree as often as they have to (02, Wish 6: 17). References are counted for 256 leaves at a time, the counts on the
+// Whether lines refer to each leaf of a tree as often as they have to (02, Wish 6: 17). References are counted for 128 leaves at a time, the counts on the
 // stack: no memory is lent, and counting for one leaf at a time would take lines times leaves.
 use write_records::goes_no;
 use write_records::goes_yes;
@@ -12,7 +12,7 @@ ghost use Rattle.write_records.specs.Records.{ofRecord};
 ghost use Rattle.write_counts.specs.Counts.{firstLeaf, runOf, dueOf, goals, counted, added, Says, Zeros, Small, Tallied};
 
 // How many leaves are counted for at a time.
-const WINDOW: u64 = 256;
+const WINDOW: u64 = 128;
 
 // Whether leaf k is the first of its number.
 pub fn first_leaf(records: &[u64], first: u64, lines: u64, k: u64) -> bool
@@ -101,17 +101,17 @@ fn window_fits(
 
 // So many leaves from `base` on.
 fn window_counted(records: &[u64], first: u64, count: u64, lines: u64, base: u64, size: u64) -> bool
-    requires { ⌜ (size ≤ 256) × (base + size ≤ count) × (lines ≤ base) × (lines ≤ recordRows (now records)) ⌝ }
+    requires { ⌜ (size ≤ 128) × (base + size ≤ count) × (lines ≤ base) × (lines ≤ recordRows (now records)) ⌝ }
     ensures { λ r. ⌜ r ≡ all (counted (now (records .entry)) first count lines) base size ⌝ }
 {
-    let mut tally = [0u64; 256];
+    let mut tally = [0u64; 128];
     tally_refs(&mut tally, records, first, lines, base);
     window_fits(&tally, records, first, count, lines, base, size)
 }
 
 // How many of those that are left are taken at once.
 fn window(left: u64) -> u64
-    ensures { λ r. ⌜ (r ≤ 256) × (r ≤ left) × (0 < left → 0 < r) ⌝ }
+    ensures { λ r. ⌜ (r ≤ 128) × (r ≤ left) × (0 < left → 0 < r) ⌝ }
 {
     if left < WINDOW { left } else { WINDOW }
 }

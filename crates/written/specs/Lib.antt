@@ -16,7 +16,13 @@ pub mod Tables
 pub mod Models
 pub mod Loading
 pub mod Walks
--- Document 02: answers from a label (Wish 1); text out of tables (Wish 6); how many questions a walk can ask (Wish 8).
+-- Document 02: answers from a label (Wish 1); text out of tables (Wish 6); a trailer behind the data (7); how many questions a walk can ask (8);
+-- two tasks in one set of tables (9); house voices (11); the walk over the text itself (12); rows from the voice maker (13).
 pub mod Matching
 pub mod Writing
+pub mod Trailer
 pub mod Depths
+pub mod Sharing
+pub mod House
+pub mod Meter
+pub mod Suppliers

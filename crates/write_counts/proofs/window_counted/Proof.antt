@@ -10,7 +10,7 @@ slice-aggregate-tally-refs : tie.Need-slice-aggregate-tally-refs
 slice-aggregate-tally-refs c = search needs
 
 tally-refs-requires : tie.Need-tally-refs-requires
-tally-refs-requires c κs = (c .before .before .pre .3, zeros-of 256)
+tally-refs-requires c κs = (c .before .before .pre .3, zeros-of 128)
 
 slice-aggregate-window-fits : tie.Need-slice-aggregate-window-fits
 slice-aggregate-window-fits c = search needs

@@ -149,6 +149,36 @@ enum-told-12 c = search needs
 says-requires-24 : tie.Need-says-requires-24
 says-requires-24 c κs = search needs
 
+enum-told-13 : tie.Need-enum-told-13
+enum-told-13 c = search needs
+
+says-requires-25 : tie.Need-says-requires-25
+says-requires-25 c κs = search needs
+
+enum-told-14 : tie.Need-enum-told-14
+enum-told-14 c = search needs
+
+says-requires-26 : tie.Need-says-requires-26
+says-requires-26 c κs = search needs
+
+enum-told-15 : tie.Need-enum-told-15
+enum-told-15 c = search needs
+
+says-requires-27 : tie.Need-says-requires-27
+says-requires-27 c κs = search needs
+
+enum-told-16 : tie.Need-enum-told-16
+enum-told-16 c = search needs
+
+says-requires-28 : tie.Need-says-requires-28
+says-requires-28 c κs = search needs
+
+enum-told-17 : tie.Need-enum-told-17
+enum-told-17 c = search needs
+
+says-requires-29 : tie.Need-says-requires-29
+says-requires-29 c κs = search needs
+
 returns : tie.Need-returns
 returns c = c .says .ensures ∙ ap toldOf (sym (c .before .enum-told .given .1))
 
@@ -221,6 +251,21 @@ returns-23 c = c .says23 .ensures ∙ ap toldOf (sym (c .before .enum-told11 .gi
 returns-24 : tie.Need-returns-24
 returns-24 c = c .says24 .ensures ∙ ap toldOf (sym (c .before .enum-told12 .given .1))
 
+returns-25 : tie.Need-returns-25
+returns-25 c = c .says25 .ensures ∙ ap toldOf (sym (c .before .enum-told13 .given .1))
+
+returns-26 : tie.Need-returns-26
+returns-26 c = c .says26 .ensures ∙ ap toldOf (sym (c .before .enum-told14 .given .1))
+
+returns-27 : tie.Need-returns-27
+returns-27 c = c .says27 .ensures ∙ ap toldOf (sym (c .before .enum-told15 .given .1))
+
+returns-28 : tie.Need-returns-28
+returns-28 c = c .says28 .ensures ∙ ap toldOf (sym (c .before .enum-told16 .given .1))
+
+returns-29 : tie.Need-returns-29
+returns-29 c = c .says29 .ensures ∙ ap toldOf (sym (c .before .enum-told17 .given .1))
+
 pub told-spec : {M : Type 1} → statement M
 told-spec =
     tie.close
@@ -273,6 +318,16 @@ told-spec =
     says-requires-23
     enum-told-12
     says-requires-24
+    enum-told-13
+    says-requires-25
+    enum-told-14
+    says-requires-26
+    enum-told-15
+    says-requires-27
+    enum-told-16
+    says-requires-28
+    enum-told-17
+    says-requires-29
     returns
     returns-2
     returns-3
@@ -296,4 +351,9 @@ told-spec =
     returns-21
     returns-22
     returns-23
-    returns-24)
+    returns-24
+    returns-25
+    returns-26
+    returns-27
+    returns-28
+    returns-29)
