@@ -54,36 +54,11 @@ static int find_doubled(struct bytes text, struct doubled *d) {
     return 0;
 }
 
-/* A way from a tree's first record to another: for each record met, the one before it. Breadth first, over the loaded rows. */
-static uint64_t *ways_from_first(const struct larsavim_model *m, uint64_t tree) {
-    const uint64_t *t = row_of(m, TREES, tree);
-    uint64_t count = t[LARSAVIM_TREE_RECORDS], head = 0, tail = 0;
-    uint64_t *before = malloc((size_t)count * 8 + 8), *queue = malloc((size_t)count * 8 + 8);
-    if (before == NULL || queue == NULL)
-        stop("there is not enough memory for a way through the tree");
-    for (uint64_t i = 0; i < count; i++)
-        before[i] = UINT64_MAX; /* not met */
-    before[0] = 0;
-    queue[tail++] = 0;
-    while (head < tail) {
-        uint64_t at = queue[head++];
-        const uint64_t *row = row_of(m, RECORDS, t[LARSAVIM_TREE_FIRST] + at);
-        for (int k = LARSAVIM_RECORD_YES; row[LARSAVIM_RECORD_KIND] == 0 && k <= LARSAVIM_RECORD_NO; k++) {
-            if (row[k] < count && before[row[k]] == UINT64_MAX) {
-                before[row[k]] = at;
-                queue[tail++] = row[k];
-            }
-        }
-    }
-    free(queue);
-    return before;
-}
-
 /* Answers that lead a walk to a record; 0 if there is no way to it. */
 static int answers_to(const struct larsavim_model *m, uint64_t tree, uint64_t record, uint8_t *answers) {
     const uint64_t *t = row_of(m, TREES, tree);
     uint64_t *before = ways_from_first(m, tree);
-    int found = before[record] != UINT64_MAX;
+    int found = before[record] != NOT_MET;
     for (uint64_t at = record; found && at != 0; at = before[at]) {
         const uint64_t *row = row_of(m, RECORDS, t[LARSAVIM_TREE_FIRST] + before[at]);
         answers[row[LARSAVIM_RECORD_QUESTION]] = row[LARSAVIM_RECORD_YES] == at;

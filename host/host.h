@@ -197,6 +197,48 @@ uint64_t odd_pattern_byte(struct bytes text, uint64_t question);           /* th
 uint64_t line_of(struct bytes text, uint64_t at);   /* counted from 1 */
 uint64_t column_of(struct bytes text, uint64_t at); /* in bytes, counted from 1 */
 
+/* ---- ways through a loaded tree (ways.c) ------------------------------------------------------------------------------------------ */
+
+#define NOT_MET UINT64_MAX
+
+/* For each record of a tree the one before it on a shortest way from the first record, or NOT_MET. To be freed. */
+uint64_t *ways_from_first(const struct larsavim_model *m, uint64_t tree);
+
+/* ---- what a voice builder should look at (warn.c) --------------------------------------------------------------------------------- */
+
+enum warning_kind { DOUBLED_ID, DOUBLED_QUESTION, UNASKED_QUESTION, UNREACHED_LINE };
+
+struct warning {
+    enum warning_kind kind;
+    uint64_t which, tree, state; /* the model; of a line its tree, and that one's state */
+    uint64_t item, offset;       /* the line in its tree or the question, counted from 0, and its byte of the file */
+    uint64_t other, other_offset; /* the one before it that bears the same id or name */
+    int64_t id;                  /* of a line */
+    struct bytes name;           /* of a question */
+};
+
+/* Tells everything odd about a model that is loaded: questions, then lines, as they stand in the text. */
+void warn_model(const struct voice *v, const struct larsavim_model *m, void (*tell)(const struct warning *w, void *with), void *with);
+
+/* A line of a loaded tree. */
+struct seen_line {
+    struct written_line written;
+    uint64_t offset, twin; /* its byte of the file; the line before it that bears its id, or NOT_MET */
+    int64_t id;
+    int doubled, reached;
+};
+
+/* The lines of the braced tree whose head the reader has just read, as many as its row has; to be freed. */
+uint64_t tree_lines(const struct voice *v, const struct larsavim_model *m, uint64_t tree, struct reader *r, struct seen_line **lines);
+
+/* ---- strings for machines (json.c), and how far long work is (progress.c) ---------------------------------------------------------- */
+
+void put_json(FILE *to, struct bytes s);
+
+/* `larsavim: file 3 of 20` on a terminal; nothing elsewhere, and nothing of one alone. */
+void show_progress(const char *what, uint64_t at, uint64_t all);
+void hide_progress(void);
+
 /* ---- refusals in words (explain.c, explain_load.c) ---------------------------------------------------------------------------- */
 
 void explain_open(FILE *to, const struct voice *v);
@@ -241,10 +283,26 @@ void put_text_hex(struct bytes file, uint64_t which);
 /* `larsavim: FILE: model 1, stream "MCP": ` on standard error. */
 void complain_model(const char *path, const struct voice *v, uint64_t which);
 
+/* ---- a tree as a picture (draw.c, draw_words.c) ------------------------------------------------------------------------------------- */
+
+struct asked_drawing {
+    const char *path;
+    uint64_t which, tree;
+    int svg;
+    struct bytes answers, label; /* lent, or null: the walk whose way is marked */
+};
+
+int draw(const struct asked_drawing *a);
+
+enum { NOT_SO = -1 }; /* the words aren't what the verb takes */
+
+int draw_words(int n, char **words);
+
 /* ---- the verbs ---------------------------------------------------------------------------------------------------------------- */
 
 int inspect(const char *path);      /* inspect.c */
-int check(int files, char **paths); /* inspect.c */
+int check(int json, int strict, int files, char **paths); /* check.c */
+int tables(int files, char **paths); /* tables.c */
 int dump(const char *path);         /* dump.c */
 void dump_voice(struct bytes file); /* dump.c */
 int hex(void);                      /* hex.c */
