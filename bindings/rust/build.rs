@@ -13,9 +13,11 @@ fn main() {
             folders.push(here.join("../../target/staticlib"));
         }
     }
+    for folder in &folders {
+        println!("cargo:rerun-if-changed={}", folder.join("liblarsavim.a").display());
+    }
     match folders.iter().find(|f| f.join("liblarsavim.a").is_file()) {
         Some(folder) => {
-            println!("cargo:rerun-if-changed={}", folder.join("liblarsavim.a").display());
             println!("cargo:rustc-link-search=native={}", folder.display());
             println!("cargo:rustc-link-lib=static=larsavim");
         }
