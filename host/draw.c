@@ -121,7 +121,7 @@ static void put_side(const struct drawing *d, uint64_t k, int side) {
 
 static void put_picture(const struct drawing *d, const char *walked) {
     fputs("digraph tree {\n  rankdir=LR;\n  fontname=\"sans-serif\";\n  node [shape=box, fontname=\"sans-serif\", fontsize=11, margin=\"0.08,0.04\"];\n"
-          "  edge [fontname=\"sans-serif\", fontsize=9];\n  ranksep=0.3;\n  nodesep=0.12;\n",
+          "  edge [fontname=\"sans-serif\", fontsize=9];\n  ranksep=0.3;\n  nodesep=0.12;\n  ordering=out;\n",
           d->to);
     put_title(d, walked);
     for (uint64_t k = 0; k < d->lines; k++)
