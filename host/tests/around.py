@@ -436,7 +436,7 @@ def release(t):
         t.check('release, %s: %s' % (turn, done.stderr.decode()[-500:]), done.returncode, 0)
         made.append(open(done.stdout.decode().strip(), 'rb').read())
     t.check('release: the same bytes', len({hashlib.sha256(m).hexdigest() for m in made}), 1)
-    empty = os.path.join(t.room, 'nothing else')
+    empty = os.path.join(t.room, 'nothing-else')
     os.mkdir(empty)
     name = 'larsavim-' + version_of(t)
     with tarfile.open(os.path.join(t.room, 'once', name + '.tar.gz')) as tar:
@@ -456,7 +456,7 @@ def release(t):
     for language, command in ('C', c), ('C++', cpp):
         if language == 'C++':  # void * to a typed pointer is C's alone
             text = open(os.path.join(top, 'example', 'speak.c')).read()
-            t.file_of(text.replace('load(file, (uint64_t)', 'load((const uint8_t *)file, (uint64_t)').replace('answer(file, label)', 'answer((const uint8_t *)file, label)').encode(), 'nothing else/speak.cpp')
+            t.file_of(text.replace('load(file, (uint64_t)', 'load((const uint8_t *)file, (uint64_t)').replace('answer(file, label)', 'answer((const uint8_t *)file, label)').encode(), 'nothing-else/speak.cpp')
             command = [w.replace(os.path.join(top, 'example', 'speak.c'), os.path.join(empty, 'speak.cpp')) for w in command]
         program = os.path.join(empty, 'speak' + language[1:])
         t.compiles('release: a program in ' + language, *command, '-o', program)
