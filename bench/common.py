@@ -9,6 +9,7 @@ import elf
 
 HERE = os.path.dirname(os.path.abspath(__file__))
 ROOT = os.path.dirname(HERE)
+sys.path.insert(0, os.path.join(ROOT, 'tools'))  # far.py
 ROOM = os.path.join(ROOT, 'target', 'bench')
 WARNINGS = ['-Wall', '-Wextra', '-Wpedantic']
 NATIVE = os.uname().machine + '-unknown-linux-gnu'

@@ -4,6 +4,7 @@ import functools
 import hashlib
 import json
 import os
+import pty
 import random
 import re
 import shutil
@@ -484,4 +485,32 @@ def release(t):
         t.check('release: a program in Rust, run', subprocess.run([os.path.join(own, 'target', 'debug', 'own'), sample], stdout=subprocess.PIPE).stdout, b'PDF 5\n')
 
 
-TESTS = [versions, warnings, stored_warnings, pictures, sizes, man_page, rust_names, rust, self_test, release]
+# ---- how far long work is
+
+def on_terminal(command):
+    """What a command says on standard error where that is a terminal, and where it is a pipe."""
+    said = []
+    for make in pty.openpty, os.pipe:
+        near, far = make()
+        subprocess.run(command, stdout=subprocess.DEVNULL, stderr=far, cwd=os.path.join(os.path.dirname(os.path.abspath(__file__)), '..', '..', 'tools'))
+        os.close(far)
+        parts = []
+        try:
+            while parts[-1:] != [b'']:
+                parts.append(os.read(near, 65536))
+        except OSError:  # a terminal whose other end is gone
+            pass
+        os.close(near)
+        said.append(b''.join(parts).decode())
+    return said
+
+
+def progress(t):
+    """check of many voices, and the tools in Python: a line that is taken away again on a terminal, nothing in a pipe."""
+    shown, piped = on_terminal([*t.command, 'check', t.SAMPLE, t.SAMPLE, t.SAMPLE])
+    t.check('check of three voices', ([('file %d of 3' % k) in shown for k in (1, 2, 3)], shown.endswith('\r\033[K'), piped), ([True] * 3, True, ''))
+    t.check('check of one voice', on_terminal([*t.command, 'check', t.SAMPLE]), ['', ''])
+    t.check('tools/far.py', on_terminal([sys.executable, '-c', 'from far import far; far("half"); far()']), ['\r\033[Khalf\r\033[K', ''])
+
+
+TESTS = [versions, progress, warnings, stored_warnings, pictures, sizes, man_page, rust_names, rust, self_test, release]
