@@ -1,4 +1,4 @@
-/* ours.c: how long the library takes:  ours FILE REPETITIONS [ROUNDS]     open and load of every model of a file in memory, best of so many repetitions; and walks.
+/* ours.c: how long the library takes:  ours FILE REPETITIONS [ROUNDS]     open and load of every model of a file in memory, best of so many repetitions; and walks, one by one and as jobs.
  * ours FILE -REPETITIONS does open and load so often and nothing else, for counting instructions.
  * Times are of the processor, in nanoseconds. Prints lines of a name and numbers; bench/time reads them. */
 #include <stdint.h>
@@ -153,6 +153,36 @@ static void walks(int rounds) {
     printf("walks %llu %llu %llu %llu\n", (unsigned long long)count, (unsigned long long)best, (unsigned long long)sum, (unsigned long long)asked);
 }
 
+/* The same walks as jobs: one call a model, a job for each tree and set of answers. The jobs are filled again before each round, outside the time. */
+static void jobs(int rounds) {
+    uint64_t best = UINT64_MAX, count = 0, calls = 0, sum = 0, asked = 0;
+    for (int i = 0; i < rounds; i++) {
+        uint64_t taken = 0;
+        count = calls = sum = asked = 0;
+        for (int k = 0; k < models; k++) {
+            uint64_t trees = model[k].needs[5], n = trees * SETS, questions = model[k].needs[3], start;
+            struct larsavim_job *job = room(n * sizeof *job);
+            for (uint64_t j = 0; j < n; j++) {
+                job[j].tree = j % trees;
+                job[j].limit = UINT64_MAX;
+                job[j].start = j / trees * questions;
+            }
+            start = now();
+            larsavim_walk_jobs(model[k].table[2], model[k].lent[2], model[k].table[3], model[k].lent[3], model[k].answers, SETS * questions, job, n);
+            taken += now() - start;
+            for (uint64_t j = 0; j < n; j++) {
+                sum += job[j].pdf;
+                asked += job[j].asked;
+            }
+            count += n;
+            calls++;
+            free(job);
+        }
+        least(&best, taken);
+    }
+    printf("jobs %llu %llu %llu %llu %llu\n", (unsigned long long)count, (unsigned long long)best, (unsigned long long)sum, (unsigned long long)asked, (unsigned long long)calls);
+}
+
 int main(int argc, char **argv) {
     FILE *f = argc > 2 ? fopen(argv[1], "rb") : NULL;
     uint64_t number;
@@ -170,7 +200,9 @@ int main(int argc, char **argv) {
     if (atoi(argv[2]) < 0)
         return 0;
     times(atoi(argv[2]));
-    if (argc > 3)
+    if (argc > 3) {
         walks(atoi(argv[3]));
+        jobs(atoi(argv[3]));
+    }
     return 0;
 }

@@ -3,9 +3,9 @@
 use mathlib.Core.Path.{_≡_}
 use mathlib.Core.Bool.{cond}
 use mathlib.Core.List.{List, [], _∷_}
-use Prim.Native.Nat.{ℕ}
+use Prim.Native.Nat.{ℕ, _<_}
 use lib.Dec.{ltb}
-use lib.ListN.{length}
+use lib.ListN.{length, getD}
 use lib.Seq.{sets}
 use Rattle.face_open.specs.declared.Said.{Said}
 use Rattle.face_open.specs.declared.Part.{Part}
@@ -59,10 +59,11 @@ endedNumbers x = x .number ∷ x .pdf ∷ x .asked ∷ []
 abbrev pub Answers : List ℕ → ℕ → ℕ → List ℕ → ℕ → List ℕ → Type 0
 Answers out n x l r o = (r ≡ answered (length out) n x) × (o ≡ written out n l)
 
--- larsavim_open
+-- larsavim_open; last, that a file is bytes
 abbrev pub Opens : List ℕ → List ℕ → List ℕ → ℕ → List ℕ → List ℕ → Type 0
 Opens s w out r w₁ o =
     (r ≡ answered (length out) 2 (openSaid s (length w) .number)) × (w₁ ≡ left out 2 w (openWords s w)) × (o ≡ written out 2 (saidNumbers (openSaid s (length w))))
+    × ((k : ℕ) → getD s k 0 < 256)
 
 -- larsavim_comment, of a file and a fallback of so many bytes
 abbrev pub Comments : ℕ → List ℕ → ℕ → List ℕ → ℕ → List ℕ → Type 0

@@ -3,8 +3,12 @@ pub mod Opening
 pub mod Writing
 pub mod Linking
 pub mod Asked
+pub mod Reading
+pub mod Tables
 pub mod Plans
 pub mod NoModel
 pub mod Loading
 pub mod Walking
 pub mod Walked
+pub mod Front
+pub mod Saving

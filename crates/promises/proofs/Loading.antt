@@ -206,7 +206,7 @@ module _ {s : List ℕ} (bytes : Bytes s) {h : record-of.Header} (says : record-
 
   module _ (w : List ℕ) (enough : 647 ≤ length w) (out : List ℕ) where
     -- what is said of the words of the record is said of the record
-    said-of : filledOf s (sets w 0 (recordWords h)) (models.modelNumber m) t ≡ filledBy L
+    pub said-of : filledOf s (sets w 0 (recordWords h)) (models.modelNumber m) t ≡ filledBy L
     unfolding filledOf
     said-of =
         ap (λ (j : ℕ). filledIn j s (sets w 0 (recordWords h)) (models.modelNumber m) t) (record-judged w h enough)

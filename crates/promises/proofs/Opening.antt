@@ -46,15 +46,15 @@ module _ (s w out : List ℕ) (room : 2 ≤ length out) where
   of-answer (answer.refused r x) = refused room x
 
 -- the contract keeps the promise
-pub open-kept : {s : List ℕ} → Bytes s → (w out : List ℕ) {r : ℕ} {w′ o : List ℕ} → Opens s w out r w′ o → AfterOpen s w out r w′ o
+pub open-kept : {s : List ℕ} (w out : List ℕ) {r : ℕ} {w′ o : List ℕ} → Opens s w out r w′ o → AfterOpen s w out r w′ o
 unfolding answered written left openSaid openWords
-open-kept {s} bytes w out (a, b, c) = moved₃ (AfterOpen s w out) a b c (go (ltb (length out) 2) refl)
+open-kept {s} w out (a, b, c, below) = moved₃ (AfterOpen s w out) a b c (go (ltb (length out) 2) refl)
   where
     go : (d : Bool) → ltb (length out) 2 ≡ d
         → AfterOpen s w out (cond d 20 (openSaidBy (length w) (openOf s .verdict) .number)) (cond d w (openWordsBy w (openOf s .header) (openOf s .verdict)))
         (cond d out (sets out 0 (saidNumbers (openSaidBy (length w) (openOf s .verdict)))))
     go true e = short-out (ltb-true (length out) 2 e)
-    go false e = of-answer s w out (ltb-false (length out) 2 e) (open-sound bytes)
+    go false e = of-answer s w out (ltb-false (length out) 2 e) (open-sound (record { below = below }))
 
 -- the promise allows one outcome
 pub after-open-once : {s w out : List ℕ} {r r′ : ℕ} {u u′ o o′ : List ℕ} → AfterOpen s w out r u o → AfterOpen s w out r′ u′ o′ → (r ≡ r′) × (u ≡ u′) × (o ≡ o′)

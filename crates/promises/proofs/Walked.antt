@@ -67,7 +67,7 @@ tree-linked (TreeRows.more s r l m) (there n) = tree-linked m n
 
 module _ {s : List ℕ} {h : record-of.Header} {m : models.Model} {t : Tables} {x : ModelSaid} {l : Layout} {trees records : List Row}
     (read : ReadsModel widening s h m x l) (room : Room x t) (rows : TreeRows (x .text .questions) 0 (x .text .trees) trees records) where
-  blocks : length (x .rows) ≡ length trees
+  pub blocks : length (x .rows) ≡ length trees
   blocks =
       let b = read .block-says in
       ap length (b .row) ∙ length-rows (x .width) 0 (b .counts) ∙ b .per-tree ∙ sym (rows-counted rows .0)
@@ -76,12 +76,12 @@ module _ {s : List ℕ} {h : record-of.Header} {m : models.Model} {t : Tables} {
   F = folded trees (x .rows)
 
   -- the tables, cut to the numbers of the answer, are the model's rows
-  trees-cut : take (6 * length (x .text .trees)) (stored t x l trees records .trees) ≡ flatten F
+  pub trees-cut : take (6 * length (x .text .trees)) (stored t x l trees records .trees) ≡ flatten F
   trees-cut =
       cut-rows (t .trees) F (length (x .text .trees)) (wide-folded trees (x .rows) (wide-text rows))
       (sym (rows-counted rows .0) ∙ sym (length-folded trees (x .rows) (sym blocks))) (let r = room .trees in omega (arith, r)) refl
 
-  records-cut : take (4 * length records) (stored t x l trees records .records) ≡ flatten records
+  pub records-cut : take (4 * length records) (stored t x l trees records .records) ≡ flatten records
   records-cut = cut-rows (t .records) records (length records) (fours-model rows) refl (let r = room .records in omega (arith, r, rows-counted rows .1)) refl
 
   module _ {i : ℕ} {tree : Tree} (n : Nth (x .text .trees) i tree) (answers : List ℕ) (enough : length (x .text .questions) ≤ length answers) (most : ℕ) where
@@ -184,12 +184,13 @@ loaded-zero {s} {h} {m} {t} {out = out} (ended a x) e = go x e
 
 -- A file of bytes is opened with 0, a model of it loaded with 0 from the words that the opening wrote, and one of its trees walked, over the tables cut to the load's answer,
 -- with a byte for each question: the walk ends as the written one.
-module _ (s w out w′ o : List ℕ) (bytes : Bytes s) (open-call : Opens s w out 0 w′ o) (m : models.Model) (t : Tables) (out₁ : List ℕ) (t′ : Tables) (o₁ : List ℕ)
+module _ (s w out w′ o : List ℕ) (open-call : Opens s w out 0 w′ o) (m : models.Model) (t : Tables) (out₁ : List ℕ) (t′ : Tables) (o₁ : List ℕ)
     (load-call : Loads s w′ (models.modelNumber m) t out₁ 0 t′ o₁) where
   -- the file says a record, and text and block of the model a model
   pub found : (h : record-of.Header) × record-of.Says s h × LoadedZero s h m t out₁ t′ o₁
   found =
-      let f = opened-zero bytes (open-kept bytes w out open-call) refl in
+      let bytes : Bytes s = record { below = open-call .3 } in
+      let f = opened-zero bytes (open-kept w out open-call) refl in
       let c = subst (λ (u : List ℕ). Loads s u (models.modelNumber m) t out₁ 0 t′ o₁) (f .3) load-call in
       (f .0, f .1, loaded-zero (load-kept bytes (f .1) m t w (f .2) out₁ c) refl)
 

@@ -1,9 +1,8 @@
 -- `larsavim_write_needs` and `larsavim_write` keep their promises; these allow one outcome; a refusal leaves the buffer as it was.
--- `short` is met by every slice: of fewer than 2^63 bytes, it has fewer than 2^58 records.
 use mathlib.Core.Path.{_≡_, refl, ap}
 use mathlib.Core.Bool.{Bool, true, false, cond}
 use mathlib.Core.List.{List, [], _∷_}
-use Prim.Native.Nat.{ℕ, _^_, _≤_, _<_}
+use Prim.Native.Nat.{ℕ, _*_, _^_, _≤_, _<_}
 use native.Mathlib.Omega.{arith}
 use borrow.Author.Tests.{ltb-true, ltb-false}
 use lib.Dec.{ltb}
@@ -20,7 +19,11 @@ use Rattle.shown_write.proofs.Call.{measure-sound, write-sound}
 use Rattle.promises.proofs.Moved.{moved₂, moved₃}
 use Rattle.promises.specs.Writing.{AfterWriteNeeds, AfterWrite}
 
-module _ (d Q P T R out : List ℕ) (short : recordRows R ≤ 2 ^ 63) where
+-- a slice has fewer than 2^63 bytes, and so fewer than 2^58 records
+few : (R : List ℕ) → length R * 8 < 2 ^ 63 → recordRows R ≤ 2 ^ 63
+few R short = omega arith
+
+module _ (d Q P T R out : List ℕ) where
   -- the contract keeps the promise
   pub write-needs-kept : {r : ℕ} {o : List ℕ} → Measures d Q P T R out r o → AfterWriteNeeds d Q P T R out r o
   unfolding answered written lengthSaid
@@ -34,7 +37,7 @@ module _ (d Q P T R out : List ℕ) (short : recordRows R ≤ 2 ^ 63) where
 
       go : (c : Bool) → ltb (length out) 2 ≡ c → AfterWriteNeeds d Q P T R out (cond c 20 n) (cond c out (sets out 0 (n ∷ k ∷ [])))
       go true e = AfterWriteNeeds.short-out (ltb-true (length out) 2 e)
-      go false e = AfterWriteNeeds.measured (ltb-false (length out) 2 e) (measure-sound d Q P T R short)
+      go false e = AfterWriteNeeds.measured (ltb-false (length out) 2 e) (measure-sound d Q P T R (few R (x .short)))
 
   pub write-kept : (b : List ℕ) {r : ℕ} {e o : List ℕ} → Writes d Q P T R b out r e o → AfterWrite d Q P T R b out r e o
   unfolding answered written left writeSaid writeLeft
@@ -51,7 +54,7 @@ module _ (d Q P T R out : List ℕ) (short : recordRows R ≤ 2 ^ 63) where
 
       go : (c : Bool) → ltb (length out) 2 ≡ c → AfterWrite d Q P T R b out (cond c 20 n) (cond c b after) (cond c out (sets out 0 (n ∷ k ∷ [])))
       go true e = AfterWrite.short-out (ltb-true (length out) 2 e)
-      go false e = AfterWrite.wrote (ltb-false (length out) 2 e) (write-sound d Q P T R short b (record { answer-is = refl; buffer-is = refl }))
+      go false e = AfterWrite.wrote (ltb-false (length out) 2 e) (write-sound d Q P T R (few R (x .short)) b (record { answer-is = refl; buffer-is = refl }))
 
 -- the promises allow one outcome
 pub after-write-needs-once : {d Q P T R out : List ℕ} {r s : ℕ} {o p : List ℕ} → AfterWriteNeeds d Q P T R out r o → AfterWriteNeeds d Q P T R out s p → (r ≡ s) × (o ≡ p)

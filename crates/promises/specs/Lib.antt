@@ -1,4 +1,5 @@
 pub mod Opening
+pub mod Reading
 pub mod Writing
 pub mod Loading
 pub mod Walking

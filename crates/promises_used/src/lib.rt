@@ -1,0 +1,1 @@
+// The front door used on a small voice, by computation. No code.

@@ -1,0 +1,5 @@
+pub mod Longer
+pub mod Named
+pub mod LongerModels
+pub mod OneModel
+pub mod Openings

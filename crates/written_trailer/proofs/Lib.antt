@@ -1,0 +1,7 @@
+pub mod Trailing
+pub mod TrailerFits
+pub mod TrailerTotal
+pub mod TrailerExactly
+pub mod TrailerApart
+pub mod TrailerExample
+pub mod OneTree
