@@ -160,7 +160,7 @@ static void jobs(int rounds) {
         uint64_t taken = 0;
         count = calls = sum = asked = 0;
         for (int k = 0; k < models; k++) {
-            uint64_t trees = model[k].needs[5], n = trees * SETS, questions = model[k].needs[3], start;
+            uint64_t trees = model[k].at.needs[LARSAVIM_NEEDS_TREES], n = trees * SETS, questions = model[k].at.needs[LARSAVIM_NEEDS_QUESTIONS], start;
             struct larsavim_job *job = room(n * sizeof *job);
             for (uint64_t j = 0; j < n; j++) {
                 job[j].tree = j % trees;
@@ -168,7 +168,7 @@ static void jobs(int rounds) {
                 job[j].start = j / trees * questions;
             }
             start = now();
-            larsavim_walk_jobs(model[k].table[2], model[k].lent[2], model[k].table[3], model[k].lent[3], model[k].answers, SETS * questions, job, n);
+            larsavim_model_walk_jobs(&model[k].at, model[k].answers, SETS * questions, job, n);
             taken += now() - start;
             for (uint64_t j = 0; j < n; j++) {
                 sum += job[j].pdf;
