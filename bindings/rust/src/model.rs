@@ -104,7 +104,24 @@ fn cut(table: &[u64], rows: u64, width: usize) -> &[u64] {
     usize::try_from(rows).ok().and_then(|rows| table.get(..rows * width)).unwrap_or(&[])
 }
 
-/// A loaded model. Its tables stay lent as long as it is used, and so does the file: names and patterns point into it.
+/// A loaded model. Its tables stay lent as long as it is used, and so does the file: names and patterns point into it. Nobody can change them meanwhile:
+///
+/// ```compile_fail,E0506
+/// # use larsavim::*;
+/// # fn f(needs: Needs, memory: &mut [u64]) -> Result<(), Refusal> {
+/// let model = Model::load(&needs, needs.tables(memory).unwrap(), &mut [])?;
+/// memory[0] = 1;
+/// model.walk(0, &[], 9)?;
+/// # Ok(()) }
+/// ```
+///
+/// and nobody can make one of rows that no load returned:
+///
+/// ```compile_fail,E0451
+/// # fn f(rows: ()) {
+/// let model = larsavim::Model { data: &[], rows, width: 1 };
+/// # }
+/// ```
 #[derive(Clone, Copy)]
 pub struct Model<'f, 't> {
     data: &'f [u8],

@@ -6,9 +6,9 @@ macro_rules! refusals {
         /// Why something is refused. A place is a file offset, counted from 0; of [`Refusal::Text`] it counts from the first data byte. Trees and lines count from 0.
         #[non_exhaustive]
         #[derive(Clone, Copy, Debug, PartialEq, Eq, Hash)]
-        #[allow(missing_docs)] // the parts of a case: place, tree, line
+        #[allow(missing_docs, rustdoc::broken_intra_doc_links)] // the parts of a case: place, tree, line; the sections' names in brackets
         pub enum Refusal {
-            $(#[doc = $sentence] $(#[$doc])* $name $({ $($part: u64),+ })?,)*
+            $(#[doc = concat!($number, ": ", $sentence, ".")] $(#[$doc])* $name $({ $($part: u64),+ })?,)*
             /// A number that this crate has no name for: the library is newer than the crate.
             Other { number: u64, place: u64, line: u64 },
         }
