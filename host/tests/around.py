@@ -485,6 +485,23 @@ def release(t):
         t.check('release: a program in Rust, run', subprocess.run([os.path.join(own, 'target', 'debug', 'own'), sample], stdout=subprocess.PIPE).stdout, b'PDF 5\n')
 
 
+def installed(t):
+    """make install under a prefix: everything is there, and the example is built by what is installed alone."""
+    if not shutil.which('make'):
+        print('host/test: make is not at hand: its install was not tested')
+        return
+    prefix = os.path.join(t.room, 'prefix')
+    done = subprocess.run(['make', '-s', 'install', 'PREFIX=' + prefix], cwd=t.ROOT, stdout=subprocess.PIPE, stderr=subprocess.STDOUT)
+    t.check('make install: ' + done.stdout.decode()[-300:], done.returncode, 0)
+    there = sorted(os.path.relpath(os.path.join(f, n), prefix) for f, _, names in os.walk(prefix) for n in names)
+    t.check('make install', there, ['bin/larsavim', 'include/larsavim.h', 'include/larsavim_model.h', 'lib/liblarsavim.a', 'lib/pkgconfig/larsavim.pc', 'share/man/man1/larsavim.1'])
+    compile_with, run_with = t.cross()
+    source = t.file_of(re.findall(r'^```c\n(.*?)^```$', t.text_of('docs', 'INTEGRATION.md'), re.S | re.M)[0].encode(), 'speak.c')
+    program = os.path.join(t.room, 'speak-installed')
+    t.compiles('make install: the example', *compile_with, '-std=c99', '-D_POSIX_C_SOURCE=200809L', '-I', os.path.join(prefix, 'include'), source, '-L', os.path.join(prefix, 'lib'), '-llarsavim', '-o', program)
+    t.check('make install: the example, run', subprocess.run([*run_with, program, t.SAMPLE], stdout=subprocess.PIPE).stdout, b'PDF 5\n')
+
+
 # ---- how far long work is
 
 def on_terminal(command):
@@ -513,4 +530,4 @@ def progress(t):
     t.check('tools/far.py', on_terminal([sys.executable, '-c', 'from far import far; far("half"); far()']), ['\r\033[Khalf\r\033[K', ''])
 
 
-TESTS = [versions, progress, warnings, stored_warnings, pictures, sizes, man_page, rust_names, rust, self_test, release]
+TESTS = [versions, progress, warnings, stored_warnings, pictures, sizes, man_page, rust_names, rust, self_test, release, installed]
