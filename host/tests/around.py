@@ -32,6 +32,14 @@ def versions(t):
     t.check('Cargo.toml has it', re.search(r'^version = "(.*)"$', t.text_of('bindings', 'rust', 'Cargo.toml'), re.M)[1], number)
 
 
+def model_header(t):
+    """tests/model.c: larsavim_model.h at work, as C and as C++."""
+    source = os.path.join(t.HERE, 'tests', 'model.c')
+    t.compiles('model.c as C++', t.compiler(('g++', 'c++'), 'g++'), '-std=c++11', *t.WARNINGS, '-I', t.HERE, '-fsyntax-only', '-x', 'c++', source)
+    done = subprocess.run([*t.linked(source), t.SAMPLE], stdout=subprocess.PIPE)
+    t.check('model.c', (done.returncode, done.stdout.decode()), (0, 'model: 48 passed, 0 failed\n'))
+
+
 # ---- warnings
 
 def named(h, b, which):
@@ -328,6 +336,11 @@ def rust(t):
     status, said = cargo(t, 'test', cwd=crate)
     t.check('cargo test: %s' % said[-2000:] if status else 'cargo test', status, 0)
     t.check('cargo test: how many', [int(n) for n in re.findall(r'test result: ok\. (\d+) passed', said) if n != '0'], [6, 3, 3])
+    status, said = cargo(t, 'build', '--examples', cwd=crate)
+    t.check('cargo build --examples: ' + said, status, 0)
+    for path, want in (t.SAMPLE, (0, b'PDF 5\n')), (t.file_of(t.damaged(b'[STREAM]\n', b'[STRAEM]\n'), 'unsplit'), (1, b'silence (1)\n')):
+        done = subprocess.run([os.path.join(t.ROOT, 'target', 'rust', 'debug', 'examples', 'speak'), path], stdout=subprocess.PIPE)
+        t.check('the example in Rust', (done.returncode, done.stdout), want)
     built = subprocess.run([os.path.join(t.ROOT, 'oracle', 'build'), '--beside'], stdout=subprocess.PIPE, stderr=subprocess.PIPE)
     t.check('oracle/build --beside', (built.returncode, built.stderr.decode()), (0, ''))
     inputs = [t.make.voice(), clean_voice()] + [b for kind in ('voices', 'walks') for b, _ in t.stored.cases(kind)]
@@ -530,4 +543,4 @@ def progress(t):
     t.check('tools/far.py', on_terminal([sys.executable, '-c', 'from far import far; far("half"); far()']), ['\r\033[Khalf\r\033[K', ''])
 
 
-TESTS = [versions, progress, warnings, stored_warnings, pictures, sizes, man_page, rust_names, rust, self_test, release, installed]
+TESTS = [versions, progress, model_header, warnings, stored_warnings, pictures, sizes, man_page, rust_names, rust, self_test, release, installed]
