@@ -327,21 +327,33 @@ def cargo(t, *words, cwd, **environment):
     return done.returncode, done.stdout.decode('utf-8', 'replace')
 
 
+def own_library(t):
+    """Where cargo finds the library for this machine: in the repository for x86-64, else an archive of host/native's object."""
+    if os.uname().machine == 'x86_64':
+        return {}
+    folder = os.path.join(t.room, 'own library')
+    os.mkdir(folder)
+    made = os.path.join(folder, 'larsavim.o')
+    t.check('host/native for this machine', subprocess.run([os.path.join(t.HERE, 'native'), made]).returncode, 0)
+    t.check('its archive', subprocess.run([kit_tool('llvm-ar'), 'rcsD', os.path.join(folder, 'liblarsavim.a'), made]).returncode, 0)
+    return dict(LARSAVIM_LIB_DIR=folder)
+
+
 def rust(t):
     """cargo's own tests, offline: the sample, and all stored headers, voices and walks; the example in the documentation; then the oracle's own structs beside the binding's views."""
     if not shutil.which('cargo'):
         print('host/test: cargo is not at hand: the Rust binding was not tested')
         return
-    crate = os.path.join(t.ROOT, 'bindings', 'rust')
-    status, said = cargo(t, 'test', cwd=crate)
+    crate, library = os.path.join(t.ROOT, 'bindings', 'rust'), own_library(t)
+    status, said = cargo(t, 'test', cwd=crate, **library)
     t.check('cargo test: %s' % said[-2000:] if status else 'cargo test', status, 0)
     t.check('cargo test: how many', [int(n) for n in re.findall(r'test result: ok\. (\d+) passed', said) if n != '0'], [6, 3, 3])
-    status, said = cargo(t, 'build', '--examples', cwd=crate)
+    status, said = cargo(t, 'build', '--examples', cwd=crate, **library)
     t.check('cargo build --examples: ' + said, status, 0)
     for path, want in (t.SAMPLE, (0, b'PDF 5\n')), (t.file_of(t.damaged(b'[STREAM]\n', b'[STRAEM]\n'), 'unsplit'), (1, b'silence (1)\n')):
         done = subprocess.run([os.path.join(t.ROOT, 'target', 'rust', 'debug', 'examples', 'speak'), path], stdout=subprocess.PIPE)
         t.check('the example in Rust', (done.returncode, done.stdout), want)
-    built = subprocess.run([os.path.join(t.ROOT, 'oracle', 'build'), '--beside'], stdout=subprocess.PIPE, stderr=subprocess.PIPE)
+    built = subprocess.run([os.path.join(t.ROOT, 'oracle', 'build'), '--beside'], stdout=subprocess.PIPE, stderr=subprocess.PIPE, env={**os.environ, **library})
     t.check('oracle/build --beside', (built.returncode, built.stderr.decode()), (0, ''))
     inputs = [t.make.voice(), clean_voice()] + [b for kind in ('voices', 'walks') for b, _ in t.stored.cases(kind)]
     done = subprocess.run([built.stdout.decode().strip()], input=''.join(b.hex() + '\n' for b in inputs).encode(), stdout=subprocess.PIPE)
@@ -467,6 +479,7 @@ def release(t):
     flags = ['-I', os.path.join(top, 'include')]
     c = [*compile_with, '-std=c99', '-D_POSIX_C_SOURCE=200809L', *t.WARNINGS, *flags, os.path.join(top, 'example', 'speak.c'), library]
     cpp = [compile_with[0].replace('gcc', 'g++'), *compile_with[1:], '-std=c++11', '-Wall', '-Wextra', '-Wpedantic', '-Wno-missing-field-initializers', '-Werror', *flags, '-x', 'c++', os.path.join(top, 'example', 'speak.c'), '-x', 'none', library]
+    subprocess.run([os.path.join(t.ROOT, 'tools', 'need'), cpp[0], 'g++' if os.uname().machine == 'x86_64' else 'g++-x86-64-linux-gnu'])
     for language, command in ('C', c), ('C++', cpp):
         if language == 'C++':  # void * to a typed pointer is C's alone
             text = open(os.path.join(top, 'example', 'speak.c')).read()
@@ -537,6 +550,9 @@ def on_terminal(command):
 
 def progress(t):
     """check of many voices, and the tools in Python: a line that is taken away again on a terminal, nothing in a pipe."""
+    if not os.path.exists('/dev/ptmx'):
+        print('host/test: there are no terminals here: how far work is was not tested')
+        return
     shown, piped = on_terminal([*t.command, 'check', t.SAMPLE, t.SAMPLE, t.SAMPLE])
     t.check('check of three voices', ([('file %d of 3' % k) in shown for k in (1, 2, 3)], shown.endswith('\r\033[K'), piped), ([True] * 3, True, ''))
     t.check('check of one voice', on_terminal([*t.command, 'check', t.SAMPLE]), ['', ''])
