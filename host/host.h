@@ -231,6 +231,21 @@ struct seen_line {
 /* The lines of the braced tree whose head the reader has just read, as many as its row has; to be freed. */
 uint64_t tree_lines(const struct voice *v, const struct larsavim_model *m, uint64_t tree, struct reader *r, struct seen_line **lines);
 
+/* ---- a tree as a picture (draw.c, draw_words.c) ------------------------------------------------------------------------------------- */
+
+struct asked_drawing {
+    const char *path;
+    uint64_t which, tree;
+    int svg;
+    struct bytes answers, label; /* lent, or null: the walk whose way is marked */
+};
+
+int draw(const struct asked_drawing *a);
+
+enum { NOT_SO = -1 }; /* the words aren't what the verb takes */
+
+int draw_words(int n, char **words);
+
 /* ---- strings for machines (json.c), and how far long work is (progress.c) ---------------------------------------------------------- */
 
 void put_json(FILE *to, struct bytes s);
@@ -282,21 +297,6 @@ void put_text_hex(struct bytes file, uint64_t which);
 
 /* `larsavim: FILE: model 1, stream "MCP": ` on standard error. */
 void complain_model(const char *path, const struct voice *v, uint64_t which);
-
-/* ---- a tree as a picture (draw.c, draw_words.c) ------------------------------------------------------------------------------------- */
-
-struct asked_drawing {
-    const char *path;
-    uint64_t which, tree;
-    int svg;
-    struct bytes answers, label; /* lent, or null: the walk whose way is marked */
-};
-
-int draw(const struct asked_drawing *a);
-
-enum { NOT_SO = -1 }; /* the words aren't what the verb takes */
-
-int draw_words(int n, char **words);
 
 /* ---- the verbs ---------------------------------------------------------------------------------------------------------------- */
 

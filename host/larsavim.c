@@ -7,6 +7,9 @@ static const char usage[] =
     "usage: larsavim inspect FILE                          the header, what each model needs, and what is wrong\n"
     "       larsavim check [--strict] [--json] FILE..      status 0 if every model of every file loads and passes the leaf check; warns of\n"
     "                                                      two lines with one id, names that stand twice, what nobody asks or reaches\n"
+    "       larsavim draw FILE MODEL TREE                  the tree as a picture, in Graphviz's language; --svg: as SVG, by its program dot;\n"
+    "                                                      --answers ANSWERS or --label LABEL: the way of that walk in it\n"
+    "       larsavim tables FILE..                         the sizes of the tables that voices need, as a C header; the greatest of several\n"
     "       larsavim walk FILE MODEL TREE ANSWERS LIMIT    one walk; ANSWERS is a 0 or 1 for each question, - for none\n"
     "       larsavim walks FILE                            many walks: lines MODEL TREE ANSWERS LIMIT on standard input\n"
     "       larsavim sentence FILE MODEL ANSWERS           the walks of a sentence in one call: lines TREE LIMIT START on standard input\n"
@@ -15,9 +18,6 @@ static const char usage[] =
     "       larsavim write FILE MODEL                      the tree text of a model, out of its tables: one id a line, blanks made even\n"
     "       larsavim save FILE OUT                         the voice with every tree text so written, in another file\n"
     "       larsavim depth FILE [MODEL]                    how many questions a walk of each tree can ask, whatever the answers\n"
-    "       larsavim draw FILE MODEL TREE                  the tree as a picture, in Graphviz's language; --svg: as SVG, by its program dot;\n"
-    "                                                      --answers ANSWERS or --label LABEL: the way of that walk in it\n"
-    "       larsavim tables FILE..                         the sizes of the tables that voices need, as a C header; the greatest of several\n"
     "       larsavim dump FILE                             everything, one fact a line, for comparing\n"
     "       larsavim hex                                   the dump of each line of hex on standard input, then END\n"
     "       larsavim demo FILE                             a voice in which two lines bear one id, and which of them wins\n"
@@ -62,6 +62,12 @@ static int run(const char *verb, int n, char **words) {
         return n == 1 ? inspect(words[0]) : wrong("inspect takes one FILE", NULL);
     if (strcmp(verb, "check") == 0)
         return check_words(n, words);
+    if (strcmp(verb, "draw") == 0) {
+        int status = draw_words(n, words);
+        return status != NOT_SO ? status : wrong("draw takes FILE MODEL TREE, and perhaps --svg, and --answers ANSWERS or --label LABEL", NULL);
+    }
+    if (strcmp(verb, "tables") == 0)
+        return n >= 1 ? tables(n, words) : wrong("tables takes one FILE or more", NULL);
     if (strcmp(verb, "walk") == 0)
         return n == 5 ? walk(words) : wrong("walk takes FILE MODEL TREE ANSWERS LIMIT", NULL);
     if (strcmp(verb, "walks") == 0)
@@ -78,12 +84,6 @@ static int run(const char *verb, int n, char **words) {
         return n == 2 ? save(words) : wrong("save takes FILE OUT", NULL);
     if (strcmp(verb, "depth") == 0)
         return n == 1 || n == 2 ? depth(n, words) : wrong("depth takes FILE and perhaps MODEL", NULL);
-    if (strcmp(verb, "draw") == 0) {
-        int status = draw_words(n, words);
-        return status != NOT_SO ? status : wrong("draw takes FILE MODEL TREE, and perhaps --svg, and --answers ANSWERS or --label LABEL", NULL);
-    }
-    if (strcmp(verb, "tables") == 0)
-        return n >= 1 ? tables(n, words) : wrong("tables takes one FILE or more", NULL);
     if (strcmp(verb, "dump") == 0)
         return n == 1 ? dump(words[0]) : wrong("dump takes one FILE", NULL);
     if (strcmp(verb, "hex") == 0)
