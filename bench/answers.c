@@ -7,7 +7,7 @@
 #include <string.h>
 #include <time.h>
 
-#include "larsavim.h"
+#include "larsavim_model.h"
 
 static const char *const labels[] = {
     "x^x-pau+dh=ax@x_x/A:0_0_0/B:x-x-x@x-x&x-x#x-x$x-x!x-x;x-x|x/C:0+0+2/D:0_0/E:x+x@x+x&x+x#x+x/F:det_1/G:0_0/H:x=x@1=2|0/I:6=5/J:17+14-2",
@@ -15,10 +15,11 @@ static const char *const labels[] = {
     "ih^s-t+eh=r@3_3/A:1_1_3/B:0-0-3@2-1&4-8#2-5$1-4!1-1;1-2|eh/C:1+0+4/D:content_2/E:content+1@3+6&2+4#1+2/F:in_1/G:11_9/H:11=9@2=2|L-H%/I:0=0/J:17+14-2",
     "n^iy-pau+x=x@x_x/A:1_0_2/B:x-x-x@x-x&x-x#x-x$x-x!x-x;x-x|x/C:0+0+0/D:content_1/E:x+x@x+x&x+x#x+x/F:0_0/G:11_9/H:x=x@2=2|0/I:0=0/J:17+14-2",
 };
-enum { LABELS = sizeof labels / sizeof labels[0], TABLES = 5, MODELS = 2 * LARSAVIM_STREAM_LIMIT + 1, MOST_WORST = 4096 };
+enum { LABELS = sizeof labels / sizeof labels[0], MODELS = 2 * LARSAVIM_STREAM_LIMIT + 1, MOST_WORST = 4096 };
 
 struct model {
-    uint64_t *questions, *patterns, question_count, pattern_count;
+    struct larsavim_model at;
+    uint64_t question_count, pattern_count;
     char **texts; /* each pattern, ended by a byte of 0 for fnmatch */
     uint8_t *ours, *theirs;
 };
@@ -47,41 +48,40 @@ static void *room(uint64_t bytes) {
 }
 
 static void load(uint64_t which) {
-    uint64_t needs[LARSAVIM_NEEDS_OUT], out[LARSAVIM_LOAD_OUT], *table[TABLES];
-    static const uint64_t width[TABLES] = {LARSAVIM_QUESTION_ROW, LARSAVIM_PATTERN_ROW, LARSAVIM_TREE_ROW, LARSAVIM_RECORD_ROW, 1};
     struct model *m = &model[models];
-    int64_t *work;
-    if (larsavim_needs(file, file_len, words, LARSAVIM_WORDS, which, needs, LARSAVIM_NEEDS_OUT) != LARSAVIM_SUCCESS)
+    m->at.which = which;
+    if (larsavim_model_needs(&m->at, file, file_len, words) != LARSAVIM_SUCCESS)
         return;
-    for (int t = 0; t < TABLES; t++)
-        table[t] = room(8 * width[t] * needs[3 + t]);
-    work = room(8 * needs[3 + TABLES]);
-    if (larsavim_load(file, file_len, words, LARSAVIM_WORDS, which, table[0], width[0] * needs[3], table[1], width[1] * needs[4], table[2], width[2] * needs[5], table[3], width[3] * needs[6],
-                      table[4], needs[7], work, needs[3 + TABLES], out, LARSAVIM_LOAD_OUT) != LARSAVIM_SUCCESS)
+    for (int t = 0; t < LARSAVIM_TABLES; t++) {
+        m->at.lent[t] = larsavim_model_wants(&m->at, t);
+        m->at.table[t] = room(8 * m->at.lent[t]);
+    }
+    m->at.work_lent = m->at.needs[LARSAVIM_NEEDS_WORK];
+    m->at.work = room(8 * m->at.work_lent);
+    if (larsavim_model_load(&m->at, file, file_len, words) != LARSAVIM_SUCCESS)
         exit(2);
-    m->questions = table[0];
-    m->patterns = table[1];
-    m->question_count = needs[3];
-    m->pattern_count = needs[4];
+    m->question_count = larsavim_model_rows(&m->at, LARSAVIM_QUESTIONS);
+    m->pattern_count = larsavim_model_rows(&m->at, LARSAVIM_PATTERNS);
     m->ours = room(m->question_count);
     m->theirs = room(m->question_count);
     m->texts = room(sizeof *m->texts * m->pattern_count);
     for (uint64_t p = 0; p < m->pattern_count; p++) {
-        m->texts[p] = room(m->patterns[2 * p + 1] + 1);
-        memcpy(m->texts[p], file + words[LARSAVIM_DATA_START] + m->patterns[2 * p], m->patterns[2 * p + 1]);
+        const uint64_t *row = larsavim_model_row(&m->at, LARSAVIM_PATTERNS, p);
+        m->texts[p] = room(row[LARSAVIM_PATTERN_LEN] + 1);
+        memcpy(m->texts[p], file + words[LARSAVIM_DATA_START] + row[LARSAVIM_PATTERN_START], row[LARSAVIM_PATTERN_LEN]);
     }
     models++;
 }
 
 static void ours(const struct model *m, const char *label) {
-    if (larsavim_answers((const uint8_t *)label, strlen(label), m->questions, 4 * m->question_count, m->patterns, 2 * m->pattern_count, file + words[LARSAVIM_DATA_START], words[LARSAVIM_DATA_LEN],
-                         m->ours, m->question_count) != LARSAVIM_SUCCESS)
+    if (larsavim_model_answers(&m->at, (const uint8_t *)label, strlen(label), file + words[LARSAVIM_DATA_START], words[LARSAVIM_DATA_LEN], m->ours, m->question_count) != LARSAVIM_SUCCESS)
         exit(2);
 }
 
 static void theirs(const struct model *m, const char *label) {
     for (uint64_t q = 0; q < m->question_count; q++) {
-        uint64_t first = m->questions[4 * q + 2], count = m->questions[4 * q + 3], k = 0;
+        const uint64_t *row = larsavim_model_row(&m->at, LARSAVIM_QUESTIONS, q);
+        uint64_t first = row[LARSAVIM_QUESTION_FIRST], count = row[LARSAVIM_QUESTION_PATTERNS], k = 0;
         while (k < count && fnmatch(m->texts[first + k], label, 0) != 0)
             k++;
         m->theirs[q] = k < count;

@@ -1,7 +1,6 @@
 """What the programs of bench/ share: building, the machine in words, tables, and where they are recorded."""
 import os
 import re
-import shutil
 import subprocess
 import sys
 
@@ -9,6 +8,7 @@ import elf
 
 HERE = os.path.dirname(os.path.abspath(__file__))
 ROOT = os.path.dirname(HERE)
+sys.path.insert(0, os.path.join(ROOT, 'tools'))  # far.py
 ROOM = os.path.join(ROOT, 'target', 'bench')
 WARNINGS = ['-Wall', '-Wextra', '-Wpedantic']
 NATIVE = os.uname().machine + '-unknown-linux-gnu'
@@ -19,14 +19,9 @@ def output(*command):
 
 
 def need(command, *packages):
-    """Installs Debian packages where a command is missing."""
-    if command and shutil.which(command):
-        return
-    for words in ['install'], ['update', '-qq'], ['install']:
-        more = ['-y', '-qq', '--no-install-recommends', *packages] if words == ['install'] else []
-        if subprocess.run(['apt-get', *words, *more], stdout=subprocess.DEVNULL).returncode == 0 and more:
-            return
-    sys.exit('bench: %s can\'t be installed from Debian\'s packages' % ' '.join(packages))
+    """A command, or a file by its whole path, of Debian's packages where it is missing."""
+    if subprocess.run([os.path.join(ROOT, 'tools', 'need'), command, *packages]).returncode:
+        sys.exit('bench: %s can\'t be had' % command)
 
 
 def newer(path, *sources):

@@ -6,17 +6,13 @@
 #include <string.h>
 #include <time.h>
 
-#include "larsavim.h"
+#include "larsavim_model.h"
 
 enum { MODELS = 2 * LARSAVIM_STREAM_LIMIT + 1 };
 
-struct model {
-    uint64_t *trees, *records, tree_count, record_count;
-};
-
 static uint8_t *file;
 static uint64_t file_len, words[LARSAVIM_WORDS];
-static struct model model[MODELS];
+static struct larsavim_model model[MODELS];
 static int models;
 
 static uint64_t now(void) {
@@ -33,20 +29,18 @@ static void *room(uint64_t bytes) {
 }
 
 static void load(uint64_t which) {
-    static const uint64_t width[5] = {LARSAVIM_QUESTION_ROW, LARSAVIM_PATTERN_ROW, LARSAVIM_TREE_ROW, LARSAVIM_RECORD_ROW, 1};
-    uint64_t needs[LARSAVIM_NEEDS_OUT], out[LARSAVIM_LOAD_OUT], *table[5];
-    struct model *m = &model[models];
-    if (larsavim_needs(file, file_len, words, LARSAVIM_WORDS, which, needs, LARSAVIM_NEEDS_OUT) != LARSAVIM_SUCCESS)
+    struct larsavim_model *m = &model[models];
+    m->which = which;
+    if (larsavim_model_needs(m, file, file_len, words) != LARSAVIM_SUCCESS)
         return;
-    for (int t = 0; t < 5; t++)
-        table[t] = room(8 * width[t] * needs[3 + t]);
-    if (larsavim_load(file, file_len, words, LARSAVIM_WORDS, which, table[0], width[0] * needs[3], table[1], width[1] * needs[4], table[2], width[2] * needs[5], table[3], width[3] * needs[6],
-                      table[4], needs[7], (int64_t *)room(8 * needs[8]), needs[8], out, LARSAVIM_LOAD_OUT) != LARSAVIM_SUCCESS)
+    for (int t = 0; t < LARSAVIM_TABLES; t++) {
+        m->lent[t] = larsavim_model_wants(m, t);
+        m->table[t] = room(8 * m->lent[t]);
+    }
+    m->work_lent = m->needs[LARSAVIM_NEEDS_WORK];
+    m->work = room(8 * m->work_lent);
+    if (larsavim_model_load(m, file, file_len, words) != LARSAVIM_SUCCESS)
         exit(2);
-    m->trees = table[2];
-    m->records = table[3];
-    m->tree_count = needs[5];
-    m->record_count = needs[6];
     models++;
 }
 
@@ -55,21 +49,19 @@ static void all_trees(int rounds) {
     uint64_t best = UINT64_MAX, records = 0, deepest = 0, trees = 0;
     int64_t *work;
     for (int k = 0; k < models; k++)
-        records += model[k].record_count;
+        records += larsavim_model_rows(&model[k], LARSAVIM_RECORDS);
     work = room(8 * LARSAVIM_WORK_A_RECORD * records);
     for (int i = 0; i < rounds; i++) {
         uint64_t start = now();
         trees = 0;
         for (int k = 0; k < models; k++)
-            for (uint64_t t = 0; t < model[k].tree_count; t++) {
-                const struct model *m = &model[k];
-                uint64_t out[LARSAVIM_DEPTH_OUT];
-                larsavim_depth(m->trees, LARSAVIM_TREE_ROW * m->tree_count, m->records, LARSAVIM_RECORD_ROW * m->record_count, t, work,
-                               LARSAVIM_WORK_A_RECORD * m->trees[LARSAVIM_TREE_ROW * t + 2], out, LARSAVIM_DEPTH_OUT);
-                if (out[0] != LARSAVIM_SUCCESS || out[1] != 1)
+            for (uint64_t t = 0; t < larsavim_model_rows(&model[k], LARSAVIM_TREES); t++) {
+                const struct larsavim_model *m = &model[k];
+                uint64_t out[LARSAVIM_DEPTH_OUT], own = larsavim_model_row(m, LARSAVIM_TREES, t)[LARSAVIM_TREE_RECORDS];
+                if (larsavim_model_depth(m, t, work, LARSAVIM_WORK_A_RECORD * own, out, LARSAVIM_DEPTH_OUT) != LARSAVIM_SUCCESS || out[LARSAVIM_DEPTH_ENDS] != 1)
                     exit(2);
-                if (out[2] > deepest)
-                    deepest = out[2];
+                if (out[LARSAVIM_DEPTH_QUESTIONS] > deepest)
+                    deepest = out[LARSAVIM_DEPTH_QUESTIONS];
                 trees++;
             }
         if (now() - start < best)
@@ -85,17 +77,17 @@ static void long_tables(int rounds) {
             uint64_t tree[LARSAVIM_TREE_ROW] = {2, 0, n + 1, n}, *records = room(8 * LARSAVIM_RECORD_ROW * (n + 1)), best = UINT64_MAX, out[LARSAVIM_DEPTH_OUT];
             int64_t *work = room(8 * LARSAVIM_WORK_A_RECORD * (n + 1));
             for (uint64_t i = 0; i < n; i++) {
-                records[4 * i + 2] = kind == 2 && i + 1 == n ? 0 : i + 1;
-                records[4 * i + 3] = kind == 1 ? i + 1 : n;
+                records[LARSAVIM_RECORD_ROW * i + LARSAVIM_RECORD_YES] = kind == 2 && i + 1 == n ? 0 : i + 1;
+                records[LARSAVIM_RECORD_ROW * i + LARSAVIM_RECORD_NO] = kind == 1 ? i + 1 : n;
             }
-            records[4 * n] = 1;
+            records[LARSAVIM_RECORD_ROW * n] = 1;
             for (int i = 0; i < rounds; i++) {
                 uint64_t start = now();
                 larsavim_depth(tree, LARSAVIM_TREE_ROW, records, LARSAVIM_RECORD_ROW * (n + 1), 0, work, LARSAVIM_WORK_A_RECORD * (n + 1), out, LARSAVIM_DEPTH_OUT);
                 if (now() - start < best)
                     best = now() - start;
             }
-            if (out[1] != (kind != 2) || out[2] != (kind == 2 ? 0 : n))
+            if (out[LARSAVIM_DEPTH_ENDS] != (kind != 2) || out[LARSAVIM_DEPTH_QUESTIONS] != (kind == 2 ? 0 : n))
                 exit(2);
             printf("long%d-%llu %llu\n", kind, (unsigned long long)n, (unsigned long long)best);
             free(records);

@@ -7,13 +7,12 @@
 #include <string.h>
 #include <time.h>
 
-#include "larsavim.h"
+#include "larsavim_model.h"
 
-enum { TABLES = 5, WORK = 3 + TABLES, MODELS = 2 * LARSAVIM_STREAM_LIMIT + 1, SETS = 64 };
-static const uint64_t width[TABLES] = {LARSAVIM_QUESTION_ROW, LARSAVIM_PATTERN_ROW, LARSAVIM_TREE_ROW, LARSAVIM_RECORD_ROW, 1};
+enum { MODELS = 2 * LARSAVIM_STREAM_LIMIT + 1, SETS = 64 };
 
 struct model {
-    uint64_t which, needs[LARSAVIM_NEEDS_OUT], *table[TABLES], lent[TABLES];
+    struct larsavim_model at;
     uint8_t *answers; /* SETS sets, a byte a question in each */
 };
 
@@ -48,32 +47,34 @@ static uint64_t open_file(void) {
 }
 
 static uint64_t needs_of(struct model *m) {
-    return larsavim_needs(file, file_len, words, LARSAVIM_WORDS, m->which, m->needs, LARSAVIM_NEEDS_OUT);
+    return larsavim_model_needs(&m->at, file, file_len, words);
 }
 
 static uint64_t load(struct model *m) {
-    uint64_t out[LARSAVIM_LOAD_OUT], *const *t = m->table, *n = m->lent;
-    return larsavim_load(file, file_len, words, LARSAVIM_WORDS, m->which, t[0], n[0], t[1], n[1], t[2], n[2], t[3], n[3], t[4], n[4], work, work_len, out,
-                         LARSAVIM_LOAD_OUT);
+    return larsavim_model_load(&m->at, file, file_len, words);
 }
 
 /* Tables for every model of the voice but a GV that it doesn't have. */
 static void lend(void) {
     for (uint64_t which = 0; which <= 2 * words[LARSAVIM_STREAM_TYPE_COUNT]; which++) {
         struct model *m = &model[models];
-        m->which = which;
+        m->at.which = which;
         if (needs_of(m) == LARSAVIM_USEGV)
             continue;
         models++;
-        for (int t = 0; t < TABLES; t++) {
-            m->lent[t] = m->needs[3 + t] * width[t];
-            m->table[t] = room(m->lent[t] * 8);
-            tables_len += m->lent[t] * 8;
+        for (int t = 0; t < LARSAVIM_TABLES; t++) {
+            m->at.lent[t] = larsavim_model_wants(&m->at, t);
+            m->at.table[t] = room(m->at.lent[t] * 8);
+            tables_len += m->at.lent[t] * 8;
         }
-        if (m->needs[WORK] > work_len)
-            work_len = m->needs[WORK];
+        if (m->at.needs[LARSAVIM_NEEDS_WORK] > work_len)
+            work_len = m->at.needs[LARSAVIM_NEEDS_WORK];
     }
     work = room(work_len * 8);
+    for (int k = 0; k < models; k++) {
+        model[k].at.work = work;
+        model[k].at.work_lent = work_len;
+    }
 }
 
 /* The bytes of the file read once and as many as the tables have written once, by the C library: as fast as this machine's memory can be. */
@@ -119,7 +120,7 @@ static void times(int repetitions) {
 static void answer(void) {
     uint64_t x = 88172645463325252u;
     for (int k = 0; k < models; k++) {
-        uint64_t n = model[k].needs[3] * SETS;
+        uint64_t n = model[k].at.needs[LARSAVIM_NEEDS_QUESTIONS] * SETS;
         model[k].answers = room(n);
         for (uint64_t i = 0; i < n; i++) {
             x ^= x << 13;
@@ -139,12 +140,12 @@ static void walks(int rounds) {
         count = sum = asked = 0;
         for (int k = 0; k < models; k++)
             for (uint64_t s = 0; s < SETS; s++)
-                for (uint64_t t = 0; t < model[k].needs[5]; t++) {
+                for (uint64_t t = 0; t < model[k].at.needs[LARSAVIM_NEEDS_TREES]; t++) {
                     uint64_t out[LARSAVIM_WALK_OUT];
-                    larsavim_walk(model[k].table[2], model[k].lent[2], model[k].table[3], model[k].lent[3], t, model[k].answers + s * model[k].needs[3],
-                                  model[k].needs[3], UINT64_MAX, out, LARSAVIM_WALK_OUT);
-                    sum += out[1];
-                    asked += out[2];
+                    larsavim_model_walk(&model[k].at, t, model[k].answers + s * model[k].at.needs[LARSAVIM_NEEDS_QUESTIONS], model[k].at.needs[LARSAVIM_NEEDS_QUESTIONS],
+                                        UINT64_MAX, out, LARSAVIM_WALK_OUT);
+                    sum += out[LARSAVIM_WALK_PDF];
+                    asked += out[LARSAVIM_WALK_ASKED];
                     count++;
                 }
         least(&best, now() - start);
@@ -159,7 +160,7 @@ static void jobs(int rounds) {
         uint64_t taken = 0;
         count = calls = sum = asked = 0;
         for (int k = 0; k < models; k++) {
-            uint64_t trees = model[k].needs[5], n = trees * SETS, questions = model[k].needs[3], start;
+            uint64_t trees = model[k].at.needs[LARSAVIM_NEEDS_TREES], n = trees * SETS, questions = model[k].at.needs[LARSAVIM_NEEDS_QUESTIONS], start;
             struct larsavim_job *job = room(n * sizeof *job);
             for (uint64_t j = 0; j < n; j++) {
                 job[j].tree = j % trees;
@@ -167,7 +168,7 @@ static void jobs(int rounds) {
                 job[j].start = j / trees * questions;
             }
             start = now();
-            larsavim_walk_jobs(model[k].table[2], model[k].lent[2], model[k].table[3], model[k].lent[3], model[k].answers, SETS * questions, job, n);
+            larsavim_model_walk_jobs(&model[k].at, model[k].answers, SETS * questions, job, n);
             taken += now() - start;
             for (uint64_t j = 0; j < n; j++) {
                 sum += job[j].pdf;

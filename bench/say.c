@@ -6,12 +6,11 @@
 #include <string.h>
 #include <time.h>
 
-#include "larsavim.h"
+#include "larsavim_model.h"
 
-enum { TABLES = 5, MODELS = 17 };
-static const uint64_t width[TABLES] = {LARSAVIM_QUESTION_ROW, LARSAVIM_PATTERN_ROW, LARSAVIM_TREE_ROW, LARSAVIM_RECORD_ROW, 1};
+enum { MODELS = 17 };
 static struct model {
-    uint64_t needs[LARSAVIM_NEEDS_OUT], *table[TABLES];
+    struct larsavim_model at;
     uint8_t *answers;
 } model[MODELS];
 static int models;
@@ -33,27 +32,29 @@ static void *room(uint64_t bytes) {
 
 static void load(uint64_t which) {
     struct model *m = &model[models];
-    uint64_t out[LARSAVIM_LOAD_OUT], *n = m->needs;
-    if (larsavim_needs(file, file_len, words, LARSAVIM_WORDS, which, n, LARSAVIM_NEEDS_OUT) != LARSAVIM_SUCCESS)
+    m->at.which = which;
+    if (larsavim_model_needs(&m->at, file, file_len, words) != LARSAVIM_SUCCESS)
         return;
-    for (int t = 0; t < TABLES; t++)
-        m->table[t] = room(8 * width[t] * n[3 + t]);
-    m->answers = room(n[3]);
-    if (larsavim_load(file, file_len, words, LARSAVIM_WORDS, which, m->table[0], width[0] * n[3], m->table[1], width[1] * n[4], m->table[2], width[2] * n[5], m->table[3], width[3] * n[6], m->table[4],
-                      n[7], room(8 * n[8]), n[8], out, LARSAVIM_LOAD_OUT) == LARSAVIM_SUCCESS)
+    for (int t = 0; t < LARSAVIM_TABLES; t++) {
+        m->at.lent[t] = larsavim_model_wants(&m->at, t);
+        m->at.table[t] = room(8 * m->at.lent[t]);
+    }
+    m->at.work_lent = m->at.needs[LARSAVIM_NEEDS_WORK];
+    m->at.work = room(8 * m->at.work_lent);
+    m->answers = room(m->at.needs[LARSAVIM_NEEDS_QUESTIONS]);
+    if (larsavim_model_load(&m->at, file, file_len, words) == LARSAVIM_SUCCESS)
         models++;
 }
 
 static uint64_t say(const char *label) {
     uint64_t count = 0, out[LARSAVIM_WALK_OUT];
     for (int k = 0; k < models; k++) {
-        const struct model *m = &model[k];
-        const uint64_t *n = m->needs;
-        if (larsavim_answers((const uint8_t *)label, strlen(label), m->table[0], width[0] * n[3], m->table[1], width[1] * n[4], file + words[LARSAVIM_DATA_START], words[LARSAVIM_DATA_LEN],
-                             m->answers, n[3]) != LARSAVIM_SUCCESS)
+        const struct larsavim_model *m = &model[k].at;
+        uint64_t questions = larsavim_model_rows(m, LARSAVIM_QUESTIONS);
+        if (larsavim_model_answers(m, (const uint8_t *)label, strlen(label), file + words[LARSAVIM_DATA_START], words[LARSAVIM_DATA_LEN], model[k].answers, questions) != LARSAVIM_SUCCESS)
             exit(2);
-        for (uint64_t t = 0; t < n[5]; t++, count++)
-            if (larsavim_walk(m->table[2], width[2] * n[5], m->table[3], width[3] * n[6], t, m->answers, n[3], UINT64_MAX, out, LARSAVIM_WALK_OUT) != LARSAVIM_SUCCESS)
+        for (uint64_t t = 0; t < larsavim_model_rows(m, LARSAVIM_TREES); t++, count++)
+            if (larsavim_model_walk(m, t, model[k].answers, questions, UINT64_MAX, out, LARSAVIM_WALK_OUT) != LARSAVIM_SUCCESS)
                 exit(2);
     }
     return count;

@@ -6,14 +6,11 @@
 #include <stdlib.h>
 #include <time.h>
 
-#include "larsavim.h"
-
-enum { TABLES = 5 };
-static const uint64_t width[TABLES] = {LARSAVIM_QUESTION_ROW, LARSAVIM_PATTERN_ROW, LARSAVIM_TREE_ROW, LARSAVIM_RECORD_ROW, 1};
+#include "larsavim_model.h"
 
 static uint8_t *file;
-static uint64_t file_len, words[LARSAVIM_WORDS], needs[LARSAVIM_NEEDS_OUT], *table[TABLES], lent[TABLES];
-static int64_t *work;
+static uint64_t file_len, words[LARSAVIM_WORDS];
+static struct larsavim_model m;
 
 static uint64_t now(void) {
     struct timespec t;
@@ -28,52 +25,50 @@ static void *room(uint64_t bytes) {
     return at;
 }
 
-static uint64_t load(uint64_t which) {
-    uint64_t out[LARSAVIM_LOAD_OUT], start = now();
-    larsavim_load(file, file_len, words, LARSAVIM_WORDS, which, table[0], lent[0], table[1], lent[1], table[2], lent[2], table[3], lent[3], table[4], lent[4], work,
-                  needs[8], out, LARSAVIM_LOAD_OUT);
+static uint64_t load(void) {
+    uint64_t start = now();
+    larsavim_model_load(&m, file, file_len, words);
     return now() - start;
 }
 
 static uint64_t write_needs(uint64_t *len) {
     uint64_t out[LARSAVIM_WRITE_NEEDS_OUT], start = now();
-    if (larsavim_write_needs(file + words[LARSAVIM_DATA_START], words[LARSAVIM_DATA_LEN], table[0], lent[0], table[1], lent[1], table[2], lent[2], table[3], lent[3], out,
-                             LARSAVIM_WRITE_NEEDS_OUT) != LARSAVIM_SUCCESS)
+    if (larsavim_model_write_needs(&m, file + words[LARSAVIM_DATA_START], words[LARSAVIM_DATA_LEN], out, LARSAVIM_WRITE_NEEDS_OUT) != LARSAVIM_SUCCESS)
         exit(1);
-    *len = out[1];
+    *len = out[LARSAVIM_WRITE_NEEDS_LENGTH];
     return now() - start;
 }
 
 static uint64_t write_text(uint8_t *buffer, uint64_t len) {
     uint64_t out[LARSAVIM_WRITE_OUT], start = now();
-    if (larsavim_write(file + words[LARSAVIM_DATA_START], words[LARSAVIM_DATA_LEN], table[0], lent[0], table[1], lent[1], table[2], lent[2], table[3], lent[3], buffer, len, out,
-                       LARSAVIM_WRITE_OUT) != LARSAVIM_SUCCESS)
+    if (larsavim_model_write(&m, file + words[LARSAVIM_DATA_START], words[LARSAVIM_DATA_LEN], buffer, len, out, LARSAVIM_WRITE_OUT) != LARSAVIM_SUCCESS)
         exit(1);
     return now() - start;
 }
 
-static void measure(uint64_t which, int repetitions) {
+static void measure(int repetitions) {
     uint64_t loading = UINT64_MAX, needing = UINT64_MAX, writing = UINT64_MAX, len = 0;
     uint8_t *buffer;
-    for (int t = 0; t < TABLES; t++) {
-        lent[t] = needs[3 + t] * width[t];
-        table[t] = room(8 * lent[t]);
+    for (int t = 0; t < LARSAVIM_TABLES; t++) {
+        m.lent[t] = larsavim_model_wants(&m, t);
+        m.table[t] = room(8 * m.lent[t]);
     }
-    work = room(8 * needs[8]);
-    load(which);
+    m.work_lent = m.needs[LARSAVIM_NEEDS_WORK];
+    m.work = room(8 * m.work_lent);
+    load();
     write_needs(&len);
     buffer = room(len);
     for (int i = 0; i < repetitions; i++) {
-        uint64_t a = load(which), b = write_needs(&len), c = write_text(buffer, len);
+        uint64_t a = load(), b = write_needs(&len), c = write_text(buffer, len);
         loading = a < loading ? a : loading;
         needing = b < needing ? b : needing;
         writing = c < writing ? c : writing;
     }
-    printf("%" PRIu64 " %" PRIu64 " %" PRIu64 " %" PRIu64 " %" PRIu64 " %.1f %.1f %.1f %.2f\n", which, needs[3], needs[5], needs[6], len, (double)loading / 1000, (double)needing / 1000,
+    printf("%" PRIu64 " %" PRIu64 " %" PRIu64 " %" PRIu64 " %" PRIu64 " %.1f %.1f %.1f %.2f\n", m.which, larsavim_model_rows(&m, LARSAVIM_QUESTIONS), larsavim_model_rows(&m, LARSAVIM_TREES), larsavim_model_rows(&m, LARSAVIM_RECORDS), len, (double)loading / 1000, (double)needing / 1000,
            (double)writing / 1000, (double)writing / (double)loading);
-    for (int t = 0; t < TABLES; t++)
-        free(table[t]);
-    free(work);
+    for (int t = 0; t < LARSAVIM_TABLES; t++)
+        free(m.table[t]);
+    free(m.work);
     free(buffer);
 }
 
@@ -87,8 +82,8 @@ int main(int argc, char **argv) {
     fclose(f);
     if (larsavim_open(file, file_len, words, LARSAVIM_WORDS, out, LARSAVIM_OPEN_OUT) != LARSAVIM_SUCCESS)
         return 1;
-    for (uint64_t which = 0; which <= 2 * words[LARSAVIM_STREAM_TYPE_COUNT]; which++)
-        if (larsavim_needs(file, file_len, words, LARSAVIM_WORDS, which, needs, LARSAVIM_NEEDS_OUT) == LARSAVIM_SUCCESS)
-            measure(which, atoi(argv[2]));
+    for (m.which = 0; m.which <= 2 * words[LARSAVIM_STREAM_TYPE_COUNT]; m.which++)
+        if (larsavim_model_needs(&m, file, file_len, words) == LARSAVIM_SUCCESS)
+            measure(atoi(argv[2]));
     return 0;
 }

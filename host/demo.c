@@ -54,50 +54,25 @@ static int find_doubled(struct bytes text, struct doubled *d) {
     return 0;
 }
 
-/* A way from a tree's first record to another: for each record met, the one before it. Breadth first, over the loaded rows. */
-static uint64_t *ways_from_first(const struct model *m, uint64_t tree) {
-    const uint64_t *t = row_of(m, TREES, tree);
-    uint64_t count = t[2], head = 0, tail = 0;
-    uint64_t *before = malloc((size_t)count * 8 + 8), *queue = malloc((size_t)count * 8 + 8);
-    if (before == NULL || queue == NULL)
-        stop("there is not enough memory for a way through the tree");
-    for (uint64_t i = 0; i < count; i++)
-        before[i] = UINT64_MAX; /* not met */
-    before[0] = 0;
-    queue[tail++] = 0;
-    while (head < tail) {
-        uint64_t at = queue[head++];
-        const uint64_t *row = row_of(m, RECORDS, t[1] + at);
-        for (int k = 2; row[0] == 0 && k <= 3; k++) {
-            if (row[k] < count && before[row[k]] == UINT64_MAX) {
-                before[row[k]] = at;
-                queue[tail++] = row[k];
-            }
-        }
-    }
-    free(queue);
-    return before;
-}
-
 /* Answers that lead a walk to a record; 0 if there is no way to it. */
-static int answers_to(const struct model *m, uint64_t tree, uint64_t record, uint8_t *answers) {
+static int answers_to(const struct larsavim_model *m, uint64_t tree, uint64_t record, uint8_t *answers) {
     const uint64_t *t = row_of(m, TREES, tree);
     uint64_t *before = ways_from_first(m, tree);
-    int found = before[record] != UINT64_MAX;
+    int found = before[record] != NOT_MET;
     for (uint64_t at = record; found && at != 0; at = before[at]) {
-        const uint64_t *row = row_of(m, RECORDS, t[1] + before[at]);
-        answers[row[1]] = row[2] == at;
+        const uint64_t *row = row_of(m, RECORDS, t[LARSAVIM_TREE_FIRST] + before[at]);
+        answers[row[LARSAVIM_RECORD_QUESTION]] = row[LARSAVIM_RECORD_YES] == at;
     }
     free(before);
     return found;
 }
 
 /* Answers in the order of the question rows. */
-static void show_questions(const struct voice *v, const struct model *m) {
+static void show_questions(const struct voice *v, const struct larsavim_model *m) {
     struct bytes data = data_of(v);
     for (uint64_t i = 0; i < rows_of(m, QUESTIONS); i++) {
         const uint64_t *q = row_of(m, QUESTIONS, i);
-        struct bytes name = part(data, q[0], q[1]);
+        struct bytes name = part(data, q[LARSAVIM_QUESTION_START], q[LARSAVIM_QUESTION_LEN]);
         printf("%s%.*s", i == 0 ? "    questions " : " ", (int)name.len, (const char *)name.at);
     }
     putchar('\n');
@@ -124,24 +99,25 @@ static int is_pdf(struct bytes reference, uint64_t number) {
     return n == number;
 }
 
-static void show_walk(const struct model *m, uint64_t tree, const uint8_t *answers, uint64_t out[LARSAVIM_WALK_OUT]) {
+static void show_walk(const struct larsavim_model *m, uint64_t tree, const uint8_t *answers, uint64_t out[LARSAVIM_WALK_OUT]) {
     uint64_t questions = rows_of(m, QUESTIONS);
     struct bytes all = {answers, questions};
     walk_model(m, tree, all, rows_of(m, RECORDS), out);
     fputs("    answers ", stdout);
     for (uint64_t i = 0; i < questions; i++)
         putchar(answers[i] ? '1' : '0');
-    if (out[0] == LARSAVIM_SUCCESS)
-        printf(": PDF %" PRIu64 " after %" PRIu64 " questions", out[1], out[2]);
+    if (out[OUT_NUMBER] == LARSAVIM_SUCCESS)
+        printf(": PDF %" PRIu64 " after %" PRIu64 " questions", out[LARSAVIM_WALK_PDF], out[LARSAVIM_WALK_ASKED]);
     else
-        printf(": refused (%" PRIu64 ")", out[0]);
+        printf(": refused (%" PRIu64 ")", out[OUT_NUMBER]);
 }
 
 /* Two walks to the doubled id, with either answer to the question of the line that the loaded tree has there. 1 if a walk ended where the
  * last line says and the first one doesn't, and none ended otherwise. */
-static int show_walks(const struct model *m, const struct doubled *d) {
+static int show_walks(const struct larsavim_model *m, const struct doubled *d) {
     const uint64_t *t = row_of(m, TREES, d->tree);
-    uint64_t asked_last = row_of(m, RECORDS, t[1] + d->last)[1], asked_first = row_of(m, RECORDS, t[1] + d->first)[1];
+    uint64_t asked_last = row_of(m, RECORDS, t[LARSAVIM_TREE_FIRST] + d->last)[LARSAVIM_RECORD_QUESTION];
+    uint64_t asked_first = row_of(m, RECORDS, t[LARSAVIM_TREE_FIRST] + d->first)[LARSAVIM_RECORD_QUESTION];
     uint8_t *answers = lend(rows_of(m, QUESTIONS));
     int found, last_wins = 0, otherwise = 0;
     memset(answers, 0, (size_t)rows_of(m, QUESTIONS));
@@ -158,15 +134,15 @@ static int show_walks(const struct model *m, const struct doubled *d) {
         printf(", line %" PRIu64 " would have said ", d->first);
         show_reference(first);
         putchar('\n');
-        last_wins |= is_pdf(last, out[1]) && !is_pdf(first, out[1]);
-        otherwise |= out[0] != LARSAVIM_SUCCESS || !is_pdf(last, out[1]);
+        last_wins |= is_pdf(last, out[LARSAVIM_WALK_PDF]) && !is_pdf(first, out[LARSAVIM_WALK_PDF]);
+        otherwise |= out[OUT_NUMBER] != LARSAVIM_SUCCESS || !is_pdf(last, out[LARSAVIM_WALK_PDF]);
     }
     give_back(answers, rows_of(m, QUESTIONS));
     return last_wins && !otherwise;
 }
 
 /* The tree as it is written out of its tables: one id a line, so that each reference shows which line it went to. */
-static void show_written(const struct voice *v, const struct model *m, uint64_t tree) {
+static void show_written(const struct voice *v, const struct larsavim_model *m, uint64_t tree) {
     struct bytes text = write_model(m, data_of(v));
     struct written_tree t, next;
     struct reader r;
@@ -184,7 +160,7 @@ static void show_written(const struct voice *v, const struct model *m, uint64_t 
 }
 
 /* 1 if the model has a doubled id; `clear` says whether the walks showed that its last line wins. */
-static int show_doubled(const struct voice *v, uint64_t which, const struct model *m, int *clear) {
+static int show_doubled(const struct voice *v, uint64_t which, const struct larsavim_model *m, int *clear) {
     struct doubled d;
     if (!find_doubled(tree_text_of(v, which), &d))
         return 0;
@@ -209,7 +185,7 @@ static int show_doubled(const struct voice *v, uint64_t which, const struct mode
 static int demo_models(const struct voice *v) {
     uint64_t models = v->number == LARSAVIM_SUCCESS ? models_of(v) : 0;
     for (uint64_t which = 0; which < models; which++) {
-        struct model m;
+        struct larsavim_model m;
         int shown, clear = 0;
         load_model(v, which, 0, &m);
         shown = m.loaded[OUT_NUMBER] == LARSAVIM_SUCCESS && show_doubled(v, which, &m, &clear);

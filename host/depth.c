@@ -4,25 +4,25 @@
 #include "host.h"
 
 /* One tree, a line. 1 if every walk of it ends by itself. */
-static int put_depth(const struct model *m, uint64_t tree) {
+static int put_depth(const struct larsavim_model *m, uint64_t tree) {
     uint64_t out[LARSAVIM_DEPTH_OUT];
     depth_model(m, tree, out);
-    printf("MODEL %" PRIu64 " TREE %" PRIu64 " STATE %" PRIu64 " ", m->which, tree, row_of(m, TREES, tree)[0]);
-    if (out[0] != LARSAVIM_SUCCESS)
-        printf("REFUSED %" PRIu64 "\n", out[0]);
-    else if (out[1] == 1)
-        printf("DEPTH %" PRIu64 "\n", out[2]);
+    printf("MODEL %" PRIu64 " TREE %" PRIu64 " STATE %" PRIu64 " ", m->which, tree, row_of(m, TREES, tree)[LARSAVIM_TREE_STATE]);
+    if (out[OUT_NUMBER] != LARSAVIM_SUCCESS)
+        printf("REFUSED %" PRIu64 "\n", out[OUT_NUMBER]);
+    else if (out[LARSAVIM_DEPTH_ENDS] == 1)
+        printf("DEPTH %" PRIu64 "\n", out[LARSAVIM_DEPTH_QUESTIONS]);
     else
         puts("ROUND");
-    if (out[0] == LARSAVIM_SUCCESS && out[1] == 1)
+    if (out[OUT_NUMBER] == LARSAVIM_SUCCESS && out[LARSAVIM_DEPTH_ENDS] == 1)
         return 1;
     fprintf(stderr, "model %" PRIu64 ", tree %" PRIu64 ": %s\n", m->which, tree,
-            out[0] == LARSAVIM_SUCCESS ? "a path goes round, so a walk may be ended by its limit alone" : "there is nothing to walk, or a path leads outside the tree");
+            out[OUT_NUMBER] == LARSAVIM_SUCCESS ? "a path goes round, so a walk may be ended by its limit alone" : "there is nothing to walk, or a path leads outside the tree");
     return 0;
 }
 
 static int model_depths(const struct voice *v, uint64_t which) {
-    struct model m;
+    struct larsavim_model m;
     int good;
     load_model(v, which, 0, &m);
     good = m.loaded[OUT_NUMBER] == LARSAVIM_SUCCESS;
@@ -78,17 +78,17 @@ int depth(int n, char **words) {
     return status;
 }
 
-void show_depth(const struct model *m) {
+void show_depth(const struct larsavim_model *m) {
     uint64_t most = 0, deepest = 0;
     for (uint64_t t = 0; t < rows_of(m, TREES); t++) {
         uint64_t out[LARSAVIM_DEPTH_OUT];
         depth_model(m, t, out);
-        if (out[0] != LARSAVIM_SUCCESS)
+        if (out[OUT_NUMBER] != LARSAVIM_SUCCESS)
             printf("    tree %" PRIu64 " has nothing to walk\n", t);
-        else if (out[1] == 0)
+        else if (out[LARSAVIM_DEPTH_ENDS] == 0)
             printf("    tree %" PRIu64 ": a path goes round, so a walk may be ended by its limit alone\n", t);
-        else if (out[2] > most) {
-            most = out[2];
+        else if (out[LARSAVIM_DEPTH_QUESTIONS] > most) {
+            most = out[LARSAVIM_DEPTH_QUESTIONS];
             deepest = t;
         }
     }

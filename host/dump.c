@@ -120,7 +120,7 @@ static int all_are(const uint64_t *at, uint64_t from, uint64_t to, uint64_t valu
     return 1;
 }
 
-static int work_is(const struct model *m, uint64_t value) {
+static int work_is(const struct larsavim_model *m, uint64_t value) {
     for (uint64_t i = 0; i < m->work_lent; i++)
         if ((uint64_t)m->work[i] != value)
             return 0;
@@ -128,14 +128,14 @@ static int work_is(const struct model *m, uint64_t value) {
 }
 
 /* Whether the rows that the model needs, and what is behind them, hold one value in every table. The needs are 0 where the file is refused. */
-static int needed_are(const struct model *m, uint64_t value) {
+static int needed_are(const struct larsavim_model *m, uint64_t value) {
     for (int t = 0; t < TABLES; t++)
         if (!all_are(m->table[t], 0, m->needs[OUT_ROWS + t] * row_width[t], value))
             return 0;
     return 1;
 }
 
-static int beyond_are(const struct model *m, uint64_t value) {
+static int beyond_are(const struct larsavim_model *m, uint64_t value) {
     for (int t = 0; t < TABLES; t++)
         if (!all_are(m->table[t], m->needs[OUT_ROWS + t] * row_width[t], m->lent[t], value))
             return 0;
@@ -143,7 +143,7 @@ static int beyond_are(const struct model *m, uint64_t value) {
 }
 
 /* 21 to 23 zero the rows needed and leave what is behind them (02, Wish 9). */
-static const char *after(const struct model *m) {
+static const char *after(const struct larsavim_model *m) {
     if (!beyond_are(m, UNTOUCHED))
         return "changed";
     if (m->loaded[OUT_NUMBER] == LARSAVIM_SUCCESS)
@@ -155,21 +155,21 @@ static const char *after(const struct model *m) {
 
 /* ---- the rows ----------------------------------------------------------------------------------------------------------------- */
 
-static void put_question(const struct model *m, struct bytes data, uint64_t i) {
+static void put_question(const struct larsavim_model *m, struct bytes data, uint64_t i) {
     const uint64_t *q = row_of(m, QUESTIONS, i);
     printf("Q %" PRIu64 " ", i);
-    put_quoted(stdout, part(data, q[0], q[1]));
+    put_quoted(stdout, part(data, q[LARSAVIM_QUESTION_START], q[LARSAVIM_QUESTION_LEN]));
     fputs(" [", stdout);
-    for (uint64_t k = 0; k < q[3] && q[2] + k < rows_of(m, PATTERNS); k++) {
-        const uint64_t *p = row_of(m, PATTERNS, q[2] + k);
+    for (uint64_t k = 0; k < q[LARSAVIM_QUESTION_PATTERNS] && q[LARSAVIM_QUESTION_FIRST] + k < rows_of(m, PATTERNS); k++) {
+        const uint64_t *p = row_of(m, PATTERNS, q[LARSAVIM_QUESTION_FIRST] + k);
         if (k > 0)
             putchar(',');
-        put_quoted(stdout, part(data, p[0], p[1]));
+        put_quoted(stdout, part(data, p[LARSAVIM_PATTERN_START], p[LARSAVIM_PATTERN_LEN]));
     }
     puts("]");
 }
 
-static void put_rows(const struct model *m, char letter, int table) {
+static void put_rows(const struct larsavim_model *m, char letter, int table) {
     for (uint64_t i = 0; i < rows_of(m, table); i++) {
         const uint64_t *row = row_of(m, table, i);
         printf("%c %" PRIu64, letter, i);
@@ -179,7 +179,7 @@ static void put_rows(const struct model *m, char letter, int table) {
     }
 }
 
-static void put_values(const struct model *m) {
+static void put_values(const struct larsavim_model *m) {
     uint64_t width = width_of(m), entries = width == 0 ? 0 : rows_of(m, VALUES) / width;
     for (uint64_t i = 0; i < entries; i++) {
         printf("V %" PRIu64, i);
@@ -189,7 +189,7 @@ static void put_values(const struct model *m) {
     }
 }
 
-static void put_tables(const struct voice *v, const struct model *m) {
+static void put_tables(const struct voice *v, const struct larsavim_model *m) {
     struct bytes data = data_of(v);
     for (uint64_t i = 0; i < rows_of(m, QUESTIONS); i++)
         put_question(m, data, i);
@@ -200,7 +200,7 @@ static void put_tables(const struct voice *v, const struct model *m) {
 }
 
 static void put_model(const struct voice *v, uint64_t which) {
-    struct model m;
+    struct larsavim_model m;
     printf("MODEL %" PRIu64 "\nLOAD", which);
     load_model(v, which, 1, &m);
     for (int i = 0; i < LARSAVIM_LOAD_OUT; i++)

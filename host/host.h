@@ -7,6 +7,7 @@
 #include <stdio.h>
 
 #include "larsavim.h"
+#include "larsavim_model.h"
 
 /* Exit statuses. */
 enum {
@@ -107,20 +108,24 @@ int is_unasked_gv(const struct voice *v, uint64_t which);
 
 /* ---- models (model.c) --------------------------------------------------------------------------------------------------------- */
 
-enum { QUESTIONS, PATTERNS, TREES, RECORDS, VALUES, TABLES };
+/* A model and the tables lent for it are a struct larsavim_model. */
+enum {
+    QUESTIONS = LARSAVIM_QUESTIONS,
+    PATTERNS = LARSAVIM_PATTERNS,
+    TREES = LARSAVIM_TREES,
+    RECORDS = LARSAVIM_RECORDS,
+    VALUES = LARSAVIM_VALUES,
+    TABLES = LARSAVIM_TABLES
+};
 
 /* Where the answers of larsavim_needs and larsavim_load have what. */
-enum { OUT_NUMBER, OUT_PLACE, OUT_LINE, OUT_ROWS, OUT_WORK = OUT_ROWS + TABLES, OUT_WIDTH };
-
-/* A model and the tables lent for it. */
-struct model {
-    uint64_t which;
-    uint64_t needs[LARSAVIM_NEEDS_OUT];
-    uint64_t loaded[LARSAVIM_LOAD_OUT];
-    uint64_t *table[TABLES];
-    uint64_t lent[TABLES]; /* numbers of each table */
-    int64_t *work;
-    uint64_t work_lent;
+enum {
+    OUT_NUMBER = LARSAVIM_OUT_NUMBER,
+    OUT_PLACE = LARSAVIM_LOAD_PLACE,
+    OUT_LINE = LARSAVIM_LOAD_LINE,
+    OUT_ROWS = LARSAVIM_LOAD_QUESTIONS,
+    OUT_WORK = LARSAVIM_NEEDS_WORK,
+    OUT_WIDTH = LARSAVIM_NEEDS_WIDTH
 };
 
 extern const uint64_t row_width[TABLES]; /* numbers in a row; 1 for values */
@@ -129,31 +134,31 @@ extern const char *const table_name[TABLES];
 #define UNTOUCHED UINT64_C(0x5a5a5a5a5a5a5a5a) /* what tables and work hold before a load */
 
 /* Loads a model into tables of the rows that it needs and so many more, and as many lines of work more. Its number is loaded[0]. */
-void load_model(const struct voice *v, uint64_t which, uint64_t spare, struct model *m);
-void free_model(struct model *m);
+void load_model(const struct voice *v, uint64_t which, uint64_t spare, struct larsavim_model *m);
+void free_model(struct larsavim_model *m);
 
 /* Later calls take the tables cut to the rows that the load returned: moves each to memory of just that length. */
-void cut_tables(struct model *m);
+void cut_tables(struct larsavim_model *m);
 
-uint64_t rows_of(const struct model *m, int table);
-uint64_t width_of(const struct model *m);
-const uint64_t *row_of(const struct model *m, int table, uint64_t i);
-int leaves_fit(const struct model *m);
+uint64_t rows_of(const struct larsavim_model *m, int table);
+uint64_t width_of(const struct larsavim_model *m);
+const uint64_t *row_of(const struct larsavim_model *m, int table, uint64_t i);
+int leaves_fit(const struct larsavim_model *m);
 
 /* A walk over a loaded model's tables; out: number, PDF number, questions asked. */
-void walk_model(const struct model *m, uint64_t tree, struct bytes answers, uint64_t limit, uint64_t out[LARSAVIM_WALK_OUT]);
+void walk_model(const struct larsavim_model *m, uint64_t tree, struct bytes answers, uint64_t limit, uint64_t out[LARSAVIM_WALK_OUT]);
 
 /* The tree text of a loaded model, out of its tables, in lent memory of just its length. */
-struct bytes write_model(const struct model *m, struct bytes data);
+struct bytes write_model(const struct larsavim_model *m, struct bytes data);
 
 /* The walks of a sentence, filled where they stand. */
-void walk_jobs_model(const struct model *m, struct bytes answers, struct larsavim_job *jobs, uint64_t count);
+void walk_jobs_model(const struct larsavim_model *m, struct bytes answers, struct larsavim_job *jobs, uint64_t count);
 
 /* The answer bytes of a loaded model's questions to a label, lent; the library's number. */
-uint64_t answer_model(const struct voice *v, const struct model *m, struct bytes label, struct bytes *answers);
+uint64_t answer_model(const struct voice *v, const struct larsavim_model *m, struct bytes label, struct bytes *answers);
 
 /* How many questions a walk of a loaded tree can ask; out: number, 1 or 0, questions. The work is seen to be zero afterwards. */
-void depth_model(const struct model *m, uint64_t tree, uint64_t out[LARSAVIM_DEPTH_OUT]);
+void depth_model(const struct larsavim_model *m, uint64_t tree, uint64_t out[LARSAVIM_DEPTH_OUT]);
 
 /* ---- tree text, read again for messages (treetext.c) -------------------------------------------------------------------------- */
 
@@ -191,6 +196,63 @@ struct items items_before(struct bytes text, uint64_t at);                 /* of
 uint64_t odd_pattern_byte(struct bytes text, uint64_t question);           /* the first byte of the question there that no pattern can have; the text's length if there is none */
 uint64_t line_of(struct bytes text, uint64_t at);   /* counted from 1 */
 uint64_t column_of(struct bytes text, uint64_t at); /* in bytes, counted from 1 */
+
+/* ---- ways through a loaded tree (ways.c) ------------------------------------------------------------------------------------------ */
+
+#define NOT_MET UINT64_MAX
+
+/* For each record of a tree the one before it on a shortest way from the first record, or NOT_MET. To be freed. */
+uint64_t *ways_from_first(const struct larsavim_model *m, uint64_t tree);
+
+/* ---- what a voice builder should look at (warn.c) --------------------------------------------------------------------------------- */
+
+enum warning_kind { DOUBLED_ID, DOUBLED_QUESTION, UNASKED_QUESTION, UNREACHED_LINE };
+
+struct warning {
+    enum warning_kind kind;
+    uint64_t which, tree, state; /* the model; of a line its tree, and that one's state */
+    uint64_t item, offset;       /* the line in its tree or the question, counted from 0, and its byte of the file */
+    uint64_t other, other_offset; /* the one before it that bears the same id or name */
+    int64_t id;                  /* of a line */
+    struct bytes name;           /* of a question */
+};
+
+/* Tells everything odd about a model that is loaded: questions, then lines, as they stand in the text. */
+void warn_model(const struct voice *v, const struct larsavim_model *m, void (*tell)(const struct warning *w, void *with), void *with);
+
+/* A line of a loaded tree. */
+struct seen_line {
+    struct written_line written;
+    uint64_t offset, twin; /* its byte of the file; the line before it that bears its id, or NOT_MET */
+    int64_t id;
+    int doubled, reached;
+};
+
+/* The lines of the braced tree whose head the reader has just read, as many as its row has; to be freed. */
+uint64_t tree_lines(const struct voice *v, const struct larsavim_model *m, uint64_t tree, struct reader *r, struct seen_line **lines);
+
+/* ---- a tree as a picture (draw.c, draw_words.c) ------------------------------------------------------------------------------------- */
+
+struct asked_drawing {
+    const char *path;
+    uint64_t which, tree;
+    int svg;
+    struct bytes answers, label; /* lent, or null: the walk whose way is marked */
+};
+
+int draw(const struct asked_drawing *a);
+
+enum { NOT_SO = -1 }; /* the words aren't what the verb takes */
+
+int draw_words(int n, char **words);
+
+/* ---- strings for machines (json.c), and how far long work is (progress.c) ---------------------------------------------------------- */
+
+void put_json(FILE *to, struct bytes s);
+
+/* `larsavim: file 3 of 20` on a terminal; nothing elsewhere, and nothing of one alone. */
+void show_progress(const char *what, uint64_t at, uint64_t all);
+void hide_progress(void);
 
 /* ---- refusals in words (explain.c, explain_load.c) ---------------------------------------------------------------------------- */
 
@@ -256,7 +318,7 @@ uint64_t load_shared(struct shared *s, const struct voice *v, uint64_t which, ui
 uint64_t unload_shared(struct shared *s, uint64_t side);
 
 /* A task's rows, cut out into memory of just their length; 0 where its bounds pass a table. To be freed as a model; its width is not set. */
-int own_rows(const struct shared *s, uint64_t side, struct model *m);
+int own_rows(const struct shared *s, uint64_t side, struct larsavim_model *m);
 
 int read_side(const char *word, uint64_t *side); /* `bottom` or `top` */
 
@@ -269,7 +331,8 @@ int bytes_of_hex(const char *word, struct bytes *out);
 /* ---- the verbs ---------------------------------------------------------------------------------------------------------------- */
 
 int inspect(const char *path);      /* inspect.c */
-int check(int files, char **paths); /* inspect.c */
+int check(int json, int strict, int files, char **paths); /* check.c */
+int tables(int files, char **paths); /* tables.c */
 int dump(const char *path);         /* dump.c */
 void dump_voice(struct bytes file); /* dump.c */
 int hex(void);                      /* hex.c */
@@ -284,6 +347,6 @@ int say(char **words);              /* label.c */
 int depth(int n, char **words);     /* depth.c */
 int pair_up(char **words);          /* pair.c */
 int share(void);                    /* share.c */
-void show_depth(const struct model *m); /* depth.c: of `inspect` */
+void show_depth(const struct larsavim_model *m); /* depth.c: of `inspect` */
 
 #endif

@@ -32,8 +32,8 @@ static void show_comment(const struct voice *v) {
     if (larsavim_comment(v->file.len, v->words, LARSAVIM_WORDS, sizeof fallback - 1, out, LARSAVIM_COMMENT_OUT) != LARSAVIM_SUCCESS)
         stop("the library refuses the record that it opened");
     printf("  %-20s ", "COMMENT");
-    if (out[1] == 0)
-        put_quoted(stdout, part(v->file, out[2], out[3]));
+    if (out[LARSAVIM_COMMENT_SLICE] == 0)
+        put_quoted(stdout, part(v->file, out[LARSAVIM_COMMENT_START], out[LARSAVIM_COMMENT_LENGTH]));
     else
         fputs(fallback, stdout);
     putchar('\n');
@@ -76,11 +76,11 @@ struct memory {
     uint64_t tables, work;
 };
 
-static uint64_t table_bytes(const struct model *m, int table) {
+static uint64_t table_bytes(const struct larsavim_model *m, int table) {
     return rows_of(m, table) * row_width[table] * 8;
 }
 
-static void show_sizes(const struct model *m, struct memory *sum) {
+static void show_sizes(const struct larsavim_model *m, struct memory *sum) {
     uint64_t work = m->needs[OUT_WORK] * 8, tables = 0, width = width_of(m);
     for (int t = 0; t < TABLES; t++) {
         printf("    %-10s %10" PRIu64 " %10" PRIu64 " bytes\n", table_name[t], rows_of(m, t), table_bytes(m, t));
@@ -96,7 +96,7 @@ static void show_sizes(const struct model *m, struct memory *sum) {
 
 /* 1 if the model is in order. */
 static int show_model(const struct voice *v, uint64_t which, struct memory *sum) {
-    struct model m;
+    struct larsavim_model m;
     int good;
     printf("\nmodel %" PRIu64 ", ", which);
     put_model_name(stdout, v, which);
@@ -153,62 +153,4 @@ int inspect(const char *path) {
     status = inspect_voice(path, file);
     unmap_file(file);
     return status;
-}
-
-/* ---- check -------------------------------------------------------------------------------------------------------------------- */
-
-/* A line for a model that doesn't load or fails the leaf check; nothing for one that is in order. */
-static int check_model(const char *path, const struct voice *v, uint64_t which) {
-    struct model m;
-    int loads, good;
-    if (is_unasked_gv(v, which))
-        return 1;
-    load_model(v, which, 0, &m);
-    loads = m.loaded[OUT_NUMBER] == LARSAVIM_SUCCESS;
-    good = loads && leaves_fit(&m);
-    if (!good) {
-        printf("%s: ", path);
-        put_model_name(stdout, v, which);
-        fputs(": ", stdout);
-        if (loads)
-            fputs("the leaf check failed: a leaf's number is 0 or past the entries of its tree", stdout);
-        else
-            explain_load(stdout, v, which, m.loaded);
-        putchar('\n');
-    }
-    free_model(&m);
-    return good;
-}
-
-static int check_file(const char *path) {
-    struct bytes file;
-    struct voice v;
-    int good = 1;
-    if (!map_file(path, &file))
-        return TROUBLE;
-    open_voice(&v, file);
-    if (v.number == LARSAVIM_SUCCESS) {
-        uint64_t models = models_of(&v);
-        for (uint64_t which = 0; which < models; which++)
-            good &= check_model(path, &v, which);
-    } else {
-        good = 0;
-        printf("%s: ", path);
-        explain_open(stdout, &v);
-        putchar('\n');
-    }
-    close_voice(&v);
-    unmap_file(file);
-    return good ? ALL_WELL : REFUSED;
-}
-
-/* Every file is looked at, whatever the ones before it are. */
-int check(int files, char **paths) {
-    int worst = ALL_WELL;
-    for (int i = 0; i < files; i++) {
-        int status = check_file(paths[i]);
-        if (worst < status)
-            worst = status;
-    }
-    return worst;
 }

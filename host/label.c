@@ -11,7 +11,7 @@ static struct bytes lend_label(const char *word) {
 }
 
 /* The model's answer bytes to a label, lent. The rows are the library's own, so it has nothing to refuse. */
-static struct bytes answers_to(const struct voice *v, const struct model *m, struct bytes label) {
+static struct bytes answers_to(const struct voice *v, const struct larsavim_model *m, struct bytes label) {
     struct bytes answers;
     if (answer_model(v, m, label, &answers) != LARSAVIM_SUCCESS)
         stop("the library refuses the questions that it loaded");
@@ -39,7 +39,7 @@ static int opened(struct voice *v, struct bytes file) {
 
 static int answer_label(struct bytes file, uint64_t which, struct bytes label) {
     struct voice v;
-    struct model m;
+    struct larsavim_model m;
     int status = REFUSED;
     if (opened(&v, file)) {
         load_model(&v, which, 0, &m);
@@ -80,16 +80,16 @@ int answers(char **words) {
 /* ---- say ----------------------------------------------------------------------------------------------------------------------- */
 
 /* Where the answers lead in every tree, a line each. No tree asks more questions than its model has records, unless it goes round. */
-static int say_trees(const struct model *m, struct bytes answers) {
+static int say_trees(const struct larsavim_model *m, struct bytes answers) {
     int status = ALL_WELL;
     for (uint64_t t = 0; t < rows_of(m, TREES); t++) {
         uint64_t out[LARSAVIM_WALK_OUT];
         walk_model(m, t, answers, rows_of(m, RECORDS), out);
-        printf("MODEL %" PRIu64 " TREE %" PRIu64 " STATE %" PRIu64 " ", m->which, t, row_of(m, TREES, t)[0]);
+        printf("MODEL %" PRIu64 " TREE %" PRIu64 " STATE %" PRIu64 " ", m->which, t, row_of(m, TREES, t)[LARSAVIM_TREE_STATE]);
         put_walk(out);
-        if (out[0] != LARSAVIM_SUCCESS) {
+        if (out[OUT_NUMBER] != LARSAVIM_SUCCESS) {
             fprintf(stderr, "model %" PRIu64 ", tree %" PRIu64 ": ", m->which, t);
-            explain_walk(stderr, out[0]);
+            explain_walk(stderr, out[OUT_NUMBER]);
             fputc('\n', stderr);
             status = REFUSED;
         }
@@ -99,7 +99,7 @@ static int say_trees(const struct model *m, struct bytes answers) {
 
 /* A GV that the header doesn't ask for is no part of the voice: nothing is said of it. */
 static int say_model(const struct voice *v, uint64_t which, struct bytes label) {
-    struct model m;
+    struct larsavim_model m;
     int status = REFUSED;
     load_model(v, which, 0, &m);
     if (m.loaded[OUT_NUMBER] == LARSAVIM_SUCCESS) {

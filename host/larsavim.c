@@ -5,7 +5,11 @@
 
 static const char usage[] =
     "usage: larsavim inspect FILE                          the header, what each model needs, and what is wrong\n"
-    "       larsavim check FILE..                          status 0 if every model of every file loads and passes the leaf check\n"
+    "       larsavim check [--strict] [--json] FILE..      status 0 if every model of every file loads and passes the leaf check; warns of\n"
+    "                                                      two lines with one id, names that stand twice, what nobody asks or reaches\n"
+    "       larsavim draw FILE MODEL TREE                  the tree as a picture, in Graphviz's language; --svg: as SVG, by its program dot;\n"
+    "                                                      --answers ANSWERS or --label LABEL: the way of that walk in it\n"
+    "       larsavim tables FILE..                         the sizes of the tables that voices need, as a C header; the greatest of several\n"
     "       larsavim walk FILE MODEL TREE ANSWERS LIMIT    one walk; ANSWERS is a 0 or 1 for each question, - for none\n"
     "       larsavim walks FILE                            many walks: lines MODEL TREE ANSWERS LIMIT on standard input\n"
     "       larsavim sentence FILE MODEL ANSWERS           the walks of a sentence in one call: lines TREE LIMIT START on standard input\n"
@@ -21,6 +25,8 @@ static const char usage[] =
     "       larsavim demo FILE                             a voice in which two lines bear one id, and which of them wins\n"
     "MODEL counts from 0: duration, then each stream of STREAM_TYPE and its GV in turn. TREE counts from 0.\n"
     "LARSAVIM_GUARD=above or below in the environment: memory that can't be touched stands just above or below everything lent to the library.\n"
+    "--strict: a warning is status 1 too. --json: one object a line, and a verdict for each file, for machines.\n"
+    "version, --version: the version. help, --help: this.\n"
     "Exit status: 0 nothing was refused, 1 something was, 2 wrong arguments or a file that can't be read.\n";
 
 static int wrong(const char *sentence, const char *word) {
@@ -28,12 +34,42 @@ static int wrong(const char *sentence, const char *word) {
     return TROUBLE;
 }
 
+/* Takes an option from the front, if it stands there. */
+static int option(const char *name, int *n, char ***words) {
+    if (*n == 0 || strcmp(**words, name) != 0)
+        return 0;
+    --*n;
+    ++*words;
+    return 1;
+}
+
+static int check_words(int n, char **words) {
+    int json = 0, strict = 0;
+    for (;;) {
+        if (option("--json", &n, &words))
+            json = 1;
+        else if (option("--strict", &n, &words))
+            strict = 1;
+        else
+            break;
+    }
+    if (!option("--", &n, &words) && n > 0 && strncmp(words[0], "--", 2) == 0)
+        return wrong("check has no such option", words[0]);
+    return n >= 1 ? check(json, strict, n, words) : wrong("check takes one FILE or more", NULL);
+}
+
 /* Runs a verb with `n` words behind it. */
 static int run(const char *verb, int n, char **words) {
     if (strcmp(verb, "inspect") == 0)
         return n == 1 ? inspect(words[0]) : wrong("inspect takes one FILE", NULL);
     if (strcmp(verb, "check") == 0)
-        return n >= 1 ? check(n, words) : wrong("check takes one FILE or more", NULL);
+        return check_words(n, words);
+    if (strcmp(verb, "draw") == 0) {
+        int status = draw_words(n, words);
+        return status != NOT_SO ? status : wrong("draw takes FILE MODEL TREE, and perhaps --svg, and --answers ANSWERS or --label LABEL", NULL);
+    }
+    if (strcmp(verb, "tables") == 0)
+        return n >= 1 ? tables(n, words) : wrong("tables takes one FILE or more", NULL);
     if (strcmp(verb, "walk") == 0)
         return n == 5 ? walk(words) : wrong("walk takes FILE MODEL TREE ANSWERS LIMIT", NULL);
     if (strcmp(verb, "walks") == 0)
@@ -77,6 +113,10 @@ int main(int argc, char **argv) {
         return wrong("what is to be done?", NULL);
     if (strcmp(argv[1], "help") == 0 || strcmp(argv[1], "--help") == 0 || strcmp(argv[1], "-h") == 0) {
         fputs(usage, stdout);
+        return output_failed() ? TROUBLE : ALL_WELL;
+    }
+    if (strcmp(argv[1], "version") == 0 || strcmp(argv[1], "--version") == 0) {
+        puts("larsavim " LARSAVIM_VERSION);
         return output_failed() ? TROUBLE : ALL_WELL;
     }
     status = run(argv[1], argc - 2, argv + 2);

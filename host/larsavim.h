@@ -22,6 +22,10 @@
 extern "C" {
 #endif
 
+/* Of this header and the library that it came with; CHANGELOG.md says what each version changed. The number is 10000 * major + 100 * minor + patch, for #if. */
+#define LARSAVIM_VERSION "1.0.0"
+#define LARSAVIM_VERSION_NUMBER 10000
+
 /* ---- Numbers the loader gives ------------------------------------------------------------------------------------------------ */
 
 #define LARSAVIM_SUCCESS 0
@@ -87,6 +91,38 @@ extern "C" {
 #define LARSAVIM_WRITE_NEEDS_OUT 2 /* number, length */
 #define LARSAVIM_WRITE_OUT 2    /* number, length */
 #define LARSAVIM_DEPTH_OUT 3    /* number, 1 or 0, questions */
+
+/* Where an answer has what: the number comes first in all of them. */
+#define LARSAVIM_OUT_NUMBER 0
+#define LARSAVIM_OPEN_PLACE 1
+#define LARSAVIM_COMMENT_SLICE 1
+#define LARSAVIM_COMMENT_START 2
+#define LARSAVIM_COMMENT_LENGTH 3
+#define LARSAVIM_GET_VALUE 1
+#define LARSAVIM_PAIR_FIRST 1
+#define LARSAVIM_PAIR_SECOND 2
+#define LARSAVIM_NEEDS_PLACE 1
+#define LARSAVIM_NEEDS_LINE 2
+#define LARSAVIM_NEEDS_QUESTIONS 3
+#define LARSAVIM_NEEDS_PATTERNS 4
+#define LARSAVIM_NEEDS_TREES 5
+#define LARSAVIM_NEEDS_RECORDS 6
+#define LARSAVIM_NEEDS_VALUES 7
+#define LARSAVIM_NEEDS_WORK 8
+#define LARSAVIM_NEEDS_WIDTH 9
+#define LARSAVIM_LOAD_PLACE 1
+#define LARSAVIM_LOAD_LINE 2
+#define LARSAVIM_LOAD_QUESTIONS 3
+#define LARSAVIM_LOAD_PATTERNS 4
+#define LARSAVIM_LOAD_TREES 5
+#define LARSAVIM_LOAD_RECORDS 6
+#define LARSAVIM_LOAD_VALUES 7
+#define LARSAVIM_WALK_PDF 1
+#define LARSAVIM_WALK_ASKED 2
+#define LARSAVIM_WRITE_NEEDS_LENGTH 1
+#define LARSAVIM_WRITE_LENGTH 1
+#define LARSAVIM_DEPTH_ENDS 1      /* 1: every walk of the tree ends by itself */
+#define LARSAVIM_DEPTH_QUESTIONS 2
 
 /* ---- Opening -------------------------------------------------------------------------------------------------------------------
  * The header record crosses as words: LARSAVIM_WORDS numbers that an opening writes and later calls take back. Words that no
@@ -180,13 +216,32 @@ uint64_t larsavim_pair(const uint64_t *words, uint64_t words_len, uint64_t field
  *             1, PDF number, 0, 0    (a leaf)
  * String starts count from the first data byte. Values are binary64 bit patterns: each entry of a tree as mean, variance, mean,
  * variance, .., and msd where the width is odd. Entries count from 1: entry n of tree t has the width's number of values, from
- * trees[LARSAVIM_TREE_ROW * t + 4] + (n - 1) * width on. */
+ * trees[LARSAVIM_TREE_ROW * t + LARSAVIM_TREE_VALUE] + (n - 1) * width on. */
 #define LARSAVIM_QUESTION_ROW 4
 #define LARSAVIM_PATTERN_ROW 2
 #define LARSAVIM_TREE_ROW 6
 #define LARSAVIM_RECORD_ROW 4
 #define LARSAVIM_WORK_A_LINE 6  /* numbers of work for each line of the longest tree */
 #define LARSAVIM_WORK_A_RECORD 4 /* numbers of work of larsavim_depth for each record of the tree */
+
+/* Where a row has what. */
+#define LARSAVIM_QUESTION_START 0     /* of its name */
+#define LARSAVIM_QUESTION_LEN 1
+#define LARSAVIM_QUESTION_FIRST 2     /* pattern */
+#define LARSAVIM_QUESTION_PATTERNS 3
+#define LARSAVIM_PATTERN_START 0
+#define LARSAVIM_PATTERN_LEN 1
+#define LARSAVIM_TREE_STATE 0
+#define LARSAVIM_TREE_FIRST 1         /* record */
+#define LARSAVIM_TREE_RECORDS 2
+#define LARSAVIM_TREE_LINES 3
+#define LARSAVIM_TREE_VALUE 4         /* the first */
+#define LARSAVIM_TREE_ENTRIES 5
+#define LARSAVIM_RECORD_KIND 0        /* 0 a line, 1 a leaf */
+#define LARSAVIM_RECORD_QUESTION 1    /* of a line, as yes and no */
+#define LARSAVIM_RECORD_YES 2
+#define LARSAVIM_RECORD_NO 3
+#define LARSAVIM_RECORD_PDF 1         /* of a leaf */
 
 /* What a model needs, without tables. out: number (0, 12 to 19, 20), place, line, then rows of questions, patterns, trees and
  * records, values, numbers of work, and the width (values in an entry). Refused: all but the number are 0. */

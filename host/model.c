@@ -19,7 +19,7 @@ static void *lend_rows(uint64_t rows, uint64_t width, uint64_t *numbers) {
 }
 
 /* The library tells what a model needs in two calls, and they must tell the same. */
-static int agree(const struct model *m) {
+static int agree(const struct larsavim_model *m) {
     if (m->needs[OUT_NUMBER] != LARSAVIM_SUCCESS)
         return m->loaded[OUT_NUMBER] == m->needs[OUT_NUMBER];
     if (m->loaded[OUT_NUMBER] != LARSAVIM_SUCCESS)
@@ -27,7 +27,7 @@ static int agree(const struct model *m) {
     return memcmp(m->loaded, m->needs, sizeof m->loaded) == 0;
 }
 
-void load_model(const struct voice *v, uint64_t which, uint64_t spare, struct model *m) {
+void load_model(const struct voice *v, uint64_t which, uint64_t spare, struct larsavim_model *m) {
     uint64_t *needs = answer_slice(LARSAVIM_NEEDS_OUT), *loaded = answer_slice(LARSAVIM_LOAD_OUT);
     m->which = which;
     larsavim_needs(v->file.at, v->file.len, v->words, LARSAVIM_WORDS, which, needs, LARSAVIM_NEEDS_OUT);
@@ -35,66 +35,59 @@ void load_model(const struct voice *v, uint64_t which, uint64_t spare, struct mo
     for (int t = 0; t < TABLES; t++)
         m->table[t] = lend_rows(m->needs[OUT_ROWS + t] + spare, row_width[t], &m->lent[t]);
     m->work = lend_rows(m->needs[OUT_WORK] + spare * LARSAVIM_WORK_A_LINE, 1, &m->work_lent);
-    larsavim_load(v->file.at, v->file.len, v->words, LARSAVIM_WORDS, which, m->table[QUESTIONS], m->lent[QUESTIONS], m->table[PATTERNS], m->lent[PATTERNS],
-                  m->table[TREES], m->lent[TREES], m->table[RECORDS], m->lent[RECORDS], m->table[VALUES], m->lent[VALUES], m->work, m->work_lent, loaded, LARSAVIM_LOAD_OUT);
+    larsavim_model_load_to(m, v->file.at, v->file.len, v->words, loaded, LARSAVIM_LOAD_OUT);
     memcpy(m->loaded, loaded, sizeof m->loaded);
     if (!agree(m))
         stop("larsavim_needs and larsavim_load contradict each other");
 }
 
-void free_model(struct model *m) {
+void free_model(struct larsavim_model *m) {
     for (int t = 0; t < TABLES; t++)
         give_back(m->table[t], 8 * m->lent[t]);
     give_back(m->work, 8 * m->work_lent);
 }
 
-uint64_t rows_of(const struct model *m, int table) {
-    return m->loaded[OUT_ROWS + table];
+uint64_t rows_of(const struct larsavim_model *m, int table) {
+    return larsavim_model_rows(m, table);
 }
 
-uint64_t width_of(const struct model *m) {
+uint64_t width_of(const struct larsavim_model *m) {
     return m->needs[OUT_WIDTH];
 }
 
-const uint64_t *row_of(const struct model *m, int table, uint64_t i) {
-    return m->table[table] + row_width[table] * i;
+const uint64_t *row_of(const struct larsavim_model *m, int table, uint64_t i) {
+    return larsavim_model_row(m, table, i);
 }
 
-/* Numbers in the rows that a load returned. */
-static uint64_t used(const struct model *m, int table) {
-    return rows_of(m, table) * row_width[table];
-}
-
-void cut_tables(struct model *m) {
+void cut_tables(struct larsavim_model *m) {
     for (int t = 0; t < TABLES; t++) {
-        uint64_t *cut = lend(8 * used(m, t));
-        memcpy(cut, m->table[t], (size_t)(8 * used(m, t)));
+        uint64_t used = larsavim_model_used(m, t), *cut = lend(8 * used);
+        memcpy(cut, m->table[t], (size_t)(8 * used));
         give_back(m->table[t], 8 * m->lent[t]);
         m->table[t] = cut;
-        m->lent[t] = used(m, t);
+        m->lent[t] = used;
     }
 }
 
-int leaves_fit(const struct model *m) {
-    return larsavim_leaves(m->table[QUESTIONS], used(m, QUESTIONS), m->table[TREES], used(m, TREES), m->table[RECORDS], used(m, RECORDS), m->table[VALUES],
-                           used(m, VALUES), width_of(m)) == 1;
+int leaves_fit(const struct larsavim_model *m) {
+    return larsavim_model_leaves(m) == 1;
 }
 
-void walk_model(const struct model *m, uint64_t tree, struct bytes answers, uint64_t limit, uint64_t out[LARSAVIM_WALK_OUT]) {
+void walk_model(const struct larsavim_model *m, uint64_t tree, struct bytes answers, uint64_t limit, uint64_t out[LARSAVIM_WALK_OUT]) {
     uint64_t *walked = answer_slice(LARSAVIM_WALK_OUT);
-    larsavim_walk(m->table[TREES], used(m, TREES), m->table[RECORDS], used(m, RECORDS), tree, answers.at, answers.len, limit, walked, LARSAVIM_WALK_OUT);
+    larsavim_model_walk(m, tree, answers.at, answers.len, limit, walked, LARSAVIM_WALK_OUT);
     memcpy(out, walked, 8 * LARSAVIM_WALK_OUT);
 }
 
-void walk_jobs_model(const struct model *m, struct bytes answers, struct larsavim_job *jobs, uint64_t count) {
-    larsavim_walk_jobs(m->table[TREES], used(m, TREES), m->table[RECORDS], used(m, RECORDS), answers.at, answers.len, jobs, count);
+void walk_jobs_model(const struct larsavim_model *m, struct bytes answers, struct larsavim_job *jobs, uint64_t count) {
+    larsavim_model_walk_jobs(m, answers.at, answers.len, jobs, count);
 }
 
 /* Between guards the data is a copy: it ends with the file, but doesn't begin with it. */
-uint64_t answer_model(const struct voice *v, const struct model *m, struct bytes label, struct bytes *answers) {
+uint64_t answer_model(const struct voice *v, const struct larsavim_model *m, struct bytes label, struct bytes *answers) {
     struct bytes data = guarded() ? lend_copy(data_of(v)) : data_of(v);
     uint8_t *given = lend(rows_of(m, QUESTIONS));
-    uint64_t number = larsavim_answers(label.at, label.len, m->table[QUESTIONS], used(m, QUESTIONS), m->table[PATTERNS], used(m, PATTERNS), data.at, data.len, given, rows_of(m, QUESTIONS));
+    uint64_t number = larsavim_model_answers(m, label.at, label.len, data.at, data.len, given, rows_of(m, QUESTIONS));
     if (guarded())
         give_back(data.at, data.len);
     answers->at = given;
@@ -114,18 +107,16 @@ static struct bytes lent_data(struct bytes data) {
     return own;
 }
 
-struct bytes write_model(const struct model *m, struct bytes data) {
+struct bytes write_model(const struct larsavim_model *m, struct bytes data) {
     uint64_t *out = answer_slice(LARSAVIM_WRITE_OUT), needed;
     struct bytes own = lent_data(data), text;
     uint8_t *buffer;
-    larsavim_write_needs(own.at, own.len, m->table[QUESTIONS], used(m, QUESTIONS), m->table[PATTERNS], used(m, PATTERNS), m->table[TREES], used(m, TREES),
-                         m->table[RECORDS], used(m, RECORDS), out, LARSAVIM_WRITE_NEEDS_OUT);
-    needed = out[1];
+    larsavim_model_write_needs(m, own.at, own.len, out, LARSAVIM_WRITE_NEEDS_OUT);
+    needed = out[LARSAVIM_WRITE_NEEDS_LENGTH];
     buffer = lend(needed);
-    if (out[0] == LARSAVIM_SUCCESS)
-        larsavim_write(own.at, own.len, m->table[QUESTIONS], used(m, QUESTIONS), m->table[PATTERNS], used(m, PATTERNS), m->table[TREES], used(m, TREES),
-                       m->table[RECORDS], used(m, RECORDS), buffer, needed, out, LARSAVIM_WRITE_OUT);
-    if (out[0] != LARSAVIM_SUCCESS || out[1] != needed)
+    if (out[OUT_NUMBER] == LARSAVIM_SUCCESS)
+        larsavim_model_write(m, own.at, own.len, buffer, needed, out, LARSAVIM_WRITE_OUT);
+    if (out[OUT_NUMBER] != LARSAVIM_SUCCESS || out[LARSAVIM_WRITE_LENGTH] != needed)
         stop("the library refuses tables that it loaded");
     if (guarded())
         give_back(own.at, own.len);
@@ -134,10 +125,10 @@ struct bytes write_model(const struct model *m, struct bytes data) {
     return text;
 }
 
-void depth_model(const struct model *m, uint64_t tree, uint64_t out[LARSAVIM_DEPTH_OUT]) {
+void depth_model(const struct larsavim_model *m, uint64_t tree, uint64_t out[LARSAVIM_DEPTH_OUT]) {
     uint64_t numbers, *told = answer_slice(LARSAVIM_DEPTH_OUT);
-    int64_t *work = lend_rows(row_of(m, TREES, tree)[2], LARSAVIM_WORK_A_RECORD, &numbers);
-    larsavim_depth(m->table[TREES], used(m, TREES), m->table[RECORDS], used(m, RECORDS), tree, work, numbers, told, LARSAVIM_DEPTH_OUT);
+    int64_t *work = lend_rows(row_of(m, TREES, tree)[LARSAVIM_TREE_RECORDS], LARSAVIM_WORK_A_RECORD, &numbers);
+    larsavim_model_depth(m, tree, work, numbers, told, LARSAVIM_DEPTH_OUT);
     memcpy(out, told, 8 * LARSAVIM_DEPTH_OUT);
     for (uint64_t i = 0; i < numbers; i++)
         if (work[i] != 0)

@@ -52,7 +52,7 @@ static void draw(uint8_t *answers, uint64_t len, uint64_t tree, int kind) {
     }
 }
 
-static int tree_walks_alike(const struct model *own, const struct model *alone, uint64_t tree) {
+static int tree_walks_alike(const struct larsavim_model *own, const struct larsavim_model *alone, uint64_t tree) {
     uint64_t len = rows_of(alone, QUESTIONS), a[LARSAVIM_WALK_OUT], b[LARSAVIM_WALK_OUT];
     uint8_t *given = lend(len);
     struct bytes answers = {given, len};
@@ -68,8 +68,8 @@ static int tree_walks_alike(const struct model *own, const struct model *alone, 
 }
 
 /* Whether a task's rows walk and check as the model does in tables of its own. */
-static int alike(const struct shared *s, uint64_t side, const struct model *alone) {
-    struct model own;
+static int alike(const struct shared *s, uint64_t side, const struct larsavim_model *alone) {
+    struct larsavim_model own;
     int good;
     if (!own_rows(s, side, &own))
         return 0;
@@ -84,7 +84,7 @@ static int alike(const struct shared *s, uint64_t side, const struct model *alon
 /* ---- two models ---------------------------------------------------------------------------------------------------------------- */
 
 /* Tables of just the rows that both need; how many bytes these are, the work of the longer with them. */
-static uint64_t lend_both(struct shared *s, const struct model *a, const struct model *b) {
+static uint64_t lend_both(struct shared *s, const struct larsavim_model *a, const struct larsavim_model *b) {
     uint64_t numbers[TABLES], work = a->needs[OUT_WORK] > b->needs[OUT_WORK] ? a->needs[OUT_WORK] : b->needs[OUT_WORK], bytes = 8 * work;
     for (int t = 0; t < TABLES; t++) {
         numbers[t] = (a->needs[OUT_ROWS + t] + b->needs[OUT_ROWS + t]) * row_width[t];
@@ -94,7 +94,7 @@ static uint64_t lend_both(struct shared *s, const struct model *a, const struct 
     return bytes;
 }
 
-static int load_side(struct shared *s, const struct voice *v, uint64_t side, const struct model *alone) {
+static int load_side(struct shared *s, const struct voice *v, uint64_t side, const struct larsavim_model *alone) {
     uint64_t out[LARSAVIM_LOAD_OUT];
     uint64_t number = load_shared(s, v, alone->which, side, out);
     if (number == LARSAVIM_SUCCESS)
@@ -105,7 +105,7 @@ static int load_side(struct shared *s, const struct voice *v, uint64_t side, con
     return 0;
 }
 
-static int pair_loaded(const struct voice *day, const struct model *a, const struct voice *night, const struct model *b) {
+static int pair_loaded(const struct voice *day, const struct larsavim_model *a, const struct voice *night, const struct larsavim_model *b) {
     struct shared s;
     uint64_t bytes = lend_both(&s, a, b);
     int good = load_side(&s, day, LARSAVIM_BOTTOM, a) && load_side(&s, night, LARSAVIM_TOP, b);
@@ -122,7 +122,7 @@ static int pair_loaded(const struct voice *day, const struct model *a, const str
     return good;
 }
 
-static int refused_alone(const char *path, const struct voice *v, const struct model *m) {
+static int refused_alone(const char *path, const struct voice *v, const struct larsavim_model *m) {
     if (m->loaded[OUT_NUMBER] == LARSAVIM_SUCCESS)
         return 0;
     printf("    %s: ", path);
@@ -132,7 +132,7 @@ static int refused_alone(const char *path, const struct voice *v, const struct m
 }
 
 static int pair_models(char **paths, const struct voice *day, const struct voice *night, uint64_t which) {
-    struct model a, b;
+    struct larsavim_model a, b;
     int good;
     printf("model %" PRIu64 ", ", which);
     put_model_name(stdout, day, which);

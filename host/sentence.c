@@ -37,7 +37,7 @@ static const char *read_job(char *line, void *with) {
 }
 
 /* One call for all, and a line for each. What was asked for must still stand there. */
-static int walk_all(const struct model *m, struct bytes answers, const struct sentence *s) {
+static int walk_all(const struct larsavim_model *m, struct bytes answers, const struct sentence *s) {
     uint64_t size = s->jobs * sizeof *s->job;
     struct larsavim_job *lent = lend(size);
     int status = ALL_WELL;
@@ -49,7 +49,7 @@ static int walk_all(const struct model *m, struct bytes answers, const struct se
         if (lent[i].tree != s->job[i].tree || lent[i].limit != s->job[i].limit || lent[i].start != s->job[i].start)
             stop("the library changed what a job asks for");
         put_walk(out);
-        if (out[0] != LARSAVIM_SUCCESS)
+        if (out[OUT_NUMBER] != LARSAVIM_SUCCESS)
             status = REFUSED;
     }
     give_back(lent, size);
@@ -60,7 +60,7 @@ static int walk_all(const struct model *m, struct bytes answers, const struct se
 static int walk_sentence(struct bytes file, uint64_t which, struct bytes answers) {
     struct sentence s = {NULL, 0, 0};
     struct voice v;
-    struct model m;
+    struct larsavim_model m;
     int status = REFUSED;
     open_voice(&v, file);
     if (v.number != LARSAVIM_SUCCESS) {

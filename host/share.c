@@ -74,7 +74,7 @@ uint64_t unload_shared(struct shared *s, uint64_t side) {
                            s->table[TREES], s->lent[TREES], s->table[RECORDS], s->lent[RECORDS], s->table[VALUES], s->lent[VALUES]);
 }
 
-int own_rows(const struct shared *s, uint64_t side, struct model *m) {
+int own_rows(const struct shared *s, uint64_t side, struct larsavim_model *m) {
     for (int t = 0; t < TABLES; t++)
         if (s->held[side][t] > s->lent[t] / row_width[t])
             return 0;
@@ -135,7 +135,7 @@ static void put_load(struct script *c, uint64_t side, uint64_t which, struct byt
 }
 
 static void put_own_walk(struct script *c, uint64_t side, uint64_t tree, struct bytes answers, uint64_t limit) {
-    struct model m;
+    struct larsavim_model m;
     uint64_t out[LARSAVIM_WALK_OUT] = {LARSAVIM_WALKTABLE, 0, 0};
     if (own_rows(&c->s, side, &m)) {
         walk_model(&m, tree, answers, limit, out);
@@ -146,7 +146,7 @@ static void put_own_walk(struct script *c, uint64_t side, uint64_t tree, struct 
 }
 
 static void put_leaves(struct script *c, uint64_t side, uint64_t width) {
-    struct model m;
+    struct larsavim_model m;
     int fit = 0;
     if (own_rows(&c->s, side, &m)) {
         m.needs[OUT_WIDTH] = width;

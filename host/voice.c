@@ -6,8 +6,8 @@ void open_voice(struct voice *v, struct bytes file) {
     v->file = file;
     v->words = lend(8 * LARSAVIM_WORDS);
     larsavim_open(file.at, file.len, v->words, LARSAVIM_WORDS, out, LARSAVIM_OPEN_OUT);
-    v->number = out[0];
-    v->place = out[1];
+    v->number = out[OUT_NUMBER];
+    v->place = out[LARSAVIM_OPEN_PLACE];
 }
 
 void close_voice(struct voice *v) {
@@ -18,7 +18,7 @@ uint64_t number_of(const struct voice *v, uint64_t field) {
     uint64_t *out = answer_slice(LARSAVIM_GET_OUT);
     if (larsavim_get(v->words, LARSAVIM_WORDS, field, out, LARSAVIM_GET_OUT) != LARSAVIM_SUCCESS)
         stop("the library has no such field in the record that it opened");
-    return out[1];
+    return out[LARSAVIM_GET_VALUE];
 }
 
 struct pair pair_of(const struct voice *v, uint64_t field) {
@@ -26,8 +26,8 @@ struct pair pair_of(const struct voice *v, uint64_t field) {
     struct pair p;
     if (larsavim_pair(v->words, LARSAVIM_WORDS, field, out, LARSAVIM_PAIR_OUT) != LARSAVIM_SUCCESS)
         stop("the library has no such pair in the record that it opened");
-    p.first = out[1];
-    p.second = out[2];
+    p.first = out[LARSAVIM_PAIR_FIRST];
+    p.second = out[LARSAVIM_PAIR_SECOND];
     return p;
 }
 

@@ -5,27 +5,27 @@
 #include "host.h"
 
 void put_walk(const uint64_t out[LARSAVIM_WALK_OUT]) {
-    if (out[0] == LARSAVIM_SUCCESS)
-        printf("PDF %" PRIu64 " ASKED %" PRIu64 "\n", out[1], out[2]);
+    if (out[OUT_NUMBER] == LARSAVIM_SUCCESS)
+        printf("PDF %" PRIu64 " ASKED %" PRIu64 "\n", out[LARSAVIM_WALK_PDF], out[LARSAVIM_WALK_ASKED]);
     else
-        printf("REFUSED %" PRIu64 "\n", out[0]);
+        printf("REFUSED %" PRIu64 "\n", out[OUT_NUMBER]);
 }
 
 /* Walks, and says why there is no answer to `why`, if there is a place for it. out: as walk_model's, or the refusal of the opening or the load. */
 static void walk_voice(const struct voice *v, const struct asked_walk *w, FILE *why, uint64_t out[LARSAVIM_WALK_OUT]) {
-    struct model m;
-    out[0] = v->number;
-    if (out[0] != LARSAVIM_SUCCESS) {
+    struct larsavim_model m;
+    out[OUT_NUMBER] = v->number;
+    if (out[OUT_NUMBER] != LARSAVIM_SUCCESS) {
         if (why != NULL)
             explain_open(why, v);
         return;
     }
     load_model(v, w->which, 0, &m);
-    out[0] = m.loaded[OUT_NUMBER];
-    if (out[0] == LARSAVIM_SUCCESS) {
+    out[OUT_NUMBER] = m.loaded[OUT_NUMBER];
+    if (out[OUT_NUMBER] == LARSAVIM_SUCCESS) {
         walk_model(&m, w->tree, w->answers, w->limit, out);
-        if (why != NULL && out[0] != LARSAVIM_SUCCESS)
-            explain_walk(why, out[0]);
+        if (why != NULL && out[OUT_NUMBER] != LARSAVIM_SUCCESS)
+            explain_walk(why, out[OUT_NUMBER]);
     } else if (why != NULL) {
         explain_load(why, v, w->which, m.loaded);
     }
@@ -39,7 +39,7 @@ int walk_line(struct bytes file, const struct asked_walk *w, FILE *why) {
     walk_voice(&v, w, why, out);
     close_voice(&v);
     put_walk(out);
-    return out[0] == LARSAVIM_SUCCESS ? ALL_WELL : REFUSED;
+    return out[OUT_NUMBER] == LARSAVIM_SUCCESS ? ALL_WELL : REFUSED;
 }
 
 int read_answers(const char *word, struct bytes *answers) {

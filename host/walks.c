@@ -8,13 +8,13 @@
 /* A voice and the models of it that are loaded (those of a table). The last one is for numbers that the voice has no model of. */
 struct kept {
     struct voice v;
-    struct model *model;
+    struct larsavim_model *model;
     uint64_t models;
     int refused; /* whether any walk was */
 };
 
-static struct model *kept_model(struct kept *k, uint64_t which) {
-    struct model *m = &k->model[which < k->models ? which : k->models];
+static struct larsavim_model *kept_model(struct kept *k, uint64_t which) {
+    struct larsavim_model *m = &k->model[which < k->models ? which : k->models];
     if (m->table[0] != NULL && m->which == which)
         return m;
     if (m->table[0] != NULL)
@@ -25,13 +25,13 @@ static struct model *kept_model(struct kept *k, uint64_t which) {
 
 /* The number of the opening, of the load or of the walk, whichever refuses first. */
 static void walk_kept(struct kept *k, const struct asked_walk *w, uint64_t out[LARSAVIM_WALK_OUT]) {
-    struct model *m;
-    out[0] = k->v.number;
-    if (out[0] != LARSAVIM_SUCCESS)
+    struct larsavim_model *m;
+    out[OUT_NUMBER] = k->v.number;
+    if (out[OUT_NUMBER] != LARSAVIM_SUCCESS)
         return;
     m = kept_model(k, w->which);
-    out[0] = m->loaded[OUT_NUMBER];
-    if (out[0] == LARSAVIM_SUCCESS)
+    out[OUT_NUMBER] = m->loaded[OUT_NUMBER];
+    if (out[OUT_NUMBER] == LARSAVIM_SUCCESS)
         walk_model(m, w->tree, w->answers, w->limit, out);
 }
 
@@ -53,7 +53,7 @@ static const char *answer(char *line, void *with) {
     walk_kept(k, &w, out);
     give_back(w.answers.at, w.answers.len);
     put_walk(out);
-    k->refused |= out[0] != LARSAVIM_SUCCESS;
+    k->refused |= out[OUT_NUMBER] != LARSAVIM_SUCCESS;
     return NULL;
 }
 

@@ -6,7 +6,7 @@
 
 /* The text of a loaded model, or `REFUSED n` and why, to `why`, if there is a place for it. 1 if there is a text. */
 int text_of_model(const struct voice *v, uint64_t which, FILE *why, struct bytes *text, uint64_t *number) {
-    struct model m;
+    struct larsavim_model m;
     *number = v->number;
     if (*number != LARSAVIM_SUCCESS) {
         if (why != NULL)

@@ -31,6 +31,9 @@ import treetexts
 import voices
 
 HERE = os.path.dirname(os.path.abspath(__file__))
+sys.path.insert(0, os.path.join(HERE, '..', 'tools'))
+from far import far  # noqa: E402
+
 NAN = re.compile(r'\b[7f]ff(?!0000000000000)[0-9a-f]{13}\b')
 END_WRAPS = re.compile(r'-18446744073709551615\b')
 NO_PLACE = re.compile(r'^LOAD 17 \d+ ')  # the Rust says of a tree text that it doesn't fit, and not where
@@ -193,15 +196,18 @@ class Judge:
 
     def all(self, mode, inputs, size=2000, weight=4 << 20):
         """All inputs, in batches of so many inputs or bytes."""
-        batch, heavy = [], 0
+        batch, heavy, done = [], 0, 0
         for i in inputs:
             batch.append(i)
             heavy += len(i)
             if len(batch) == size or heavy > weight:
                 self.batch(mode, batch)
+                done += len(batch)
                 batch, heavy = [], 0
+                far('compare: %s, %d inputs' % (mode, done))
         if batch:
             self.batch(mode, batch)
+        far()
 
     def texts(self, texts):
         """Tree texts; with a product, each as a stream of a whole voice."""

@@ -5,12 +5,12 @@
 #include <stdlib.h>
 #include <string.h>
 
-#include "larsavim.h"
+#include "larsavim_model.h"
 
-enum { ROOM = 4096, QUESTIONS = 0, PATTERNS, TREES, RECORDS, VALUES, TABLES, STREAM_MCP = 1 };
+enum { ROOM = 4096, QUESTIONS = LARSAVIM_QUESTIONS, PATTERNS, TREES, RECORDS, VALUES, TABLES, STREAM_MCP = 1 };
 
 /* Where the answer of larsavim_needs has the rows, the work and the width. */
-enum { ROWS = 3, WORK = ROWS + TABLES, WIDTH };
+enum { ROWS = LARSAVIM_NEEDS_QUESTIONS, WORK = LARSAVIM_NEEDS_WORK, WIDTH = LARSAVIM_NEEDS_WIDTH };
 
 #define PAINT UINT64_C(0x5a5a5a5a5a5a5a5a)
 

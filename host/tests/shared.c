@@ -284,7 +284,7 @@ static void plain_load(void) {
 
 int main(int argc, char **argv) {
     struct bytes file;
-    struct model m;
+    struct larsavim_model m;
     if (argc != 3 || !map_file(argv[1], &file))
         return 2;
     open_voice(&good, file);

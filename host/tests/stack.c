@@ -7,14 +7,12 @@
 #include <string.h>
 #include <ucontext.h>
 
-#include "larsavim.h"
+#include "larsavim_model.h"
 
 #define STACK (1024 * 1024)
 #define PAINT 0xa5
 
 enum { CALLS = 7 };
-/* The tables, and where the answer of larsavim_needs has their rows, the work and the width. */
-enum { TABLES = 5, ROWS = 3, WORK = ROWS + TABLES, WIDTH };
 
 static uint8_t *stack;
 static ucontext_t here, there;
@@ -23,30 +21,21 @@ static uint8_t *top; /* the frame from which the call is made */
 /* The call and what it works on: static, so that only the library's own use is measured. */
 static void (*measured)(void);
 static uint8_t file[LARSAVIM_FILE_LIMIT];
-static uint64_t file_len, words[LARSAVIM_WORDS], which, out[LARSAVIM_NEEDS_OUT], needs[LARSAVIM_NEEDS_OUT], *table[TABLES], lent[TABLES];
-static int64_t *work;
-static const uint64_t width[TABLES] = {LARSAVIM_QUESTION_ROW, LARSAVIM_PATTERN_ROW, LARSAVIM_TREE_ROW, LARSAVIM_RECORD_ROW, 1};
+static uint64_t file_len, words[LARSAVIM_WORDS], out[LARSAVIM_NEEDS_OUT];
+static struct larsavim_model m;
 static uint8_t answers[LARSAVIM_FILE_LIMIT];
 static int64_t depths[LARSAVIM_FILE_LIMIT / 8];
 
 static void call_open(void) { larsavim_open(file, file_len, words, LARSAVIM_WORDS, out, LARSAVIM_OPEN_OUT); }
-static void call_needs(void) { larsavim_needs(file, file_len, words, LARSAVIM_WORDS, which, needs, LARSAVIM_NEEDS_OUT); }
-static void call_load(void) {
-    larsavim_load(file, file_len, words, LARSAVIM_WORDS, which, table[0], lent[0], table[1], lent[1], table[2], lent[2], table[3], lent[3], table[4], lent[4],
-                  work, needs[WORK], out, LARSAVIM_LOAD_OUT);
-}
-static void call_walk(void) { larsavim_walk(table[2], lent[2], table[3], lent[3], 0, answers, needs[3], lent[3], out, LARSAVIM_WALK_OUT); }
-static void call_leaves(void) {
-    larsavim_leaves(table[0], lent[0], table[2], lent[2], table[3], lent[3], table[4], lent[4], needs[WIDTH]);
-}
+static void call_needs(void) { larsavim_model_needs(&m, file, file_len, words); }
+static void call_load(void) { larsavim_model_load(&m, file, file_len, words); }
+static void call_walk(void) { larsavim_model_walk(&m, 0, answers, larsavim_model_rows(&m, LARSAVIM_QUESTIONS), larsavim_model_rows(&m, LARSAVIM_RECORDS), out, LARSAVIM_WALK_OUT); }
+static void call_leaves(void) { larsavim_model_leaves(&m); }
+static void call_depth(void) { larsavim_model_depth(&m, 0, depths, sizeof depths / 8, out, LARSAVIM_DEPTH_OUT); }
 
 static void call_answers(void) {
     static const uint8_t label[] = "sh^i-ch+i=sil";
-    larsavim_answers(label, sizeof label - 1, table[0], lent[0], table[1], lent[1], file + words[LARSAVIM_DATA_START], words[LARSAVIM_DATA_LEN], answers, sizeof answers);
-}
-
-static void call_depth(void) {
-    larsavim_depth(table[2], lent[2], table[3], lent[3], 0, depths, sizeof depths / 8, out, LARSAVIM_DEPTH_OUT);
+    larsavim_model_answers(&m, label, sizeof label - 1, file + words[LARSAVIM_DATA_START], words[LARSAVIM_DATA_LEN], answers, sizeof answers);
 }
 
 static void on_painted_stack(void) {
@@ -83,21 +72,22 @@ static void *room(uint64_t numbers) {
 
 static void measure_model(uint64_t most[CALLS]) {
     keep_most(&most[1], stack_of(call_needs));
-    for (int t = 0; t < TABLES; t++) {
-        lent[t] = needs[ROWS + t] * width[t];
-        table[t] = room(lent[t]);
+    for (int t = 0; t < LARSAVIM_TABLES; t++) {
+        m.lent[t] = larsavim_model_wants(&m, t);
+        m.table[t] = room(m.lent[t]);
     }
-    work = room(needs[WORK]);
+    m.work_lent = m.needs[LARSAVIM_NEEDS_WORK];
+    m.work = room(m.work_lent);
     keep_most(&most[2], stack_of(call_load));
-    if (out[0] == LARSAVIM_SUCCESS) {
+    if (m.loaded[LARSAVIM_OUT_NUMBER] == LARSAVIM_SUCCESS) {
         keep_most(&most[3], stack_of(call_walk));
         keep_most(&most[4], stack_of(call_leaves));
         keep_most(&most[5], stack_of(call_answers));
         keep_most(&most[6], stack_of(call_depth));
     }
-    for (int t = 0; t < TABLES; t++)
-        free(table[t]);
-    free(work);
+    for (int t = 0; t < LARSAVIM_TABLES; t++)
+        free(m.table[t]);
+    free(m.work);
 }
 
 static void measure_file(const char *path, uint64_t most[CALLS]) {
@@ -107,9 +97,9 @@ static void measure_file(const char *path, uint64_t most[CALLS]) {
     file_len = fread(file, 1, sizeof file, f);
     fclose(f);
     keep_most(&most[0], stack_of(call_open));
-    if (out[0] != LARSAVIM_SUCCESS)
+    if (out[LARSAVIM_OUT_NUMBER] != LARSAVIM_SUCCESS)
         return;
-    for (which = 0; which <= 2 * words[LARSAVIM_STREAM_TYPE_COUNT]; which++)
+    for (m.which = 0; m.which <= 2 * words[LARSAVIM_STREAM_TYPE_COUNT]; m.which++)
         measure_model(most);
 }
 

@@ -107,11 +107,11 @@ fn broken_line(t: &Tree, lut: &BTreeMap<String, Question>) -> (u32, usize) {
 }
 
 pub struct Loaded {
-    questions: Questions,
-    lines: Vec<usize>,
+    pub questions: Questions,
+    pub lines: Vec<usize>,
     pub trees: Vec<Linked>,
-    model: Model,
-    width: usize,
+    pub model: Model,
+    pub width: usize,
 }
 
 pub fn load(v: &Opened, k: usize) -> Result<Loaded, Fault> {
@@ -135,13 +135,13 @@ pub fn load(v: &Opened, k: usize) -> Result<Loaded, Fault> {
     Ok(Loaded { questions, lines, trees: linked, model, width })
 }
 
-fn strings(q: &Question) -> &[String] {
+pub fn strings(q: &Question) -> &[String] {
     match q {
         Question::AllQustion(a) => &a.0,
         Question::Regex(_) => unreachable!(),
     }
 }
-fn row_of(q: &Question) -> usize {
+pub fn row_of(q: &Question) -> usize {
     strings(q)[0].parse().unwrap()
 }
 
