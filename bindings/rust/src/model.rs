@@ -6,8 +6,8 @@ use crate::{Refusal, Voice, Which};
 /// What a model needs to be loaded: rows of each table, values, numbers of work.
 #[derive(Clone, Copy)]
 pub struct Needs<'f, 'v> {
-    voice: &'v Voice<'f>,
-    which: Which,
+    pub(crate) voice: &'v Voice<'f>,
+    pub(crate) which: Which,
     rows: [u64; 5],
     work: u64,
     width: u64,
@@ -139,7 +139,12 @@ pub struct Walk {
 }
 
 impl<'f, 't> Model<'f, 't> {
-    /// Loads a model into the lent tables. Refused up to 20 (`Room`) nothing that is lent is changed; from 21 to 23 the tables and the work are zero. The work is
+    /// Rows that a load left, in tables cut to them.
+    pub(crate) fn of(data: &'f [u8], rows: Rows<'t>, width: u64) -> Self {
+        Model { data, rows, width }
+    }
+
+    /// Loads a model into the lent tables. Refused up to 20 (`Room`) nothing that is lent is changed; from 21 to 23 the rows that the model needs and the work are zero. The work is
     /// free again afterwards.
     pub fn load(needs: &Needs<'f, '_>, mut tables: Tables<'t>, work: &mut [i64]) -> Result<Self, Refusal> {
         let voice = needs.voice;
