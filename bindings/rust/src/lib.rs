@@ -47,11 +47,13 @@ extern crate std;
 mod calls;
 mod model;
 mod refusal;
+mod shared;
 mod voice;
 
 pub use calls::Job;
 pub use model::{Entry, Model, Needs, Question, Record, Records, Tables, Tree, Walk};
 pub use refusal::Refusal;
+pub use shared::{Shared, Side};
 pub use voice::{Position, Range, Stream, Voice, Which};
 
 /// The version of this crate and of the library that it came with.

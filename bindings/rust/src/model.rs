@@ -14,6 +14,10 @@ pub struct Needs<'f, 'v> {
 }
 
 impl<'f, 'v> Needs<'f, 'v> {
+    pub(crate) fn voice(&self) -> &'v Voice<'f> {
+        self.voice
+    }
+
     pub(crate) fn of(voice: &'v Voice<'f>, which: Which) -> Result<Self, Refusal> {
         let [number, place, line, questions, patterns, trees, records, values, work, width] = calls::needs(voice.file(), voice.words(), which.number());
         Refusal::told(number, place, line)?;
@@ -153,6 +157,11 @@ impl<'f, 't> Model<'f, 't> {
             values: cut(tables.values, values, 1),
         };
         Ok(Model { data: voice.data(), rows, width: needs.width })
+    }
+
+    /// Of rows that a load returned.
+    pub(crate) fn of(data: &'f [u8], rows: Rows<'t>, width: u64) -> Self {
+        Model { data, rows, width }
     }
 
     /// The questions, in the order of their rows, which is that of the answers.
