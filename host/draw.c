@@ -231,7 +231,7 @@ static int draw_voice(const struct voice *v, const struct asked_drawing *a) {
     return status;
 }
 
-int draw(const struct asked_drawing *a) {
+int picture(const struct asked_drawing *a) {
     struct bytes file;
     struct voice v;
     int status;

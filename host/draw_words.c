@@ -39,7 +39,7 @@ int draw_words(int n, char **words) {
         struct bytes s = {(const uint8_t *)label, strlen(label)};
         a.label = lend_copy(s);
     }
-    status = draw(&a);
+    status = picture(&a);
     if (answers != NULL)
         give_back(a.answers.at, a.answers.len);
     if (label != NULL)

@@ -240,7 +240,7 @@ struct asked_drawing {
     struct bytes answers, label; /* lent, or null: the walk whose way is marked */
 };
 
-int draw(const struct asked_drawing *a);
+int picture(const struct asked_drawing *a);
 
 enum { NOT_SO = -1 }; /* the words aren't what the verb takes */
 

@@ -58,6 +58,32 @@ static inline uint64_t larsavim_model_load(struct larsavim_model *m, const uint8
     return larsavim_model_load_to(m, file, file_len, words, m->loaded, LARSAVIM_LOAD_OUT);
 }
 
+/* Loads the model into one task's rows of tables that two tasks share: `m` has the tables whole. The task's own bounds are `held`, the other's `other`, LARSAVIM_BOUNDS numbers each. */
+static inline uint64_t larsavim_model_load_shared(struct larsavim_model *m, uint64_t side, uint64_t *held, const uint64_t *other, const uint8_t *file, uint64_t file_len, const uint64_t *words) {
+    return larsavim_load_shared(file, file_len, words, LARSAVIM_WORDS, m->which, side, held, LARSAVIM_BOUNDS, other, LARSAVIM_BOUNDS, m->table[LARSAVIM_QUESTIONS],
+                                m->lent[LARSAVIM_QUESTIONS], m->table[LARSAVIM_PATTERNS], m->lent[LARSAVIM_PATTERNS], m->table[LARSAVIM_TREES], m->lent[LARSAVIM_TREES],
+                                m->table[LARSAVIM_RECORDS], m->lent[LARSAVIM_RECORDS], m->table[LARSAVIM_VALUES], m->lent[LARSAVIM_VALUES], m->work, m->work_lent, m->loaded,
+                                LARSAVIM_LOAD_OUT);
+}
+
+static inline uint64_t larsavim_model_unload(const struct larsavim_model *m, uint64_t side, uint64_t *held, const uint64_t *other) {
+    return larsavim_unload(side, held, LARSAVIM_BOUNDS, other, LARSAVIM_BOUNDS, m->table[LARSAVIM_QUESTIONS], m->lent[LARSAVIM_QUESTIONS], m->table[LARSAVIM_PATTERNS],
+                           m->lent[LARSAVIM_PATTERNS], m->table[LARSAVIM_TREES], m->lent[LARSAVIM_TREES], m->table[LARSAVIM_RECORDS], m->lent[LARSAVIM_RECORDS],
+                           m->table[LARSAVIM_VALUES], m->lent[LARSAVIM_VALUES]);
+}
+
+/* A task's own rows of shared tables, as a model that the calls below take: bounds as the calls handed them back. */
+static inline struct larsavim_model larsavim_model_own(const struct larsavim_model *m, uint64_t side, const uint64_t *held) {
+    struct larsavim_model own = *m;
+    for (int t = 0; t < LARSAVIM_TABLES; t++) {
+        uint64_t width = larsavim_model_row_width(t);
+        own.loaded[LARSAVIM_LOAD_QUESTIONS + t] = held[t];
+        own.table[t] = m->table[t] + LARSAVIM_FIRST(side, m->lent[t], width, held[t]);
+        own.lent[t] = width * held[t];
+    }
+    return own;
+}
+
 /* Rows of a table that the load returned, and the numbers in them. */
 static inline uint64_t larsavim_model_rows(const struct larsavim_model *m, int table) {
     return m->loaded[LARSAVIM_LOAD_QUESTIONS + table];

@@ -36,7 +36,7 @@ static void pictures(const char *path) {
     for (uint64_t which = 0; which < 5; which++)
         for (uint64_t tree = 0; tree < 4; tree++) {
             struct asked_drawing a = {path, which, tree, 0, {(const uint8_t *)"\1\0\1\0\1\1\0\0", 8}, {NULL, 0}};
-            draw(&a);
+            picture(&a);
         }
 }
 

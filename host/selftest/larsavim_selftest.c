@@ -389,6 +389,37 @@ static int model_holds(int k) {
     return holds(needs_hold(k)) && holds(tables_hold(k)) && holds(answers_hold(k)) && holds(walks_hold(k)) && holds(depths_hold(k)) && holds(text_holds(k));
 }
 
+/* ---- two tasks in the same tables ---------------------------------------------------------------------------------------------------- */
+
+static uint64_t held[2][LARSAVIM_BOUNDS];
+
+static uint64_t load_shared(uint64_t which, uint64_t side) {
+    return larsavim_load_shared(file, VOICE_LEN, words, LARSAVIM_WORDS, which, side, held[side], LARSAVIM_BOUNDS, held[1 - side], LARSAVIM_BOUNDS, questions, room[0], patterns, room[1],
+                                trees, room[2], records, room[3], values, room[4], work, WORK, out, LARSAVIM_LOAD_OUT);
+}
+
+static uint64_t unload(uint64_t side) {
+    return larsavim_unload(side, held[side], LARSAVIM_BOUNDS, held[1 - side], LARSAVIM_BOUNDS, questions, room[0], patterns, room[1], trees, room[2], records, room[3], values, room[4]);
+}
+
+/* A task's rows are those of a load alone. */
+static int task_holds(int k, uint64_t side) {
+    for (int t = 0; t < TABLES; t++)
+        if (held[side][t] != rows(k, t) || mixed(table[t] + LARSAVIM_FIRST(side, room[t], width[t], held[side][t]), used(k, t)) != models[k].table[t])
+            return 0;
+    return 1;
+}
+
+/* The top task holds model 2 throughout; the bottom task 3, then 0, then there is no room for 1. */
+static int tasks_hold(void) {
+    for (int i = 0; i < LARSAVIM_BOUNDS; i++)
+        held[0][i] = held[1][i] = 0;
+    return open_file() == LARSAVIM_SUCCESS && load_shared(2, LARSAVIM_TOP) == LARSAVIM_SUCCESS && load_shared(3, LARSAVIM_BOTTOM) == LARSAVIM_SUCCESS && task_holds(2, LARSAVIM_TOP) &&
+           task_holds(3, LARSAVIM_BOTTOM) && load_shared(0, LARSAVIM_BOTTOM) == LARSAVIM_HELD && unload(LARSAVIM_BOTTOM) == LARSAVIM_SUCCESS && task_holds(2, LARSAVIM_TOP) &&
+           load_shared(0, LARSAVIM_BOTTOM) == LARSAVIM_SUCCESS && task_holds(0, LARSAVIM_BOTTOM) && unload(LARSAVIM_BOTTOM) == LARSAVIM_SUCCESS &&
+           load_shared(1, LARSAVIM_BOTTOM) == LARSAVIM_ROOM && task_holds(2, LARSAVIM_TOP);
+}
+
 /* The refusal of one changed byte; up to 20 no table is changed. */
 static int change_holds(int i) {
     uint64_t before[TABLES], number, line = 0;
@@ -422,5 +453,7 @@ int larsavim_selftest(void) {
     for (int i = 0; i < (int)COUNT(changes); i++)
         if (!holds(change_holds(i)))
             return check;
+    if (!holds(tasks_hold()))
+        return check;
     return 0;
 }

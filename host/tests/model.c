@@ -79,6 +79,28 @@ static void refused(void) {
     expect(larsavim_model_tree(&m, 2) == 0 && larsavim_model_entry(&m, 0, 1) == NULL, "no tree");
 }
 
+/* Two tasks in the same tables: each walks over its own rows; a task that holds a model is refused another. */
+static void shared(void) {
+    static uint64_t held[2][LARSAVIM_BOUNDS];
+    uint64_t out[LARSAVIM_WALK_OUT];
+    struct larsavim_model own;
+    for (int t = 0; t < LARSAVIM_TABLES; t++) {
+        m.lent[t] = 2 * larsavim_model_wants(&m, t) + (t < LARSAVIM_VALUES);
+        m.table[t] = room(m.lent[t]);
+    }
+    for (uint64_t side = 0; side < 2; side++) {
+        expect(larsavim_model_load_shared(&m, side, held[side], held[1 - side], file, file_len, words) == LARSAVIM_SUCCESS, "a shared load");
+        expect(larsavim_model_load_shared(&m, side, held[side], held[1 - side], file, file_len, words) == LARSAVIM_HELD, "held");
+        own = larsavim_model_own(&m, side, held[side]);
+        expect(larsavim_model_leaves(&own) == 1 && larsavim_model_walk(&own, 0, (const uint8_t *)"\0\0\1\0\0\1\1", 7, 9, out, LARSAVIM_WALK_OUT) == 0 && out[LARSAVIM_WALK_PDF] == 5, "its walk");
+    }
+    expect(larsavim_model_unload(&m, LARSAVIM_BOTTOM, held[0], held[1]) == 0 && held[0][LARSAVIM_TREES] == 0, "unload");
+    own = larsavim_model_own(&m, LARSAVIM_TOP, held[1]);
+    expect(larsavim_model_leaves(&own) == 1 && larsavim_model_rows(&own, LARSAVIM_TREES) == TREES_OF_MCP, "the other stays");
+    own = larsavim_model_own(&m, LARSAVIM_BOTTOM, held[0]);
+    expect(larsavim_model_walk(&own, 0, file, 7, 9, out, LARSAVIM_WALK_OUT) == LARSAVIM_WALKTABLE, "nothing is held");
+}
+
 int main(int argc, char **argv) {
     uint64_t out[LARSAVIM_OPEN_OUT];
     FILE *f = argc == 2 ? fopen(argv[1], "rb") : NULL;
@@ -94,6 +116,7 @@ int main(int argc, char **argv) {
     rows();
     calls();
     refused();
+    shared();
     printf("model: %u passed, %u failed\n", passed, failed);
     return failed != 0;
 }

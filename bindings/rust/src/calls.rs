@@ -25,7 +25,7 @@ pub const TREE_ROW: usize = 6;
 pub const RECORD_ROW: usize = 4;
 pub const WORK_A_RECORD: usize = 4;
 
-/// Numbers of a task's bounds.
+/// Numbers of a task's bounds, in tables that two tasks share.
 pub const BOUNDS: usize = 5;
 
 /// Fields of the record.
@@ -169,9 +169,16 @@ pub fn load(file: &[u8], words: &[u64; WORDS], which: u64, tables: &mut crate::T
     out
 }
 
-#[allow(clippy::too_many_arguments)] // they are the call's
-pub fn load_shared(file: &[u8], words: &[u64; WORDS], which: u64, side: u64, held: &mut [u64; BOUNDS], other: &[u64; BOUNDS], tables: &mut crate::Tables, work: &mut [i64]) -> [u64; LOAD_OUT] {
+/// What a load asks for: the file, its record, and the number of the model.
+pub struct Asked<'v> {
+    pub file: &'v [u8],
+    pub words: &'v [u64; WORDS],
+    pub which: u64,
+}
+
+pub fn load_shared(asked: &Asked, side: u64, held: &mut [u64; BOUNDS], other: &[u64; BOUNDS], tables: &mut crate::Tables, work: &mut [i64]) -> [u64; LOAD_OUT] {
     let mut out = [0; LOAD_OUT];
+    let Asked { file, words, which } = *asked;
     let crate::Tables { questions, patterns, trees, records, values } = tables;
     call!(larsavim_load_shared; [file], [words], which, side, [mut held], [other], [mut questions], [mut patterns], [mut trees], [mut records], [mut values], [mut work], [mut out]);
     out

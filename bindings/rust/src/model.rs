@@ -6,14 +6,18 @@ use crate::{Refusal, Voice, Which};
 /// What a model needs to be loaded: rows of each table, values, numbers of work.
 #[derive(Clone, Copy)]
 pub struct Needs<'f, 'v> {
-    pub(crate) voice: &'v Voice<'f>,
-    pub(crate) which: Which,
+    voice: &'v Voice<'f>,
+    which: Which,
     rows: [u64; 5],
     work: u64,
     width: u64,
 }
 
 impl<'f, 'v> Needs<'f, 'v> {
+    pub(crate) fn voice(&self) -> &'v Voice<'f> {
+        self.voice
+    }
+
     pub(crate) fn of(voice: &'v Voice<'f>, which: Which) -> Result<Self, Refusal> {
         let [number, place, line, questions, patterns, trees, records, values, work, width] = calls::needs(voice.file(), voice.words(), which.number());
         Refusal::told(number, place, line)?;
@@ -139,12 +143,7 @@ pub struct Walk {
 }
 
 impl<'f, 't> Model<'f, 't> {
-    /// Rows that a load left, in tables cut to them.
-    pub(crate) fn of(data: &'f [u8], rows: Rows<'t>, width: u64) -> Self {
-        Model { data, rows, width }
-    }
-
-    /// Loads a model into the lent tables. Refused up to 20 (`Room`) nothing that is lent is changed; from 21 to 23 the rows that the model needs and the work are zero. The work is
+    /// Loads a model into the lent tables. Refused up to 20 (`Room`) nothing that is lent is changed; from 21 to 23 the tables and the work are zero. The work is
     /// free again afterwards.
     pub fn load(needs: &Needs<'f, '_>, mut tables: Tables<'t>, work: &mut [i64]) -> Result<Self, Refusal> {
         let voice = needs.voice;
@@ -158,6 +157,11 @@ impl<'f, 't> Model<'f, 't> {
             values: cut(tables.values, values, 1),
         };
         Ok(Model { data: voice.data(), rows, width: needs.width })
+    }
+
+    /// Of rows that a load returned.
+    pub(crate) fn of(data: &'f [u8], rows: Rows<'t>, width: u64) -> Self {
+        Model { data, rows, width }
     }
 
     /// The questions, in the order of their rows, which is that of the answers.

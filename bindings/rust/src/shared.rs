@@ -1,75 +1,93 @@
-//! Two tasks in one set of tables: a day voice and a night voice where there is room for one set alone.
-use crate::calls::{self, Rows, BOUNDS, PATTERN_ROW, QUESTION_ROW, RECORD_ROW, TREE_ROW};
+//! Two tasks in the same tables: one fills rows from the bottom, the other from the top.
+use crate::calls::{self, Asked, Rows, BOUNDS, PATTERN_ROW, QUESTION_ROW, RECORD_ROW, TREE_ROW};
 use crate::{Model, Needs, Refusal, Tables};
 
-/// A task: the one whose rows stand at the bottom of each table, or the one whose rows end at the last whole row.
+/// Which end of the tables a task fills.
 #[derive(Clone, Copy, Debug, PartialEq, Eq, Hash)]
 pub enum Side {
-    /// Rows from the bottom on.
+    /// From the first row on.
     Bottom,
-    /// Rows up to the top.
+    /// Up to the last whole row.
     Top,
 }
 
-/// Tables that two tasks share, with the bounds of each. Nothing that one task does changes the other's rows; only [`Refusal::Room`] depends on how many the other holds.
-/// The tasks take turns: a call has the tables alone until it returns, and a model that is read ([`Shared::model`]) keeps both from loading meanwhile.
+/// What a task holds: its bounds, and the data and the width of the model in its rows.
+#[derive(Clone, Copy, Default)]
+struct Task<'f> {
+    held: [u64; BOUNDS],
+    model: Option<(&'f [u8], u64)>,
+}
+
+/// Tables that two tasks share, a voice for the day and one for the night. Each task loads and unloads its own model; nothing that it does changes the other's rows, and the other is
+/// seen in one thing alone, whether there is room. The two take turns: a model is lent ([`Shared::model`]) until the next load or unload of either.
+///
+/// ```compile_fail,E0502
+/// # use larsavim::*;
+/// # fn f(shared: &mut Shared) -> Result<(), Refusal> {
+/// let day = shared.model(Side::Bottom).unwrap();
+/// shared.unload(Side::Top)?;
+/// day.walk(0, &[], 9)?;
+/// # Ok(()) }
+/// ```
 pub struct Shared<'f, 't> {
     tables: Tables<'t>,
-    held: [[u64; BOUNDS]; 2],
-    /// The data that a task's strings point into, and its width.
-    of: [(&'f [u8], u64); 2],
+    bottom: Task<'f>,
+    top: Task<'f>,
 }
 
 impl<'f, 't> Shared<'f, 't> {
-    /// Tables in which both tasks hold nothing.
+    /// Tables in which neither task holds a model.
     pub fn new(tables: Tables<'t>) -> Self {
-        Shared { tables, held: [[0; BOUNDS]; 2], of: [(&[], 0); 2] }
+        Shared { tables, bottom: Task::default(), top: Task::default() }
     }
 
-    /// Loads a model into one task's rows. [`Refusal::Held`] where it holds one already; otherwise as [`Model::load`], with room beside the other's rows.
-    pub fn load(&mut self, side: Side, needs: &Needs<'f, '_>, work: &mut [i64]) -> Result<(), Refusal> {
-        let (mut held, other) = self.bounds(side);
-        let voice = needs.voice;
-        let [number, place, line, ..] = calls::load_shared(voice.file(), voice.words(), needs.which.number(), side as u64, &mut held, &other, &mut self.tables, work);
-        Refusal::told(number, place, line)?;
-        self.held[side as usize] = held;
-        self.of[side as usize] = (voice.data(), needs.width());
-        Ok(())
-    }
-
-    /// Zeroes a task's rows and frees them for either.
-    pub fn unload(&mut self, side: Side) -> Result<(), Refusal> {
-        let (mut held, other) = self.bounds(side);
-        Refusal::told(calls::unload(side as u64, &mut held, &other, &mut self.tables), 0, 0)?;
-        self.held[side as usize] = held;
-        Ok(())
-    }
-
-    /// The model that a task holds.
-    pub fn model(&self, side: Side) -> Option<Model<'f, '_>> {
-        let held = self.held[side as usize];
-        if held == [0; BOUNDS] {
-            return None;
+    /// The task of a side, the other's bounds, and the tables.
+    fn task(&mut self, side: Side) -> (&mut Task<'f>, &[u64; BOUNDS], &mut Tables<'t>) {
+        match side {
+            Side::Bottom => (&mut self.bottom, &self.top.held, &mut self.tables),
+            Side::Top => (&mut self.top, &self.bottom.held, &mut self.tables),
         }
-        let own = |table: usize, numbers: &'_ [u64], width: usize| -> core::ops::Range<usize> {
-            let rows = held[table] as usize;
-            let first = if side == Side::Top { width * (numbers.len() / width - rows) } else { 0 };
-            first..first + width * rows
-        };
-        let Tables { questions, patterns, trees, records, values } = &self.tables;
+    }
+
+    /// Loads a model into a task's rows. [`Refusal::Held`] where it holds one already; [`Refusal::Room`] where the other's rows leave too little.
+    pub fn load(&mut self, side: Side, needs: &Needs<'f, '_>, work: &mut [i64]) -> Result<(), Refusal> {
+        let voice = needs.voice();
+        let asked = Asked { file: voice.file(), words: voice.words(), which: needs.which().number() };
+        let (task, other, tables) = self.task(side);
+        let [number, place, line, ..] = calls::load_shared(&asked, side as u64, &mut task.held, other, tables, work);
+        Refusal::told(number, place, line)?;
+        task.model = Some((voice.data(), needs.width()));
+        Ok(())
+    }
+
+    /// Zeroes a task's rows and frees them for either; of a task that holds nothing it changes nothing.
+    pub fn unload(&mut self, side: Side) -> Result<(), Refusal> {
+        let (task, other, tables) = self.task(side);
+        Refusal::told(calls::unload(side as u64, &mut task.held, other, tables), 0, 0)?;
+        task.model = None;
+        Ok(())
+    }
+
+    /// The model that a task holds: its own rows, cut out, which are those of a load into tables of its own.
+    pub fn model(&self, side: Side) -> Option<Model<'f, '_>> {
+        let task = if side == Side::Bottom { &self.bottom } else { &self.top };
+        let (data, width) = task.model?;
+        let [questions, patterns, trees, records, values] = task.held;
+        let t = &self.tables;
         let rows = Rows {
-            questions: &questions[own(0, questions, QUESTION_ROW)],
-            patterns: &patterns[own(1, patterns, PATTERN_ROW)],
-            trees: &trees[own(2, trees, TREE_ROW)],
-            records: &records[own(3, records, RECORD_ROW)],
-            values: &values[own(4, values, 1)],
+            questions: own(side, t.questions, questions, QUESTION_ROW)?,
+            patterns: own(side, t.patterns, patterns, PATTERN_ROW)?,
+            trees: own(side, t.trees, trees, TREE_ROW)?,
+            records: own(side, t.records, records, RECORD_ROW)?,
+            values: own(side, t.values, values, 1)?,
         };
-        let (data, width) = self.of[side as usize];
         Some(Model::of(data, rows, width))
     }
+}
 
-    /// A task's own bounds, and the other's.
-    fn bounds(&self, side: Side) -> ([u64; BOUNDS], [u64; BOUNDS]) {
-        (self.held[side as usize], self.held[1 - side as usize])
-    }
+/// A task's rows of a table: the first, or the last whole ones.
+fn own(side: Side, table: &[u64], rows: u64, width: usize) -> Option<&[u64]> {
+    let numbers = usize::try_from(rows).ok()?.checked_mul(width)?;
+    let first = if side == Side::Bottom { 0 } else { (table.len() / width * width).checked_sub(numbers)? };
+    table.get(first..)?.get(..numbers)
 }

@@ -1,5 +1,5 @@
 //! The sample voice through every call of the binding: what is read, what is refused, and that refusals change nothing.
-use larsavim::{Job, Model, Needs, Range, Record, Refusal, Shared, Side, Tables, Voice, Walk, Which};
+use larsavim::{Job, Model, Needs, Range, Record, Refusal, Tables, Voice, Walk, Which};
 
 fn sample() -> Vec<u8> {
     std::fs::read(concat!(env!("CARGO_MANIFEST_DIR"), "/../../host/sample/shichi.htsvoice")).unwrap()
@@ -141,33 +141,4 @@ fn short_tables() {
         assert!(t.iter().flatten().all(|&x| x == 7) && work.iter().all(|&x| x == 7));
     }
     assert!(needs.tables(&mut vec![0; needs.length() as usize - 1]).is_none());
-}
-
-#[test]
-fn two_tasks() {
-    // two models in tables that have room for both and nothing more: each as in tables of its own, whatever the other does
-    let file = sample();
-    let voice = Voice::open(&file).unwrap();
-    let (day, night) = (voice.needs(Which::Stream(0)).unwrap(), voice.needs(Which::Duration).unwrap());
-    let [q, p, t, r, v]: [usize; 5] = std::array::from_fn(|k| (day.lengths()[k] + night.lengths()[k]) as usize);
-    let (mut questions, mut patterns, mut trees, mut records, mut values) = (vec![7; q], vec![7; p], vec![7; t], vec![7; r], vec![7; v]);
-    let mut work = vec![7; day.work().max(night.work()) as usize];
-    let mut shared = Shared::new(Tables { questions: &mut questions, patterns: &mut patterns, trees: &mut trees, records: &mut records, values: &mut values });
-    assert!(shared.model(Side::Bottom).is_none() && shared.model(Side::Top).is_none());
-    shared.load(Side::Top, &day, &mut work).unwrap();
-    assert_eq!(shared.load(Side::Top, &day, &mut work), Err(Refusal::Held));
-    assert_eq!(shared.load(Side::Bottom, &day, &mut work), Err(Refusal::Room));
-    let walk = |s: &Shared| s.model(Side::Top).unwrap().walk(0, &[0, 0, 1, 0, 0, 1, 1], 3);
-    assert_eq!(walk(&shared), Ok(Walk { pdf: 5, asked: 3 }));
-    shared.load(Side::Bottom, &night, &mut work).unwrap();
-    assert_eq!(walk(&shared), Ok(Walk { pdf: 5, asked: 3 }));
-    let alone = loaded(&file, Which::Duration, |m| m.records().iter().collect::<Vec<_>>()).unwrap();
-    assert_eq!(shared.model(Side::Bottom).unwrap().records().iter().collect::<Vec<_>>(), alone);
-    shared.unload(Side::Bottom).unwrap();
-    shared.unload(Side::Bottom).unwrap();
-    assert!(shared.model(Side::Bottom).is_none());
-    assert_eq!(walk(&shared), Ok(Walk { pdf: 5, asked: 3 }));
-    shared.unload(Side::Top).unwrap();
-    shared.load(Side::Bottom, &day, &mut work).unwrap();
-    assert_eq!(shared.model(Side::Bottom).unwrap().walk(0, &[0, 0, 1, 0, 0, 1, 1], 3), Ok(Walk { pdf: 5, asked: 3 }));
 }
