@@ -84,14 +84,7 @@ fn target_of(s: &[u8], first: usize, n: u64, in_order: bool, index: TreeIndex) -
 }
 
 // A line's question and targets, tested in the order yes, no, question.
-pub fn link_line(
-    s: &[u8],
-    at: usize,
-    first: usize,
-    n: u64,
-    in_order: bool,
-    line: Line,
-) -> LineLink
+pub fn link_line(s: &[u8], at: usize, first: usize, n: u64, in_order: bool, line: Line) -> LineLink
     requires { ⌜ Lines (now s) first n «in_order» ⌝ }
     ensures { λ r. ⌜ r ≡ linkIn (now (s .entry)) (questionsAt (now (s .entry)) at .items) (linesAt (now (s .entry)) first .items) line ⌝ }
 {
@@ -197,14 +190,7 @@ fn both(a: bool, b: bool) -> bool
 }
 
 // All lines: the first that has a fault; else whether every row fits.
-fn judge_lines(
-    s: &[u8],
-    at: usize,
-    first: usize,
-    n: u64,
-    in_order: bool,
-    records: &[u64],
-) -> Judged
+fn judge_lines(s: &[u8], at: usize, first: usize, n: u64, in_order: bool, records: &[u64]) -> Judged
     requires { ⌜ Lines (now s) first n «in_order» ⌝ }
     ensures { λ r. ⌜ r ≡ judgedLines (now (s .entry)) (questionsAt (now (s .entry)) at .items) (linesAt (now (s .entry)) first .items) (now (records .entry)) 0 true (linesAt (now (s .entry)) first .items) ⌝ }
 {

@@ -137,12 +137,20 @@ fn last_named(s: &[u8], first: usize, name: &[u8]) -> Found
     loop {
         match next_name(s, i) {
             NameStep::Next { start, len, next } => {
-                last = found_after(last, same_name(part_or(s, start as u64, len as u64), name), row);
+                last = found_after(
+                    last,
+                    same_name(part_or(s, start as u64, len as u64), name),
+                    row,
+                );
                 row = row + 1;
                 i = next;
             }
             NameStep::Last { start, len } => {
-                return found_after(last, same_name(part_or(s, start as u64, len as u64), name), row);
+                return found_after(
+                    last,
+                    same_name(part_or(s, start as u64, len as u64), name),
+                    row,
+                );
             }
             NameStep::Broken => {
                 return last;

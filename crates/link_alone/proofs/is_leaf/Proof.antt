@@ -1,44 +1,44 @@
+-- `link_alone::is_leaf`: the four tests, one after the other.
+use mathlib.Core.Path.{_≡_, sym, ap, _∙_}
+use mathlib.Core.Bool.{Bool}
+use native.Mathlib.Omega.{arith}
+use borrow.Author.Tests.{lt-ltb, le-ltb, eq-eqb, ne-eqb}
+use lib.Dec.{eqb}
+use Prim.Native.Nat.{ℕ}
+use Rattle.laws.proofs.Every.{not-first, then-second}
+use Rattle.table_rows.specs.Rows.{recordRows, recordKind, recordYes, recordNo}
+use Rattle.link_alone.specs.Alone.{isLeaf}
 use borrow.Author.Needs.{needs}
 use Rattle.link_alone.proofs.is_leaf.Statement.{statement}
 use Rattle.link_alone.proofs.is_leaf.Tie as tie
-use Rattle.link_alone.proofs.is_leaf.Reads as reads
-use Rattle.link_alone.proofs.is_leaf.Lts as lts
-use Rattle.table_rows.proofs.record_kind.Reads as record-kind-reads
-use Rattle.table_rows.proofs.record_no.Reads as record-no-reads
-use Rattle.table_rows.proofs.record_rows.Reads as record-rows-reads
-use Rattle.table_rows.proofs.record_yes.Reads as record-yes-reads
 
--- src/lib.rt:118:8
 record-rows-requires : tie.Need-record-rows-requires
 record-rows-requires c κs = search needs
 
--- src/lib.rt:119:9
 returns : tie.Need-returns
-returns c = ?
+unfolding isLeaf
+returns c = not-first _ (le-ltb (c .before .before .before .args .i) (recordRows (c .before .before .before .args .records .now)) (omega (arith, c .before .record-rows .ensures, c .if1 .taken)))
 
--- src/lib.rt:121:8
 record-kind-requires : tie.Need-record-kind-requires
-record-kind-requires c κs = search needs
+record-kind-requires c κs = omega (arith, c .before .record-rows .ensures, c .if1 .left)
 
--- src/lib.rt:122:9
 returns-2 : tie.Need-returns-2
-returns-2 c = ?
+unfolding isLeaf
+returns-2 c = then-second (lt-ltb (c .before .before .before .before .before .args .i) (recordRows (c .before .before .before .before .before .args .records .now)) (omega (arith, c .before .before .before .record-rows .ensures, c .before .before .if1 .left))) (not-first _ (ne-eqb (recordKind (c .before .before .before .before .before .args .records .now) (c .before .before .before .before .before .args .i)) 1 (λ q. c .if2 .taken (c .before .record-kind .ensures ∙ q))))
 
--- src/lib.rt:124:8
 record-yes-requires : tie.Need-record-yes-requires
-record-yes-requires c κs = search needs
+record-yes-requires c κs = omega (arith, c .before .before .before .record-rows .ensures, c .before .before .if1 .left)
 
--- src/lib.rt:125:9
 returns-3 : tie.Need-returns-3
-returns-3 c = ?
+unfolding isLeaf
+returns-3 c = then-second (lt-ltb (c .before .before .before .before .before .before .before .args .i) (recordRows (c .before .before .before .before .before .before .before .args .records .now)) (omega (arith, c .before .before .before .before .before .record-rows .ensures, c .before .before .before .before .if1 .left))) (then-second (eq-eqb (recordKind (c .before .before .before .before .before .before .before .args .records .now) (c .before .before .before .before .before .before .before .args .i)) 1 (sym (c .before .before .before .record-kind .ensures) ∙ c .before .before .if2 .left)) (not-first _ (ne-eqb (recordYes (c .before .before .before .before .before .before .before .args .records .now) (c .before .before .before .before .before .before .before .args .i)) 0 (λ q. c .if3 .taken (c .before .record-yes .ensures ∙ q)))))
 
--- src/lib.rt:127:5
 record-no-requires : tie.Need-record-no-requires
-record-no-requires c κs = search needs
+record-no-requires c κs = omega (arith, c .before .before .before .before .before .record-rows .ensures, c .before .before .before .before .if1 .left)
 
--- src/lib.rt:115:1
 returns-4 : tie.Need-returns-4
-returns-4 c = ?
+unfolding isLeaf
+returns-4 c = then-second (lt-ltb (c .before .before .before .before .before .before .before .before .args .i) (recordRows (c .before .before .before .before .before .before .before .before .args .records .now)) (omega (arith, c .before .before .before .before .before .before .record-rows .ensures, c .before .before .before .before .before .if1 .left))) (then-second (eq-eqb (recordKind (c .before .before .before .before .before .before .before .before .args .records .now) (c .before .before .before .before .before .before .before .before .args .i)) 1 (sym (c .before .before .before .before .record-kind .ensures) ∙ c .before .before .before .if2 .left)) (then-second (eq-eqb (recordYes (c .before .before .before .before .before .before .before .before .args .records .now) (c .before .before .before .before .before .before .before .before .args .i)) 0 (sym (c .before .before .record-yes .ensures) ∙ c .before .if3 .left)) (ap (λ (x : ℕ). eqb x 0) (c .record-no .ensures))))
 
 pub is-leaf-spec : {M : Type 1} → statement M
 is-leaf-spec =

@@ -1,26 +1,36 @@
+-- `link_alone::is_leaf_of`: a leaf, and its number.
+use mathlib.Core.Path.{_≡_, sym, ap, _∙_}
+use native.Mathlib.Omega.{arith}
+use borrow.Author.Tests.{not-true, not-false, ltb-true}
+use lib.Dec.{eqb, ltb}
+use Prim.Native.Nat.{ℕ}
+use Rattle.laws.proofs.Every.{not-first, then-second, first-of}
+use Rattle.table_rows.specs.Rows.{recordRows}
+use Rattle.link_alone.specs.Alone.{isLeaf, leafOf}
+use Rattle.link_alone.proofs.Judging.{leaf-there}
 use borrow.Author.Needs.{needs}
 use Rattle.link_alone.proofs.is_leaf_of.Statement.{statement}
 use Rattle.link_alone.proofs.is_leaf_of.Tie as tie
-use Rattle.link_alone.proofs.is_leaf_of.Reads as reads
-use Rattle.link_alone.proofs.is_leaf_of.Lts as lts
-use Rattle.link_alone.proofs.is_leaf.Reads as is-leaf-reads
-use Rattle.table_rows.proofs.record_pdf.Reads as record-pdf-reads
 
--- src/lib.rt:134:9
 is-leaf-requires : tie.Need-is-leaf-requires
 is-leaf-requires c κs = search needs
 
--- src/lib.rt:135:9
 returns : tie.Need-returns
-returns c = ?
+unfolding leafOf
+returns c = not-first _ (sym (c .before .is-leaf .ensures) ∙ not-true _ (c .if1 .taken))
 
--- src/lib.rt:137:5
 record-pdf-requires : tie.Need-record-pdf-requires
-record-pdf-requires c κs = ?
+record-pdf-requires c κs = leaf-there (c .before .before .before .args .records .now) (c .before .before .before .args .i) (sym (c .before .is-leaf .ensures) ∙ not-false _ (c .if1 .left))
 
--- src/lib.rt:131:1
 returns-2 : tie.Need-returns-2
-returns-2 c = ?
+unfolding leafOf
+returns-2 c = then-second (sym (c .before .before .is-leaf .ensures) ∙ not-false _ (c .before .if1 .left)) (ap (λ (x : ℕ). eqb x (c .before .before .before .before .args .number)) (c .record-pdf .ensures))
 
 pub is-leaf-of-spec : {M : Type 1} → statement M
-is-leaf-of-spec = tie.close (tie.spec is-leaf-requires returns record-pdf-requires returns-2)
+is-leaf-of-spec =
+    tie.close
+    (tie.spec
+    is-leaf-requires
+    returns
+    record-pdf-requires
+    returns-2)

@@ -1,44 +1,39 @@
+-- `link_alone::judge_alone`: a PDF is one leaf, a node is refused.
+use mathlib.Core.Path.{_≡_, refl, sym, ap, ap₂, _∙_}
+use mathlib.Core.Bool.{Bool, _&&_}
+use Prim.Native.Nat.{ℕ}
+use lib.Dec.{eqb}
+use Rattle.laws.proofs.Signed.{back}
+use Rattle.link_targets.specs.Lines.{natOf}
+use Rattle.link_alone.specs.Alone.{leafOf, judgedAlone}
+use Rattle.link_alone.specs.declared.Judged.the-variants.{Told}
 use borrow.Author.Needs.{needs}
 use Rattle.link_alone.proofs.judge_alone.Statement.{statement}
 use Rattle.link_alone.proofs.judge_alone.Tie as tie
-use Rattle.link_alone.proofs.judge_alone.Reads as reads
-use Rattle.link_alone.proofs.judge_alone.Lts as lts
-use Rattle.link_alone.proofs.both.Reads as both-reads
-use Rattle.link_alone.proofs.is_leaf_of.Reads as is-leaf-of-reads
-use Rattle.link_targets.proofs.natural.Reads as natural-reads
-use Rattle.table_rows.proofs.record_rows.Reads as record-rows-reads
 
--- src/lib.rt:279:24
 enum-known-index : tie.Need-enum-known-index
 enum-known-index c = search needs
 
--- src/lib.rt:280:23
 record-rows-requires : tie.Need-record-rows-requires
 record-rows-requires c κs = search needs
 
--- src/lib.rt:281:59
 natural-requires : tie.Need-natural-requires
 natural-requires c κs = search needs
 
--- src/lib.rt:281:36
 is-leaf-of-requires : tie.Need-is-leaf-of-requires
 is-leaf-of-requires c κs = search needs
 
--- src/lib.rt:281:26
 both-requires : tie.Need-both-requires
 both-requires c κs = search needs
 
--- src/lib.rt:283:31
 enum-told : tie.Need-enum-told
 enum-told c = search needs
 
--- src/lib.rt:275:1
 returns : tie.Need-returns
-returns c = ?
+returns c = ap Told (c .both .ensures ∙ ap₂ _&&_ (ap (λ (x : ℕ). eqb x 1) (c .before .before .before .record-rows .ensures)) (c .before .is-leaf-of .ensures ∙ ap (λ (x : ℕ). leafOf (c .before .before .before .before .before .before .before .before .args .records .now) x 0) (c .before .before .natural .ensures ∙ ap natOf (back (c .before .before .before .before .before .index .given .0 .0) (c .before .before .before .before .known-told .given .0 .1))))) ∙ sym (ap (judgedAlone (c .before .before .before .before .before .before .before .before .args .records .now)) (c .before .before .before .before .before .index .given .1))
 
--- src/lib.rt:275:1
 returns-2 : tie.Need-returns-2
-returns-2 c = search needs
+returns-2 c = sym (ap (judgedAlone (c .before .before .before .args .records .now)) (c .enum-told .given .1))
 
 pub judge-alone-spec : {M : Type 1} → statement M
 judge-alone-spec =

@@ -1,101 +1,84 @@
+-- `link_alone::judge_lines`: what is judged, and what is still to be judged, come to the same.
+use mathlib.Core.Path.{_≡_, refl, sym, ap, _∙_}
+use Prim.Native.Nat.{_-_}
+use native.Mathlib.Omega.{arith}
+use lib.ListN.{length}
+use Rattle.tree_question.specs.Questions.{questionsAt}
+use Rattle.tree_line.specs.Lines.{linesAt}
+use Rattle.tree_survey_lines.proofs.Counting.{next-in}
+use Rattle.link_alone.proofs.Judging.{Going, judged-on, judged-node, judged-question, judged-lone, judged-last, judged-none}
+use borrow.Author.Needs.{needs}
 use Rattle.link_alone.proofs.judge_lines.Statement.{statement}
 use Rattle.link_alone.proofs.judge_lines.Tie as tie
-use Rattle.link_alone.proofs.judge_lines.Reads as reads
-use Rattle.link_alone.proofs.judge_lines.Lts as lts
-use Rattle.link_alone.proofs.both.Reads as both-reads
-use Rattle.link_alone.proofs.judge_line.Reads as judge-line-reads
-use Rattle.link_alone.proofs.last_judged.Reads as last-judged-reads
-use Rattle.tree_line.proofs.next_line.Reads as next-line-reads
 
 abbrev Inv-loop : tie.InvT-loop
-Inv-loop s at first n in-order records i₀ k₀ fits₀ i k fits = ?
+Inv-loop s at first n «in_order» records i₀ k₀ fits₀ i k fits = Going s (questionsAt s at .items) (linesAt s first .items) records i k fits
 
 abbrev μ-loop : tie.MeasureT-loop
-μ-loop s at first n in-order records i₀ k₀ fits₀ i k fits = ?
+μ-loop s at first n «in_order» records i₀ k₀ fits₀ i k fits = length s - i
 
--- src/lib.rt:214:5
 loop-holds : tie.Need-loop-holds Inv-loop μ-loop
-loop-holds c = ?
+loop-holds c = record { same = refl; few = omega arith }
 
--- src/lib.rt:215:15
 next-line-requires : tie.Need-next-line-requires Inv-loop μ-loop
-next-line-requires c κs = ?
+next-line-requires c κs = search needs
 
--- src/lib.rt:216:30
 enum-known-line : tie.Need-enum-known-line Inv-loop μ-loop
-enum-known-line c = ?
+enum-known-line c = search needs
 
--- src/lib.rt:217:23
 judge-line-requires : tie.Need-judge-line-requires Inv-loop μ-loop
-judge-line-requires c κs = ?
+judge-line-requires c κs = c .before .before .before .before .before .before .before .pre
 
--- src/lib.rt:218:34
 enum-known-fit : tie.Need-enum-known-fit Inv-loop μ-loop
-enum-known-fit c = ?
+enum-known-fit c = search needs
 
--- src/lib.rt:219:25
 both-requires : tie.Need-both-requires Inv-loop μ-loop
-both-requires c κs = ?
+both-requires c κs = search needs
 
--- src/lib.rt:220:29
 add-k : tie.Need-add-k Inv-loop μ-loop
-add-k c = ?
+add-k c = omega (arith, next-in _ _ (sym (c .before .before .before .before .before .before .line .given .1) ∙ c .before .before .before .before .before .before .before .before .next-line .ensures), c .before .before .before .before .before .before .before .before .before .loop .inv .few, c .before .before .before .before .before .before .before .before .before .before .before .before .good)
 
--- src/lib.rt:214:5
 loop-less : tie.Need-loop-less Inv-loop μ-loop
-loop-less c = ?
+loop-less c = omega (arith, next-in _ _ (sym (c .before .before .before .before .before .before .line .given .1) ∙ c .before .before .before .before .before .before .before .before .next-line .ensures))
 
--- src/lib.rt:214:5
 loop-again : tie.Need-loop-again Inv-loop μ-loop
-loop-again c = ?
+loop-again c = judged-on _ _ _ _ (c .before .before .before .before .before .before .before .before .before .loop .inv) (sym (c .before .before .before .before .before .before .line .given .1) ∙ c .before .before .before .before .before .before .before .before .next-line .ensures) (c .before .before .before .before .judge-line .ensures) (sym (c .before .before .fit .given .1)) (c .both .ensures) (omega (arith, next-in _ _ (sym (c .before .before .before .before .before .before .line .given .1) ∙ c .before .before .before .before .before .before .before .before .next-line .ensures)))
 
--- src/lib.rt:223:37
 enum-known-line-2 : tie.Need-enum-known-line-2 Inv-loop μ-loop
-enum-known-line-2 c = ?
+enum-known-line-2 c = search needs
 
--- src/lib.rt:224:25
 returns : tie.Need-returns Inv-loop μ-loop
-returns c = ?
+returns c = judged-node _ _ _ _ (c .before .before .before .before .before .before .before .before .loop .inv) (sym (c .before .before .before .before .before .line .given .1) ∙ c .before .before .before .before .before .before .before .next-line .ensures) (c .before .before .before .judge-line .ensures) (sym (c .before .line2 .given .1))
 
--- src/lib.rt:226:41
 enum-known-line-3 : tie.Need-enum-known-line-3 Inv-loop μ-loop
-enum-known-line-3 c = ?
+enum-known-line-3 c = search needs
 
--- src/lib.rt:227:25
 returns-2 : tie.Need-returns-2 Inv-loop μ-loop
-returns-2 c = ?
+returns-2 c = judged-question _ _ _ _ (c .before .before .before .before .before .before .before .before .loop .inv) (sym (c .before .before .before .before .before .line .given .1) ∙ c .before .before .before .before .before .before .before .next-line .ensures) (c .before .before .before .judge-line .ensures) (sym (c .before .line3 .given .1))
 
--- src/lib.rt:230:25
 enum-told : tie.Need-enum-told Inv-loop μ-loop
-enum-told c = ?
+enum-told c = search needs
 
--- src/lib.rt:230:25
 returns-3 : tie.Need-returns-3 Inv-loop μ-loop
-returns-3 c = ?
+returns-3 c = judged-lone _ _ _ _ (c .before .before .before .before .before .before .before .loop .inv) (sym (c .before .before .before .before .line .given .1) ∙ c .before .before .before .before .before .before .next-line .ensures) (c .before .before .judge-line .ensures) (sym (c .enum-told .given .1))
 
--- src/lib.rt:234:30
 enum-known-line-4 : tie.Need-enum-known-line-4 Inv-loop μ-loop
-enum-known-line-4 c = ?
+enum-known-line-4 c = search needs
 
--- src/lib.rt:236:21
 judge-line-requires-2 : tie.Need-judge-line-requires-2 Inv-loop μ-loop
-judge-line-requires-2 c κs = ?
+judge-line-requires-2 c κs = c .before .before .before .before .before .before .before .pre
 
--- src/lib.rt:235:17
 last-judged-requires : tie.Need-last-judged-requires Inv-loop μ-loop
-last-judged-requires c κs = ?
+last-judged-requires c κs = search needs
 
--- src/lib.rt:235:17
 returns-4 : tie.Need-returns-4 Inv-loop μ-loop
-returns-4 c = ?
+returns-4 c = judged-last _ _ _ _ (c .before .before .before .before .before .before .loop .inv) (sym (c .before .before .before .line4 .given .1) ∙ c .before .before .before .before .before .next-line .ensures) (c .before .judge-line2 .ensures) (c .last-judged .ensures)
 
--- src/lib.rt:241:17
 enum-told-2 : tie.Need-enum-told-2 Inv-loop μ-loop
-enum-told-2 c = ?
+enum-told-2 c = search needs
 
--- src/lib.rt:241:17
 returns-5 : tie.Need-returns-5 Inv-loop μ-loop
-returns-5 c = ?
+returns-5 c = judged-none _ _ _ _ (c .before .before .before .loop .inv) (sym (c .enum-told2 .given .1) ∙ c .before .before .next-line .ensures)
 
 pub judge-lines-spec : {M : Type 1} → statement M
 judge-lines-spec =

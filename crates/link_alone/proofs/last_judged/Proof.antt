@@ -1,45 +1,37 @@
+-- `link_alone::last_judged`: by what was judged.
+use mathlib.Core.Path.{_≡_, sym, ap, _∙_}
+use Rattle.link_alone.specs.Alone.{ended}
+use Rattle.link_alone.specs.declared.Judged.the-variants.{Told}
 use borrow.Author.Needs.{needs}
 use Rattle.link_alone.proofs.last_judged.Statement.{statement}
 use Rattle.link_alone.proofs.last_judged.Tie as tie
-use Rattle.link_alone.proofs.last_judged.Reads as reads
-use Rattle.link_alone.proofs.last_judged.Lts as lts
-use Rattle.link_alone.proofs.both.Reads as both-reads
 
--- src/lib.rt:252:22
 enum-known-judged : tie.Need-enum-known-judged
 enum-known-judged c = search needs
 
--- src/lib.rt:252:43
 both-requires : tie.Need-both-requires
 both-requires c κs = search needs
 
--- src/lib.rt:253:25
 enum-known-judged-2 : tie.Need-enum-known-judged-2
 enum-known-judged-2 c = search needs
 
--- src/lib.rt:254:29
 enum-known-judged-3 : tie.Need-enum-known-judged-3
 enum-known-judged-3 c = search needs
 
--- src/lib.rt:255:29
 enum-told : tie.Need-enum-told
 enum-told c = search needs
 
--- src/lib.rt:248:1
 returns : tie.Need-returns
-returns c = ?
+returns c = ap Told (c .both .ensures) ∙ sym (ap (ended (c .before .before .before .before .args .fits)) (c .before .before .judged .given .1))
 
--- src/lib.rt:248:1
 returns-2 : tie.Need-returns-2
-returns-2 c = ?
+returns-2 c = sym (ap (ended (c .before .before .before .args .fits)) (c .before .judged2 .given .1))
 
--- src/lib.rt:248:1
 returns-3 : tie.Need-returns-3
-returns-3 c = ?
+returns-3 c = sym (ap (ended (c .before .before .before .args .fits)) (c .before .judged3 .given .1))
 
--- src/lib.rt:248:1
 returns-4 : tie.Need-returns-4
-returns-4 c = search needs
+returns-4 c = sym (ap (ended (c .before .before .args .fits)) (c .enum-told .given .1))
 
 pub last-judged-spec : {M : Type 1} → statement M
 last-judged-spec =

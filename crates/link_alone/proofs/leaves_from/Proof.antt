@@ -1,47 +1,46 @@
+-- `link_alone::leaves_from`: the rest is tested as all are.
+use mathlib.Core.Path.{_≡_, sym, ap, _∙_}
+use Prim.Native.Nat.{_-_, _≤_}
+use native.Mathlib.Omega.{arith}
+use borrow.Author.Tests.{not-true, not-false}
+use Rattle.laws.proofs.Every.{Going, going-none, going-on, going-off, going-end}
+use Rattle.table_rows.specs.Rows.{recordRows}
+use Rattle.link_alone.specs.Alone.{isLeaf, leavesFrom}
+use borrow.Author.Needs.{needs}
 use Rattle.link_alone.proofs.leaves_from.Statement.{statement}
 use Rattle.link_alone.proofs.leaves_from.Tie as tie
-use Rattle.link_alone.proofs.leaves_from.Reads as reads
-use Rattle.link_alone.proofs.leaves_from.Lts as lts
-use Rattle.link_alone.proofs.is_leaf.Reads as is-leaf-reads
-use Rattle.table_rows.proofs.record_rows.Reads as record-rows-reads
 
 abbrev Inv-loop : tie.InvT-loop
-Inv-loop records n rows i₀ i = ?
+Inv-loop records n rows₀ i₀ i = Going (isLeaf records) n (recordRows records) i
 
 abbrev μ-loop : tie.MeasureT-loop
-μ-loop records n rows i₀ i = ?
+μ-loop records n rows₀ i₀ i = recordRows records - i
 
--- src/lib.rt:263:9
 record-rows-requires : tie.Need-record-rows-requires Inv-loop μ-loop
-record-rows-requires c κs = ?
+record-rows-requires c κs = search needs
 
--- src/lib.rt:265:5
 loop-holds : tie.Need-loop-holds Inv-loop μ-loop
-loop-holds c = ?
+loop-holds c = going-none _ _ _
 
--- src/lib.rt:266:13
 is-leaf-requires : tie.Need-is-leaf-requires Inv-loop μ-loop
-is-leaf-requires c κs = ?
+is-leaf-requires c κs = search needs
 
--- src/lib.rt:267:13
 returns : tie.Need-returns Inv-loop μ-loop
-returns c = ?
+unfolding leavesFrom
+returns c = going-off _ _ _ _ (c .before .before .before .loop .inv) (omega (arith, c .before .before .before .before .record-rows .ensures, c .before .before .loop-test .taken)) (sym (c .before .is-leaf .ensures) ∙ not-true _ (c .if1 .taken))
 
--- src/lib.rt:269:13
 add-i : tie.Need-add-i Inv-loop μ-loop
-add-i c = ?
+add-i c = search needs
 
--- src/lib.rt:265:5
 loop-less : tie.Need-loop-less Inv-loop μ-loop
-loop-less c = ?
+loop-less c = omega (arith, c .before .before .before .before .record-rows .ensures, c .before .before .loop-test .taken)
 
--- src/lib.rt:265:5
 loop-again : tie.Need-loop-again Inv-loop μ-loop
-loop-again c = ?
+loop-again c = going-on _ _ _ _ (c .before .before .before .loop .inv) (omega (arith, c .before .before .before .before .record-rows .ensures, c .before .before .loop-test .taken)) (sym (c .before .is-leaf .ensures) ∙ not-false _ (c .if1 .left))
 
--- src/lib.rt:260:1
 returns-2 : tie.Need-returns-2 Inv-loop μ-loop
-returns-2 c = ?
+unfolding leavesFrom
+returns-2 c = going-end _ _ _ _ (c .before .loop .inv) (omega (arith, c .before .before .record-rows .ensures, c .loop-test .left))
 
 pub leaves-from-spec : {M : Type 1} → statement M
 leaves-from-spec =

@@ -1,60 +1,77 @@
+-- `link_alone::link_line`: the first of the three tests that fails, or the line's question and targets.
+use mathlib.Core.Path.{_≡_, refl, sym, ap, ap₂, _∙_}
+use mathlib.Core.Bool.{Bool, true, false, cond}
+use mathlib.Core.List.{List}
+use Prim.Native.Nat.{ℕ}
+use Rattle.written.specs.Said.{QuestionPlace}
+use Rattle.tree_line.specs.declared.Line.{Line}
+use Rattle.link_order.specs.Keys.{partOr}
+use Rattle.link_search.specs.declared.Found.{Found}
+use Rattle.link_search.specs.declared.Found.the-variants.{At, Nothing}
+use Rattle.link_find.specs.Find.{asked}
+use Rattle.link_alone.specs.Alone.{nowhere, targetIn, linkAsked, linkOf, linkIn}
+use Rattle.link_alone.specs.declared.Target.{Target}
+use Rattle.link_alone.specs.declared.LineLink.{LineLink}
+use Rattle.link_alone.specs.declared.LineLink.the-variants as link
 use borrow.Author.Needs.{needs}
 use Rattle.link_alone.proofs.link_line.Statement.{statement}
 use Rattle.link_alone.proofs.link_line.Tie as tie
-use Rattle.link_alone.proofs.link_line.Reads as reads
-use Rattle.link_alone.proofs.link_line.Lts as lts
-use Rattle.link_alone.proofs.is_nowhere.Reads as is-nowhere-reads
-use Rattle.link_alone.proofs.target_of.Reads as target-of-reads
-use Rattle.link_find.proofs.last_question.Reads as last-question-reads
-use Rattle.link_order.proofs.part_or.Reads as part-or-reads
 
--- src/lib.rt:100:9
+module _ (s : List ℕ) (qs : List QuestionPlace) (ls : List Line) (l : Line) {y : Target} (p : y ≡ targetIn ls (l .yes)) where
+  yes-nowhere : {b : Bool} → b ≡ nowhere y → b ≡ true → link.NodeRef ≡ linkIn s qs ls l
+  unfolding linkIn linkOf
+  yes-nowhere e h = sym (ap (λ (x : Bool). cond x link.NodeRef (cond (nowhere (targetIn ls (l .no))) link.NodeRef (linkAsked (targetIn ls (l .yes)) (targetIn ls (l .no)) (asked s (partOr s (l .start) (l .len)) qs)))) (ap nowhere (sym p) ∙ sym e ∙ h))
+
+  module _ {n : Target} (q : n ≡ targetIn ls (l .no)) {b : Bool} (e : b ≡ nowhere y) (h : b ≡ false) where
+    past-yes : linkIn s qs ls l ≡ cond (nowhere n) link.NodeRef (linkAsked y n (asked s (partOr s (l .start) (l .len)) qs))
+    unfolding linkIn linkOf
+    past-yes =
+        ap₂ (λ (u v : Target). linkOf u v (asked s (partOr s (l .start) (l .len)) qs)) (sym p) (sym q)
+        ∙ ap (λ (x : Bool). cond x link.NodeRef (cond (nowhere n) link.NodeRef (linkAsked y n (asked s (partOr s (l .start) (l .len)) qs)))) (sym e ∙ h)
+
+    no-nowhere : {c : Bool} → c ≡ nowhere n → c ≡ true → link.NodeRef ≡ linkIn s qs ls l
+    no-nowhere f k = sym (past-yes ∙ ap (λ (x : Bool). cond x link.NodeRef (linkAsked y n (asked s (partOr s (l .start) (l .len)) qs))) (sym f ∙ k))
+
+    then-asked : {c : Bool} → c ≡ nowhere n → c ≡ false → {r : Found} {w : List ℕ} → w ≡ partOr s (l .start) (l .len) → r ≡ asked s w qs → linkAsked y n r ≡ linkIn s qs ls l
+    then-asked f k w t =
+        ap (linkAsked y n) (t ∙ ap (λ (x : List ℕ). asked s x qs) w)
+        ∙ sym (past-yes ∙ ap (λ (x : Bool). cond x link.NodeRef (linkAsked y n (asked s (partOr s (l .start) (l .len)) qs))) (sym f ∙ k))
+
 target-of-requires : tie.Need-target-of-requires
 target-of-requires c κs = search needs
 
--- src/lib.rt:101:8
 is-nowhere-requires : tie.Need-is-nowhere-requires
 is-nowhere-requires c κs = search needs
 
--- src/lib.rt:102:9
 returns : tie.Need-returns
-returns c = ?
+returns c = yes-nowhere _ _ _ _ (c .before .before .target-of .ensures) (c .before .is-nowhere .ensures) (c .if1 .taken)
 
--- src/lib.rt:104:9
 target-of-requires-2 : tie.Need-target-of-requires-2
 target-of-requires-2 c κs = search needs
 
--- src/lib.rt:105:8
 is-nowhere-requires-2 : tie.Need-is-nowhere-requires-2
 is-nowhere-requires-2 c κs = search needs
 
--- src/lib.rt:106:9
 returns-2 : tie.Need-returns-2
-returns-2 c = ?
+returns-2 c = no-nowhere _ _ _ _ (c .before .before .before .before .before .target-of .ensures) (c .before .before .target-of2 .ensures) (c .before .before .before .before .is-nowhere .ensures) (c .before .before .before .if1 .left) (c .before .is-nowhere2 .ensures) (c .if2 .taken)
 
--- src/lib.rt:108:32
 part-or-requires : tie.Need-part-or-requires
 part-or-requires c κs = search needs
 
--- src/lib.rt:108:11
 last-question-requires : tie.Need-last-question-requires
 last-question-requires c κs = search needs
 
--- src/lib.rt:109:19
 enum-known-question : tie.Need-enum-known-question
 enum-known-question c = search needs
 
--- src/lib.rt:110:27
 enum-told : tie.Need-enum-told
 enum-told c = search needs
 
--- src/lib.rt:87:1
 returns-3 : tie.Need-returns-3
-returns-3 c = ?
+returns-3 c = sym (ap (linkAsked _ _) (c .before .question .given .1)) ∙ then-asked _ _ _ _ (c .before .before .before .before .before .before .before .before .before .before .target-of .ensures) (c .before .before .before .before .before .before .before .target-of2 .ensures) (c .before .before .before .before .before .before .before .before .before .is-nowhere .ensures) (c .before .before .before .before .before .before .before .before .if1 .left) (c .before .before .before .before .before .before .is-nowhere2 .ensures) (c .before .before .before .before .before .if2 .left) (c .before .before .before .before .part-or .ensures) (c .before .before .before .last-question .ensures)
 
--- src/lib.rt:87:1
 returns-4 : tie.Need-returns-4
-returns-4 c = ?
+returns-4 c = sym (ap (linkAsked (c .before .before .before .before .before .before .before .before .before .target-of .result) (c .before .before .before .before .before .before .target-of2 .result)) (c .enum-told .given .1)) ∙ then-asked _ _ _ _ (c .before .before .before .before .before .before .before .before .before .target-of .ensures) (c .before .before .before .before .before .before .target-of2 .ensures) (c .before .before .before .before .before .before .before .before .is-nowhere .ensures) (c .before .before .before .before .before .before .before .if1 .left) (c .before .before .before .before .before .is-nowhere2 .ensures) (c .before .before .before .before .if2 .left) (c .before .before .before .part-or .ensures) (c .before .before .last-question .ensures)
 
 pub link-line-spec : {M : Type 1} → statement M
 link-line-spec =

@@ -1,62 +1,57 @@
+-- `link_alone::row_fits`: the five tests, one after the other.
+use mathlib.Core.Path.{_≡_, sym, ap, _∙_}
+use mathlib.Core.Bool.{Bool}
+use native.Mathlib.Omega.{arith}
+use borrow.Author.Tests.{lt-ltb, le-ltb, eq-eqb, ne-eqb, not-true, not-false}
+use lib.Dec.{eqb}
+use Prim.Native.Nat.{ℕ}
+use Rattle.laws.proofs.Every.{not-first, then-second}
+use Rattle.table_rows.specs.Rows.{recordRows, recordKind, recordQuestion, recordYes, recordNo}
+use Rattle.link_alone.specs.Alone.{leadsTo, rowFits}
 use borrow.Author.Needs.{needs}
 use Rattle.link_alone.proofs.row_fits.Statement.{statement}
 use Rattle.link_alone.proofs.row_fits.Tie as tie
-use Rattle.link_alone.proofs.row_fits.Reads as reads
-use Rattle.link_alone.proofs.row_fits.Lts as lts
-use Rattle.link_alone.proofs.leads_to.Reads as leads-to-reads
-use Rattle.table_rows.proofs.record_kind.Reads as record-kind-reads
-use Rattle.table_rows.proofs.record_no.Reads as record-no-reads
-use Rattle.table_rows.proofs.record_question.Reads as record-question-reads
-use Rattle.table_rows.proofs.record_rows.Reads as record-rows-reads
-use Rattle.table_rows.proofs.record_yes.Reads as record-yes-reads
 
--- src/lib.rt:155:8
 record-rows-requires : tie.Need-record-rows-requires
 record-rows-requires c κs = search needs
 
--- src/lib.rt:156:9
 returns : tie.Need-returns
-returns c = ?
+unfolding rowFits
+returns c = not-first _ (le-ltb (c .before .before .before .args .k) (recordRows (c .before .before .before .args .records .now)) (omega (arith, c .before .record-rows .ensures, c .if1 .taken)))
 
--- src/lib.rt:158:8
 record-kind-requires : tie.Need-record-kind-requires
-record-kind-requires c κs = search needs
+record-kind-requires c κs = omega (arith, c .before .record-rows .ensures, c .if1 .left)
 
--- src/lib.rt:159:9
 returns-2 : tie.Need-returns-2
-returns-2 c = ?
+unfolding rowFits
+returns-2 c = then-second (lt-ltb (c .before .before .before .before .before .args .k) (recordRows (c .before .before .before .before .before .args .records .now)) (omega (arith, c .before .before .before .record-rows .ensures, c .before .before .if1 .left))) (not-first _ (ne-eqb (recordKind (c .before .before .before .before .before .args .records .now) (c .before .before .before .before .before .args .k)) 0 (λ q. c .if2 .taken (c .before .record-kind .ensures ∙ q))))
 
--- src/lib.rt:161:8
 record-question-requires : tie.Need-record-question-requires
-record-question-requires c κs = search needs
+record-question-requires c κs = omega (arith, c .before .before .before .record-rows .ensures, c .before .before .if1 .left)
 
--- src/lib.rt:162:9
 returns-3 : tie.Need-returns-3
-returns-3 c = ?
+unfolding rowFits
+returns-3 c = then-second (lt-ltb (c .before .before .before .before .before .before .before .args .k) (recordRows (c .before .before .before .before .before .before .before .args .records .now)) (omega (arith, c .before .before .before .before .before .record-rows .ensures, c .before .before .before .before .if1 .left))) (then-second (eq-eqb (recordKind (c .before .before .before .before .before .before .before .args .records .now) (c .before .before .before .before .before .before .before .args .k)) 0 (sym (c .before .before .before .record-kind .ensures) ∙ c .before .before .if2 .left)) (not-first _ (ne-eqb (recordQuestion (c .before .before .before .before .before .before .before .args .records .now) (c .before .before .before .before .before .before .before .args .k)) (c .before .before .before .before .before .before .before .args .question) (λ q. c .if3 .taken (c .before .record-question .ensures ∙ q)))))
 
--- src/lib.rt:164:32
 record-yes-requires : tie.Need-record-yes-requires
-record-yes-requires c κs = search needs
+record-yes-requires c κs = omega (arith, c .before .before .before .before .before .record-rows .ensures, c .before .before .before .before .if1 .left)
 
--- src/lib.rt:164:9
 leads-to-requires : tie.Need-leads-to-requires
 leads-to-requires c κs = search needs
 
--- src/lib.rt:165:9
 returns-4 : tie.Need-returns-4
-returns-4 c = ?
+unfolding rowFits
+returns-4 c = then-second (lt-ltb (c .before .before .before .before .before .before .before .before .before .before .args .k) (recordRows (c .before .before .before .before .before .before .before .before .before .before .args .records .now)) (omega (arith, c .before .before .before .before .before .before .before .before .record-rows .ensures, c .before .before .before .before .before .before .before .if1 .left))) (then-second (eq-eqb (recordKind (c .before .before .before .before .before .before .before .before .before .before .args .records .now) (c .before .before .before .before .before .before .before .before .before .before .args .k)) 0 (sym (c .before .before .before .before .before .before .record-kind .ensures) ∙ c .before .before .before .before .before .if2 .left)) (then-second (eq-eqb (recordQuestion (c .before .before .before .before .before .before .before .before .before .before .args .records .now) (c .before .before .before .before .before .before .before .before .before .before .args .k)) (c .before .before .before .before .before .before .before .before .before .before .args .question) (sym (c .before .before .before .before .record-question .ensures) ∙ c .before .before .before .if3 .left)) (not-first _ (ap (leadsTo (c .before .before .before .before .before .before .before .before .before .before .args .records .now) (c .before .before .before .before .before .before .before .before .before .before .args .yes)) (sym (c .before .before .record-yes .ensures)) ∙ sym (c .before .leads-to .ensures) ∙ not-true _ (c .if4 .taken)))))
 
--- src/lib.rt:167:27
 record-no-requires : tie.Need-record-no-requires
-record-no-requires c κs = search needs
+record-no-requires c κs = omega (arith, c .before .before .before .before .before .before .before .before .record-rows .ensures, c .before .before .before .before .before .before .before .if1 .left)
 
--- src/lib.rt:167:5
 leads-to-requires-2 : tie.Need-leads-to-requires-2
 leads-to-requires-2 c κs = search needs
 
--- src/lib.rt:152:1
 returns-5 : tie.Need-returns-5
-returns-5 c = ?
+unfolding rowFits
+returns-5 c = then-second (lt-ltb (c .before .before .before .before .before .before .before .before .before .before .before .before .args .k) (recordRows (c .before .before .before .before .before .before .before .before .before .before .before .before .args .records .now)) (omega (arith, c .before .before .before .before .before .before .before .before .before .before .record-rows .ensures, c .before .before .before .before .before .before .before .before .before .if1 .left))) (then-second (eq-eqb (recordKind (c .before .before .before .before .before .before .before .before .before .before .before .before .args .records .now) (c .before .before .before .before .before .before .before .before .before .before .before .before .args .k)) 0 (sym (c .before .before .before .before .before .before .before .before .record-kind .ensures) ∙ c .before .before .before .before .before .before .before .if2 .left)) (then-second (eq-eqb (recordQuestion (c .before .before .before .before .before .before .before .before .before .before .before .before .args .records .now) (c .before .before .before .before .before .before .before .before .before .before .before .before .args .k)) (c .before .before .before .before .before .before .before .before .before .before .before .before .args .question) (sym (c .before .before .before .before .before .before .record-question .ensures) ∙ c .before .before .before .before .before .if3 .left)) (then-second (ap (leadsTo (c .before .before .before .before .before .before .before .before .before .before .before .before .args .records .now) (c .before .before .before .before .before .before .before .before .before .before .before .before .args .yes)) (sym (c .before .before .before .before .record-yes .ensures)) ∙ sym (c .before .before .before .leads-to .ensures) ∙ not-false _ (c .before .before .if4 .left)) (c .leads-to2 .ensures ∙ ap (leadsTo (c .before .before .before .before .before .before .before .before .before .before .before .before .args .records .now) (c .before .before .before .before .before .before .before .before .before .before .before .before .args .no)) (c .before .record-no .ensures)))))
 
 pub row-fits-spec : {M : Type 1} → statement M
 row-fits-spec =

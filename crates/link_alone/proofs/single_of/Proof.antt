@@ -1,50 +1,39 @@
+-- `link_alone::single_of`: by the first line.
+use mathlib.Core.Path.{sym, _∙_}
+use Rattle.link_alone.proofs.Judging.{single-many, single-on, single-last, single-broken}
 use borrow.Author.Needs.{needs}
 use Rattle.link_alone.proofs.single_of.Statement.{statement}
 use Rattle.link_alone.proofs.single_of.Tie as tie
-use Rattle.link_alone.proofs.single_of.Reads as reads
-use Rattle.link_alone.proofs.single_of.Lts as lts
-use Rattle.link_alone.proofs.one_of.Reads as one-of-reads
-use Rattle.tree_line.proofs.next_line.Reads as next-line-reads
 
--- src/lib.rt:311:9
 returns : tie.Need-returns
-returns c = ?
+returns c = single-many _ _ _ (c .before .before .pre) (c .if1 .taken)
 
--- src/lib.rt:313:11
 next-line-requires : tie.Need-next-line-requires
 next-line-requires c κs = search needs
 
--- src/lib.rt:314:26
 enum-known-line : tie.Need-enum-known-line
 enum-known-line c = search needs
 
--- src/lib.rt:314:45
 one-of-requires : tie.Need-one-of-requires
 one-of-requires c κs = search needs
 
--- src/lib.rt:315:26
 enum-known-line-2 : tie.Need-enum-known-line-2
 enum-known-line-2 c = search needs
 
--- src/lib.rt:315:45
 one-of-requires-2 : tie.Need-one-of-requires-2
 one-of-requires-2 c κs = search needs
 
--- src/lib.rt:316:29
 enum-told : tie.Need-enum-told
 enum-told c = search needs
 
--- src/lib.rt:306:1
 returns-2 : tie.Need-returns-2
-returns-2 c = ?
+returns-2 c = single-on _ _ _ (c .before .before .before .before .before .before .before .pre) (c .before .before .before .before .before .if1 .left) (sym (c .before .before .line .given .1) ∙ c .before .before .before .before .next-line .ensures) (c .one-of .ensures)
 
--- src/lib.rt:306:1
 returns-3 : tie.Need-returns-3
-returns-3 c = ?
+returns-3 c = single-last _ _ _ (c .before .before .before .before .before .before .before .pre) (sym (c .before .before .line2 .given .1) ∙ c .before .before .before .before .next-line .ensures) (c .one-of2 .ensures)
 
--- src/lib.rt:306:1
 returns-4 : tie.Need-returns-4
-returns-4 c = ?
+returns-4 c = single-broken _ _ _ (c .before .before .before .before .before .pre) (sym (c .enum-told .given .1) ∙ c .before .before .next-line .ensures)
 
 pub single-of-spec : {M : Type 1} → statement M
 single-of-spec =
