@@ -2,3 +2,4 @@ pub mod Laws
 pub mod Determined
 pub mod Partly
 pub mod Depths
+pub mod Accepts

@@ -1,3 +1,4 @@
 pub mod Face
 pub mod Write
 pub mod Depths
+pub mod Accepts

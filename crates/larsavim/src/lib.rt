@@ -16,6 +16,7 @@ use face_write::write_said;
 use label_answers::answers_said;
 use table_put::put2;
 use table_put::put4;
+use walk_accepts::accepts_said;
 use walk_depth::depth_said;
 use walk_leaves::leaves_fit;
 ghost use mathlib.Core.Path.{_≡_};
@@ -29,6 +30,7 @@ ghost use Rattle.load_model.specs.Load.{lent};
 ghost use Rattle.larsavim.specs.Face.{rowsNumbers, neededNumbers, Opens, Comments, Gets, Pairs, Needs, Loads, Walks, Leaves};
 ghost use Rattle.larsavim.specs.Write.{Measures, Writes};
 ghost use Rattle.larsavim.specs.Depths.{DepthTells};
+ghost use Rattle.larsavim.specs.Accepts.{AcceptTells};
 
 // 20: a lent slice is too short.
 const ROOM: u64 = 20;
@@ -53,6 +55,8 @@ const WRITE_NEEDS_OUT: usize = 2;
 const WRITE_OUT: usize = 2;
 
 const DEPTH_OUT: usize = 3;
+
+const ACCEPTS_OUT: usize = 3;
 
 // Three numbers to the front.
 fn put3(out: &mut [u64], a: u64, b: u64, c: u64)
@@ -326,4 +330,22 @@ pub extern "C" fn larsavim_depth(
     let depth = depth_said(trees, records, tree, work);
     put3(out, depth.number, depth.answer, depth.questions);
     depth.number
+}
+
+// Whether record rows that somebody else linked belong to a tree of a tree text.
+#[no_mangle]
+pub extern "C" fn larsavim_accepts(
+    text: &[u8],
+    tree: u64,
+    records: &[u64],
+    out: &mut [u64],
+) -> u64
+    ensures { λ r. ⌜ AcceptTells (now (text .entry)) tree (now (records .entry)) (now (out .entry)) r (now (out .exit)) ⌝ }
+{
+    if out.len() < ACCEPTS_OUT {
+        return ROOM;
+    }
+    let said = accepts_said(text, tree, records);
+    put3(out, said.number, said.place as u64, said.line as u64);
+    said.number
 }

@@ -1,0 +1,3 @@
+pub mod Seeks
+pub mod Lines
+pub mod Rows
