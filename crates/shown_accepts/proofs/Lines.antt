@@ -96,15 +96,15 @@ module _ (s : List ℕ) where
     pub leads : (r : Ref) → RefSmall r → Leads r (targetIn cs (indexOf r))
     leads (pdf n) h = to-leaf
     leads (node x) h =
-        go (seeks {R = LineSaid} {P = λ l. l .id ≡ x} {p = find.bears (idKey x)} bore bear lines 0 Nothing)
+        go (seeks LineSaid (λ l. l .id ≡ x) (find.bears (idKey x)) bore bear lines 0 Nothing)
       where
-        bore : {l : said.Line} {c : code.Line} → LineSaid l c → eqb (idKey (c .id)) (idKey x) ≡ true → l .id ≡ x
-        bore {l} {c} t e = eqZ-true (l .id) x (same-id (l .id) x (t .small) h ∙ ap (λ (y : ℤ). eqb (idKey y) (idKey x)) (sym (t .id)) ∙ e)
+        bore : (l : said.Line) (c : code.Line) → LineSaid l c → eqb (idKey (c .id)) (idKey x) ≡ true → l .id ≡ x
+        bore l c t e = eqZ-true (l .id) x (same-id (l .id) x (t .small) h ∙ ap (λ (y : ℤ). eqb (idKey y) (idKey x)) (sym (t .id)) ∙ e)
 
-        bear : {l : said.Line} {c : code.Line} → LineSaid l c → l .id ≡ x → eqb (idKey (c .id)) (idKey x) ≡ true
-        bear {l} {c} t e = eq-eqb (idKey (c .id)) (idKey x) (ap idKey (t .id ∙ e))
+        bear : (l : said.Line) (c : code.Line) → LineSaid l c → l .id ≡ x → eqb (idKey (c .id)) (idKey x) ≡ true
+        bear l c t e = eq-eqb (idKey (c .id)) (idKey x) (ap idKey (t .id ∙ e))
 
-        go : {r : Found} → Seeks {R = LineSaid} {P = λ (l : said.Line). l .id ≡ x} {p = find.bears (idKey x)} bore bear ls 0 Nothing r → Leads (node x) (toLine r)
+        go : {r : Found} → Seeks (λ (l : said.Line). l .id ≡ x) ls 0 Nothing r → Leads (node x) (toLine r)
         go (hit m l) = let z : m ≡ 0 + m = omega arith in subst (λ (i : ℕ). Leads (node x) (Line i)) z (to-line l)
         go (miss n) = to-none n
 
@@ -127,15 +127,15 @@ module _ (s : List ℕ) where
       of-none : ¬ Asked qs name → Asks name Nothing
 
     pub asks-said : (name w : List ℕ) → w ≡ name → Asks name (find.asked s w ps)
-    asks-said name w e = go (seeks {R = QuestionSaid} {P = λ q. q .name ≡ name} {p = find.named s w} has had asks 0 Nothing)
+    asks-said name w e = go (seeks QuestionSaid (λ q. q .name ≡ name) (find.named s w) has had asks 0 Nothing)
       where
-        has : {q : Question} {p : QuestionPlace} → QuestionSaid q p → same (partOr s (p .name .start) (p .name .len)) w ≡ true → q .name ≡ name
-        has {q} {p} t h = sym (t .name) ∙ true-same (partOr s (p .name .start) (p .name .len)) w h ∙ e
+        has : (q : Question) (p : QuestionPlace) → QuestionSaid q p → same (partOr s (p .name .start) (p .name .len)) w ≡ true → q .name ≡ name
+        has q p t h = sym (t .name) ∙ true-same (partOr s (p .name .start) (p .name .len)) w h ∙ e
 
-        had : {q : Question} {p : QuestionPlace} → QuestionSaid q p → q .name ≡ name → same (partOr s (p .name .start) (p .name .len)) w ≡ true
-        had {q} {p} t h = ap (λ (x : List ℕ). same x w) (t .name ∙ h ∙ sym e) ∙ same-true w
+        had : (q : Question) (p : QuestionPlace) → QuestionSaid q p → q .name ≡ name → same (partOr s (p .name .start) (p .name .len)) w ≡ true
+        had q p t h = ap (λ (x : List ℕ). same x w) (t .name ∙ h ∙ sym e) ∙ same-true w
 
-        go : {r : Found} → Seeks {R = QuestionSaid} {P = λ (q : Question). q .name ≡ name} {p = find.named s w} has had qs 0 Nothing r → Asks name r
+        go : {r : Found} → Seeks (λ (q : Question). q .name ≡ name) qs 0 Nothing r → Asks name r
         go (hit m l) = let z : m ≡ 0 + m = omega arith in subst (λ (i : ℕ). Asks name (At i)) z (of-row l)
         go (miss n) = of-none none
           where
@@ -145,8 +145,8 @@ module _ (s : List ℕ) where
     -- what is wrong with a line, or where it goes
     pub data Links (l : said.Line) : LineLink → Type 0 where
       goes : {q : ℕ} {y n : Target} → LastQuestion qs (l .question) q → Leads (l .yes) y → nowhere y ≡ false → Leads (l .no) n → nowhere n ≡ false → Links l (link.Goes q y n)
-      node : Fault qs ls l 21 → Links l link.NodeRef
-      question : Fault qs ls l 22 → Links l link.QuestionRef
+      no-line : Fault qs ls l 21 → Links l link.NodeRef
+      no-question : Fault qs ls l 22 → Links l link.QuestionRef
 
     pub line-links : {l : said.Line} {c : code.Line} → LineSaid l c → Links l (linkIn s ps cs c)
     unfolding linkIn linkOf
@@ -157,14 +157,14 @@ module _ (s : List ℕ) where
       where
         by-asked : {y n : Target} {f : Found} → Leads (l .yes) y → nowhere y ≡ false → Leads (l .no) n → nowhere n ≡ false → Asks (l .question) f → Links l (linkAsked y n f)
         by-asked a e b g (of-row q) = goes q a e b g
-        by-asked a e b g (of-none n) = question (not-asked (declared a e) (declared b g) n)
+        by-asked a e b g (of-none n) = no-question (not-asked (declared a e) (declared b g) n)
 
         go : (y : Target) → Leads (l .yes) y → (u : Bool) → nowhere y ≡ u → (n : Target) → Leads (l .no) n → (v : Bool) → nowhere n ≡ v → {f : Found} → Asks (l .question) f
             → Links l (cond (nowhere y) link.NodeRef (cond (nowhere n) link.NodeRef (linkAsked y n f)))
-        go y a true e n b v g {f} q = subst (λ (x : Bool). Links l (cond x link.NodeRef (cond (nowhere n) link.NodeRef (linkAsked y n f)))) (sym e) (node (yes-undeclared (undeclared a e)))
+        go y a true e n b v g {f} q = subst (λ (x : Bool). Links l (cond x link.NodeRef (cond (nowhere n) link.NodeRef (linkAsked y n f)))) (sym e) (no-line (yes-undeclared (undeclared a e)))
         go y a false e n b true g {f} q =
             subst (λ (x : Bool). Links l (cond x link.NodeRef (cond (nowhere n) link.NodeRef (linkAsked y n f)))) (sym e)
-            (subst (λ (x : Bool). Links l (cond x link.NodeRef (linkAsked y n f))) (sym g) (node (no-undeclared (declared a e) (undeclared b g))))
+            (subst (λ (x : Bool). Links l (cond x link.NodeRef (linkAsked y n f))) (sym g) (no-line (no-undeclared (declared a e) (undeclared b g))))
         go y a false e n b false g {f} q =
             subst (λ (x : Bool). Links l (cond x link.NodeRef (cond (nowhere n) link.NodeRef (linkAsked y n f)))) (sym e)
             (subst (λ (x : Bool). Links l (cond x link.NodeRef (linkAsked y n f))) (sym g) (by-asked a e b g q))

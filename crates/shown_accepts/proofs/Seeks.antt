@@ -23,27 +23,27 @@ module _ {A : Type 0} {P : A → Type 0} where
   behind f here h = absurd (omega arith)
   behind f (there {x = x} {k = k} n) h = f k x n
 
-module _ {A B : Type 0} {R : A → B → Type 0} {P : A → Type 0} {p : B → Bool} (to : {x : A} {y : B} → R x y → p y ≡ true → P x) (from : {x : A} {y : B} → R x y → P x → p y ≡ true) where
-  -- what was looked for from k on, after f was found
-  pub data Seeks (xs : List A) (k : ℕ) (f : Found) : Found → Type 0 where
-    hit : (m : ℕ) → Last P xs m → Seeks xs k f (At (k + m))
-    miss : ((m : ℕ) (x : A) → Nth xs m x → ¬ P x) → Seeks xs k f f
+-- what was looked for from k on, after f was found
+pub data Seeks {A : Type 0} (P : A → Type 0) (xs : List A) (k : ℕ) (f : Found) : Found → Type 0 where
+  hit : (m : ℕ) → Last P xs m → Seeks P xs k f (At (k + m))
+  miss : ((m : ℕ) (x : A) → Nth xs m x → ¬ P x) → Seeks P xs k f f
 
-  pub seeks : {xs : List A} {ys : List B} → Forall₂ R xs ys → (k : ℕ) (f : Found) → Seeks xs k f (lastFrom p k f ys)
+module _ {A B : Type 0} (R : A → B → Type 0) (P : A → Type 0) (p : B → Bool) (to : (x : A) (y : B) → R x y → p y ≡ true → P x) (from : (x : A) (y : B) → R x y → P x → p y ≡ true) where
+  pub seeks : {xs : List A} {ys : List B} → Forall₂ R xs ys → (k : ℕ) (f : Found) → Seeks P xs k f (lastFrom p k f ys)
   unfolding lastFrom
   seeks Forall₂·nil k f = miss (λ m x h. absurd (no-row h))
   seeks (Forall₂·cons {a = x} {b = y} {l₁ = xs} {l₂ = ys} h t) k f = go (p y) refl (seeks t (suc k) (cond (p y) (At k) f))
     where
-      go : (b : Bool) → p y ≡ b → {r : Found} → Seeks xs (suc k) (cond (p y) (At k) f) r → Seeks (x ∷ xs) k f r
+      go : (b : Bool) → p y ≡ b → {r : Found} → Seeks P xs (suc k) (cond (p y) (At k) f) r → Seeks P (x ∷ xs) k f r
       go b e (hit m l) =
           let z : k + suc m ≡ suc k + m = omega arith in
-          subst (λ (i : ℕ). Seeks (x ∷ xs) k f (At i)) z
+          subst (λ (i : ℕ). Seeks P (x ∷ xs) k f (At i)) z
           (hit (suc m) (record { at = l .at; stands = there (l .stands); true-of = l .true-of; after = λ j u g n. later (l .after) n g }))
       go true e (miss n) =
           let z : k + 0 ≡ k = omega arith in
-          subst (Seeks (x ∷ xs) k f) (ap At z ∙ sym (ap (λ (b : Bool). cond b (At k) f) e))
-          (hit 0 (record { at = x; stands = here; true-of = to h e; after = λ j u g o. behind n o g }))
-      go false e (miss n) = subst (Seeks (x ∷ xs) k f) (sym (ap (λ (b : Bool). cond b (At k) f) e)) (miss (λ m u o. every (λ q. clash (sym e ∙ from h q)) n o))
+          subst (Seeks P (x ∷ xs) k f) (ap At z ∙ sym (ap (λ (b : Bool). cond b (At k) f) e))
+          (hit 0 (record { at = x; stands = here; true-of = to x y h e; after = λ j u g o. behind n o g }))
+      go false e (miss n) = subst (Seeks P (x ∷ xs) k f) (sym (ap (λ (b : Bool). cond b (At k) f) e)) (miss (λ m u o. every (λ q. clash (sym e ∙ from x y h q)) n o))
         where
           clash : false ≡ true → ⊥
           clash e = let z : _≡_ {A = ℕ} 0 1 = cc in omega arith
