@@ -14,6 +14,7 @@ static const char usage[] =
     "       larsavim write FILE MODEL                      the tree text of a model, out of its tables: one id a line, blanks made even\n"
     "       larsavim save FILE OUT                         the voice with every tree text so written, in another file\n"
     "       larsavim depth FILE [MODEL]                    how many questions a walk of each tree can ask, whatever the answers\n"
+    "       larsavim accept FILE MODEL TREE ROWS           whether record rows that somebody else linked belong to a tree; ROWS is a file, - standard input\n"
     "       larsavim dump FILE                             everything, one fact a line, for comparing\n"
     "       larsavim hex                                   the dump of each line of hex on standard input, then END\n"
     "       larsavim demo FILE                             a voice in which two lines bear one id, and which of them wins\n"
@@ -48,6 +49,8 @@ static int run(const char *verb, int n, char **words) {
         return n == 2 ? save(words) : wrong("save takes FILE OUT", NULL);
     if (strcmp(verb, "depth") == 0)
         return n == 1 || n == 2 ? depth(n, words) : wrong("depth takes FILE and perhaps MODEL", NULL);
+    if (strcmp(verb, "accept") == 0)
+        return n == 4 ? accept_rows(words) : wrong("accept takes FILE MODEL TREE ROWS", NULL);
     if (strcmp(verb, "dump") == 0)
         return n == 1 ? dump(words[0]) : wrong("dump takes one FILE", NULL);
     if (strcmp(verb, "hex") == 0)

@@ -334,12 +334,7 @@ pub extern "C" fn larsavim_depth(
 
 // Whether record rows that somebody else linked belong to a tree of a tree text.
 #[no_mangle]
-pub extern "C" fn larsavim_accepts(
-    text: &[u8],
-    tree: u64,
-    records: &[u64],
-    out: &mut [u64],
-) -> u64
+pub extern "C" fn larsavim_accepts(text: &[u8], tree: u64, records: &[u64], out: &mut [u64]) -> u64
     ensures { λ r. ⌜ AcceptTells (now (text .entry)) tree (now (records .entry)) (now (out .entry)) r (now (out .exit)) ⌝ }
 {
     if out.len() < ACCEPTS_OUT {

@@ -8,3 +8,4 @@ pub mod NoModel
 pub mod Loading
 pub mod Walking
 pub mod Walked
+pub mod Accepting

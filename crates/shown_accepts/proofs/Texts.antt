@@ -170,10 +170,13 @@ module _ (s : List ℕ) where
         let p = parts says in
         let n = parted-nth (p .stand) h in
         let g : Nth (treesAt s f .items) k (treeOf e (n .0)) = subst (λ (ts : List Tree). Nth ts k (treeOf e (n .0))) (sym trees-are) (nth-zip treeOf h (n .3)) in
-        let w = stands f g in
-        (w .at, star-there g ∙ ap place.At (stands-there w), λ R.
-        let v = subst (λ (ws : List QuestionPlace). Verdict (t .questions) R (e .body) (judgedBody s ws R (treeOf e (n .0) .body))) (sym questions-are) (tree-verdict (p .asks) R (n .4)) in
-        subst (Verdict (t .questions) R (e .body)) (sym (head-body (questionsAt s i .items) R (w .at) (w .is) (w .took))) v)
+        let w = stands f g in (
+          w .at,
+          star-there g ∙ ap place.At (stands-there w),
+          λ R.
+              let v = subst (λ (ws : List QuestionPlace). Verdict (t .questions) R (e .body) (judgedBody s ws R (treeOf e (n .0) .body))) (sym questions-are) (tree-verdict (p .asks) R (n .4)) in
+              subst (Verdict (t .questions) R (e .body)) (sym (head-body (questionsAt s i .items) R (w .at) (w .is) (w .took))) v,
+        )
       where
         tree-verdict : Forall₂ (QuestionSaid s) (t .questions) (l .questions) → (R : List ℕ) {a b : ℕ} {x : said.Tree} {y : said.TreePlace} → TreeAt s a b x y
             → Verdict (t .questions) R (x .body) (judgedBody s (l .questions) R (treeOf x y .body))
