@@ -187,6 +187,7 @@ int find_line(struct bytes text, uint64_t tree, uint64_t line, struct written_li
 int node_id(struct bytes reference, int64_t *id); /* 1 where the reference is a node, and its id */
 int bears_id(struct bytes text, uint64_t tree, int64_t id);
 int has_question(struct bytes text, struct bytes name);
+uint64_t last_question_row(struct bytes text, struct bytes name); /* the last question of a name, counted from 0 */
 
 struct items {
     uint64_t questions, trees;
@@ -347,6 +348,7 @@ int say(char **words);              /* label.c */
 int depth(int n, char **words);     /* depth.c */
 int pair_up(char **words);          /* pair.c */
 int share(void);                    /* share.c */
+int accept_rows(char **words);      /* accept.c */
 void show_depth(const struct larsavim_model *m); /* depth.c: of `inspect` */
 
 #endif

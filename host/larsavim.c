@@ -20,6 +20,7 @@ static const char usage[] =
     "       larsavim depth FILE [MODEL]                    how many questions a walk of each tree can ask, whatever the answers\n"
     "       larsavim pair DAY NIGHT                        what the models of two voices need in the same tables, and whether each walks there as alone\n"
     "       larsavim share                                 two tasks in the same tables, call by call: a script on standard input, an answer a line\n"
+    "       larsavim accept FILE MODEL TREE ROWS           whether record rows that somebody else linked belong to a tree; ROWS is a file, - standard input\n"
     "       larsavim dump FILE                             everything, one fact a line, for comparing\n"
     "       larsavim hex                                   the dump of each line of hex on standard input, then END\n"
     "       larsavim demo FILE                             a voice in which two lines bear one id, and which of them wins\n"
@@ -90,6 +91,8 @@ static int run(const char *verb, int n, char **words) {
         return n == 2 ? pair_up(words) : wrong("pair takes DAY NIGHT, two files", NULL);
     if (strcmp(verb, "share") == 0)
         return n == 0 ? share() : wrong("share takes no word: its script stands on standard input", NULL);
+    if (strcmp(verb, "accept") == 0)
+        return n == 4 ? accept_rows(words) : wrong("accept takes FILE MODEL TREE ROWS", NULL);
     if (strcmp(verb, "dump") == 0)
         return n == 1 ? dump(words[0]) : wrong("dump takes one FILE", NULL);
     if (strcmp(verb, "hex") == 0)

@@ -91,6 +91,7 @@ extern "C" {
 #define LARSAVIM_WRITE_NEEDS_OUT 2 /* number, length */
 #define LARSAVIM_WRITE_OUT 2    /* number, length */
 #define LARSAVIM_DEPTH_OUT 3    /* number, 1 or 0, questions */
+#define LARSAVIM_ACCEPTS_OUT 3  /* number, place, line */
 
 /* Where an answer has what: the number comes first in all of them. */
 #define LARSAVIM_OUT_NUMBER 0
@@ -123,6 +124,8 @@ extern "C" {
 #define LARSAVIM_WRITE_LENGTH 1
 #define LARSAVIM_DEPTH_ENDS 1      /* 1: every walk of the tree ends by itself */
 #define LARSAVIM_DEPTH_QUESTIONS 2
+#define LARSAVIM_ACCEPTS_PLACE 1
+#define LARSAVIM_ACCEPTS_LINE 2
 
 /* ---- Opening -------------------------------------------------------------------------------------------------------------------
  * The header record crosses as words: LARSAVIM_WORDS numbers that an opening writes and later calls take back. Words that no
@@ -333,6 +336,15 @@ void larsavim_walk_jobs(const uint64_t *trees, uint64_t trees_len, const uint64_
  * otherwise 0. */
 uint64_t larsavim_leaves(const uint64_t *questions, uint64_t questions_len, const uint64_t *trees, uint64_t trees_len,
                          const uint64_t *records, uint64_t records_len, const uint64_t *values, uint64_t values_len, uint64_t width);
+
+/* ---- Tree text by itself ---------------------------------------------------------------------------------------------------------- */
+
+/* Whether record rows that somebody else linked belong to a tree of a tree text (the bytes of a STREAM_TREE, DURATION_TREE or GV_TREE range): then every walk over
+ * them ends as the text says. `records` are the tree's rows, from its first on. They belong to it exactly where the lines come first, in order, with the right
+ * question rows (those that a load of the text writes), every reference to an id goes to the last line bearing it, every PDF reference to a leaf of that number, and
+ * every row after the lines is a leaf (1, number, 0, 0); a bare leaf is one leaf of its number, empty braces have no rows. out: number (0, 17, 18, 20 to 24, 37), place,
+ * line. Order: 20 for `out`, 17 (place: from the text's first byte on), 18, 24 for no such tree, 21 to 23 of this tree alone (place and line: tree and line), 37. */
+uint64_t larsavim_accepts(const uint8_t *text, uint64_t text_len, uint64_t tree, const uint64_t *records, uint64_t records_len, uint64_t *out, uint64_t out_len);
 
 /* ---- Tables back to text ---------------------------------------------------------------------------------------------------------
  * The tree text that the rows of loaded tables say: questions in row order, trees in row order with the ids 0, -1, -2 and on, a bare leaf

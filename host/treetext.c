@@ -132,6 +132,16 @@ int has_question(struct bytes text, struct bytes name) {
     return 0;
 }
 
+uint64_t last_question_row(struct bytes text, struct bytes name) {
+    struct reader r = {text, 0};
+    struct bytes other;
+    uint64_t last = 0;
+    for (uint64_t i = 0; next_question(&r, &other); i++)
+        if (same(name, other))
+            last = i;
+    return last;
+}
+
 int next_tree(struct reader *r, struct written_tree *t) {
     uint64_t start;
     pass_parting(r);

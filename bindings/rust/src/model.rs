@@ -381,3 +381,10 @@ impl<'t> Entry<'t> {
         self.values
     }
 }
+
+/// Whether record rows that somebody else linked, four numbers each, belong to a tree of a tree text (the bytes of a STREAM_TREE, DURATION_TREE or GV_TREE range): then every walk over them
+/// ends as the text says. [`Refusal::OtherRows`] where they don't; before it what is wrong with the text, the tree's number and the tree.
+pub fn accepts(text: &[u8], tree: u64, records: &[u64]) -> Result<(), Refusal> {
+    let [number, place, line] = calls::accepts(text, tree, records);
+    Refusal::told(number, place, line)
+}

@@ -142,3 +142,15 @@ fn short_tables() {
     }
     assert!(needs.tables(&mut vec![0; needs.length() as usize - 1]).is_none());
 }
+
+#[test]
+fn rows_of_another() {
+    // our own rows are accepted, with another's leaf they aren't; two leaves that change places are, where the references follow
+    let text = b"QS A { a }\n{*}[2]{ 0 A p_2 p_3 }";
+    assert_eq!(larsavim::accepts(text, 0, &[0, 0, 2, 1, 1, 2, 0, 0, 1, 3, 0, 0]), Ok(()));
+    assert_eq!(larsavim::accepts(text, 0, &[0, 0, 1, 2, 1, 3, 0, 0, 1, 2, 0, 0]), Ok(()));
+    assert_eq!(larsavim::accepts(text, 0, &[0, 0, 2, 1, 1, 2, 0, 0, 1, 4, 0, 0]), Err(Refusal::OtherRows));
+    assert_eq!(larsavim::accepts(text, 1, &[]), Err(Refusal::WalkTable));
+    assert_eq!(larsavim::accepts(b"QS A { a }\n{*}[2]{ 0 B p_2 p_3 }", 0, &[]), Err(Refusal::QuestionRef { tree: 0, line: 0 }));
+    assert_eq!(larsavim::accepts(b"{*}[2]p_1 x", 0, &[1, 1, 0, 0]), Err(Refusal::Text { place: 10 }));
+}

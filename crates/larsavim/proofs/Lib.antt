@@ -3,3 +3,4 @@ pub mod Determined
 pub mod Partly
 pub mod Depths
 pub mod Sharing
+pub mod Accepts

@@ -2,3 +2,4 @@ pub mod Face
 pub mod Write
 pub mod Depths
 pub mod Sharing
+pub mod Accepts

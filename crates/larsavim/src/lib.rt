@@ -19,6 +19,7 @@ use label_answers::answers_said;
 use load_shared::nobody;
 use table_put::put2;
 use table_put::put4;
+use walk_accepts::accepts_said;
 use walk_depth::depth_said;
 use walk_leaves::leaves_fit;
 ghost use mathlib.Core.Path.{_≡_};
@@ -33,6 +34,7 @@ ghost use Rattle.larsavim.specs.Face.{rowsNumbers, neededNumbers, Opens,
 ghost use Rattle.larsavim.specs.Write.{Measures, Writes};
 ghost use Rattle.larsavim.specs.Depths.{DepthTells};
 ghost use Rattle.larsavim.specs.Sharing.{heldLeft, LoadShares, UnloadTells};
+ghost use Rattle.larsavim.specs.Accepts.{AcceptTells};
 
 // 20: a lent slice is too short.
 const ROOM: u64 = 20;
@@ -63,6 +65,8 @@ const WRITE_NEEDS_OUT: usize = 2;
 const WRITE_OUT: usize = 2;
 
 const DEPTH_OUT: usize = 3;
+
+const ACCEPTS_OUT: usize = 3;
 
 // Three numbers to the front.
 fn put3(out: &mut [u64], a: u64, b: u64, c: u64)
@@ -448,4 +452,17 @@ pub extern "C" fn larsavim_depth(
     let depth = depth_said(trees, records, tree, work);
     put3(out, depth.number, depth.answer, depth.questions);
     depth.number
+}
+
+// Whether record rows that somebody else linked belong to a tree of a tree text.
+#[no_mangle]
+pub extern "C" fn larsavim_accepts(text: &[u8], tree: u64, records: &[u64], out: &mut [u64]) -> u64
+    ensures { λ r. ⌜ AcceptTells (now (text .entry)) tree (now (records .entry)) (now (out .entry)) r (now (out .exit)) ⌝ }
+{
+    if out.len() < ACCEPTS_OUT {
+        return ROOM;
+    }
+    let said = accepts_said(text, tree, records);
+    put3(out, said.number, said.place as u64, said.line as u64);
+    said.number
 }

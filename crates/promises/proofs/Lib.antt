@@ -15,3 +15,4 @@ pub mod Walking
 pub mod Walked
 pub mod Front
 pub mod Saving
+pub mod Accepting

@@ -4,3 +4,4 @@ pub mod Writing
 pub mod Loading
 pub mod Sharing
 pub mod Walking
+pub mod Accepting

@@ -1,0 +1,134 @@
+-- What the functions of this crate answer, of the questions and lines that are read of a text and the rows of a table.
+use mathlib.Core.Bool.{Bool, true, false, cond, _&&_}
+use mathlib.Core.List.{List, [], _∷_}
+use Prim.Native.Nat.{ℕ, suc, _-_}
+use lib.Dec.{eqb, ltb}
+use lib.ListN.{length}
+use Rattle.written.specs.Said.{QuestionPlace}
+use Rattle.laws.specs.Every.{all}
+use Rattle.laws.specs.Steps.{Ending, doneAt, brokenAt, Reading}
+use Rattle.tree_reference.specs.References.{sameIndex}
+use Rattle.tree_reference.specs.declared.TreeIndex.{TreeIndex}
+use Rattle.tree_reference.specs.declared.TreeIndex.the-variants.{Node, Pdf}
+use Rattle.tree_line.specs.Lines.{linesAt}
+use Rattle.tree_line.specs.declared.Line as code
+use Rattle.tree_body.specs.declared.TreeHead.{TreeHead}
+use Rattle.tree_body.specs.declared.TreeHead.the-variants as head
+use Rattle.table_rows.specs.Rows.{recordRows, recordKind, recordQuestion, recordPdf, recordYes, recordNo}
+use Rattle.link_order.specs.Keys.{idKey, partOr}
+use Rattle.link_search.specs.declared.Found.{Found}
+use Rattle.link_search.specs.declared.Found.the-variants.{At, Nothing}
+use Rattle.link_targets.specs.Lines.{natOf}
+use Rattle.link_find.specs.Find.{asked, bearer}
+use Rattle.link_alone.specs.declared.Target.{Target}
+use Rattle.link_alone.specs.declared.Target.the-variants.{Line, Leaf, Nowhere}
+use Rattle.link_alone.specs.declared.LineLink.{LineLink}
+use Rattle.link_alone.specs.declared.LineLink.the-variants as link
+use Rattle.link_alone.specs.declared.Judged.{Judged}
+use Rattle.link_alone.specs.declared.Judged.the-variants.{Told, NodeRef, QuestionRef, LoneNode}
+use Rattle.link_alone.specs.declared.Single.{Single}
+use Rattle.link_alone.specs.declared.Single.the-variants.{One, Several}
+
+-- ---- where references lead
+
+abbrev pub nowhere : Target → Bool
+nowhere (Line k) = false
+nowhere (Leaf n) = false
+nowhere Nowhere = true
+
+abbrev pub toLine : Found → Target
+toLine (At k) = Line k
+toLine Nothing = Nowhere
+
+-- an id leads to the last line that bears it
+abbrev pub targetIn : List code.Line → TreeIndex → Target
+targetIn ls (Node x) = toLine (bearer (idKey x) ls)
+targetIn ls (Pdf x) = Leaf (natOf x)
+
+-- ---- a line
+
+abbrev pub linkAsked : Target → Target → Found → LineLink
+linkAsked y n (At q) = link.Goes q y n
+linkAsked y n Nothing = link.QuestionRef
+
+-- tested in the order yes, no, question
+unfoldable pub linkOf : Target → Target → Found → LineLink
+linkOf y n f = cond (nowhere y) link.NodeRef (cond (nowhere n) link.NodeRef (linkAsked y n f))
+
+unfoldable pub linkIn : List ℕ → List QuestionPlace → List code.Line → code.Line → LineLink
+linkIn s qs ls l = linkOf (targetIn ls (l .yes)) (targetIn ls (l .no)) (asked s (partOr s (l .start) (l .len)) qs)
+
+-- ---- rows
+
+-- row i is there, and is (1, a number, 0, 0)
+unfoldable pub isLeaf : List ℕ → ℕ → Bool
+isLeaf R i = ltb i (recordRows R) && (eqb (recordKind R i) 1 && (eqb (recordYes R i) 0 && eqb (recordNo R i) 0))
+
+unfoldable pub leafOf : List ℕ → ℕ → ℕ → Bool
+leafOf R n i = isLeaf R i && eqb (recordPdf R i) n
+
+abbrev pub leadsTo : List ℕ → Target → ℕ → Bool
+leadsTo R (Line k) i = eqb i k
+leadsTo R (Leaf n) i = leafOf R n i
+leadsTo R Nowhere i = false
+
+-- row k is there, and is (0, question, yes, no)
+unfoldable pub rowFits : List ℕ → ℕ → ℕ → Target → Target → Bool
+rowFits R k q y n = ltb k (recordRows R) && (eqb (recordKind R k) 0 && (eqb (recordQuestion R k) q && (leadsTo R y (recordYes R k) && leadsTo R n (recordNo R k))))
+
+-- every row from n on is a leaf
+unfoldable pub leavesFrom : List ℕ → ℕ → Bool
+leavesFrom R n = all (isLeaf R) n (recordRows R - n)
+
+-- ---- the lines of a tree
+
+abbrev pub judgedLine : List ℕ → ℕ → LineLink → Judged
+judgedLine R k (link.Goes q y n) = Told (rowFits R k q y n)
+judgedLine R k link.NodeRef = NodeRef k
+judgedLine R k link.QuestionRef = QuestionRef k
+
+-- a fault ends it
+abbrev pub onward : (Bool → Judged) → Judged → Judged
+onward f (Told b) = f b
+onward f (NodeRef k) = NodeRef k
+onward f (QuestionRef k) = QuestionRef k
+onward f LoneNode = LoneNode
+
+-- b, and what was told
+abbrev pub ended : Bool → Judged → Judged
+ended b j = onward (λ x. Told (b && x)) j
+
+-- the lines from number k on, after those before them fitted or not
+unfoldable pub judgedLines : List ℕ → List QuestionPlace → List code.Line → List ℕ → ℕ → Bool → List code.Line → Judged
+judgedLines s qs ls R k b [] = Told b
+judgedLines s qs ls R k b (l ∷ rest) = onward (λ x. judgedLines s qs ls R (suc k) (b && x) rest) (judgedLine R k (linkIn s qs ls l))
+
+-- ---- a tree
+
+-- one reference: with a PDF one leaf and no other row, with a node refused
+abbrev pub judgedAlone : List ℕ → TreeIndex → Judged
+judgedAlone R (Pdf x) = Told (eqb (recordRows R) 1 && leafOf R (natOf x) 0)
+judgedAlone R (Node x) = LoneNode
+
+-- the reference that one line with equal references is
+abbrev pub singleIn : List code.Line → Single
+singleIn [] = Several
+singleIn (l ∷ []) = cond (sameIndex (l .no) (l .yes)) (One (l .yes)) Several
+singleIn (l ∷ (k ∷ ls)) = Several
+
+abbrev pub judgedSingle : List ℕ → List QuestionPlace → List ℕ → List code.Line → Single → Judged
+judgedSingle s qs R ls (One x) = judgedAlone R x
+judgedSingle s qs R ls Several = ended (leavesFrom R (length ls)) (judgedLines s qs ls R 0 true ls)
+
+abbrev pub judgedEnding : List ℕ → List QuestionPlace → List ℕ → List code.Line → Ending → Judged
+judgedEnding s qs R ls (doneAt e) = judgedSingle s qs R ls (singleIn ls)
+judgedEnding s qs R ls (brokenAt e) = Told false
+
+unfoldable pub judgedBraces : List ℕ → List QuestionPlace → List ℕ → Reading code.Line → Judged
+judgedBraces s qs R r = judgedEnding s qs R (r .items) (r .ending)
+
+abbrev pub judgedHead : List ℕ → List QuestionPlace → List ℕ → TreeHead → Judged
+judgedHead s qs R (head.Lone x r e) = judgedAlone R r
+judgedHead s qs R (head.Empty x e) = Told (eqb (recordRows R) 0)
+judgedHead s qs R (head.Lines x f) = judgedBraces s qs R (linesAt s f)
+judgedHead s qs R head.NoTree = Told false

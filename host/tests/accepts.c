@@ -1,0 +1,97 @@
+/* accepts.c: the stored cases of somebody else's rows (judge/accepting.py), each a line on standard input: the text as hex, the tree, how many rows, their numbers,
+ * then number, place and line of the answer. The call must answer so, with numbers behind the last row that are no row too; what is lent for reading must stay; a short
+ * `out` is 20. Every slice is lent by host/lend.c, so that LARSAVIM_GUARD puts guards beside it. Prints what differs, and how many checks passed and failed. */
+#include <inttypes.h>
+#include <stdlib.h>
+#include <string.h>
+
+#include "host.h"
+
+enum { OLD = 0x5a };
+
+static unsigned passed, failed;
+static uint64_t line_number;
+
+static void expect(int holds, const char *name) {
+    if (holds) {
+        passed++;
+        return;
+    }
+    failed++;
+    printf("accepts: line %" PRIu64 ": %s\n", line_number, name);
+}
+
+struct stored {
+    struct bytes text;
+    uint64_t tree, rows, *records, answer[LARSAVIM_ACCEPTS_OUT];
+};
+
+static int hex_digit(char c) {
+    return c <= '9' ? c - '0' : c - 'a' + 10;
+}
+
+static struct bytes read_hex(const char *word) {
+    size_t len = strcmp(word, "-") == 0 ? 0 : strlen(word) / 2;
+    uint8_t *at = lend(len);
+    struct bytes b = {at, len};
+    for (size_t i = 0; i < len; i++)
+        at[i] = (uint8_t)(16 * hex_digit(word[2 * i]) + hex_digit(word[2 * i + 1]));
+    return b;
+}
+
+static uint64_t next_number(void) {
+    uint64_t n = 0;
+    const char *word = strtok(NULL, " \n");
+    if (word == NULL || !read_number(word, &n))
+        stop("a stored line of rows has a wrong number");
+    return n;
+}
+
+static void read_case(char *line, struct stored *s) {
+    s->text = read_hex(strtok(line, " \n"));
+    s->tree = next_number();
+    s->rows = next_number();
+    s->records = calloc((size_t)(4 * s->rows + 1), 8);
+    if (s->records == NULL)
+        stop("there is no memory for the rows");
+    for (uint64_t i = 0; i < 4 * s->rows; i++)
+        s->records[i] = next_number();
+    for (int i = 0; i < LARSAVIM_ACCEPTS_OUT; i++)
+        s->answer[i] = next_number();
+    if (strtok(NULL, " \n") != NULL)
+        stop("a stored line of rows has too many words");
+}
+
+/* The rows with so many numbers behind them. */
+static void ask(const struct stored *s, uint64_t behind) {
+    uint64_t len = 4 * s->rows + behind, *records = lend(8 * len), *out = lend(8 * LARSAVIM_ACCEPTS_OUT), *kept = lend(8 * len);
+    struct bytes text = lend_copy(s->text);
+    for (uint64_t i = 0; i < len; i++)
+        records[i] = kept[i] = i < 4 * s->rows ? s->records[i] : 1;
+    memset(out, OLD, 8 * LARSAVIM_ACCEPTS_OUT);
+    expect(larsavim_accepts(text.at, text.len, s->tree, records, len, out, LARSAVIM_ACCEPTS_OUT) == s->answer[0], "what is returned");
+    expect(memcmp(out, s->answer, sizeof s->answer) == 0, "number, place, line");
+    expect(len == 0 || memcmp(records, kept, (size_t)(8 * len)) == 0, "the rows stay");
+    expect(text.len == 0 || memcmp(text.at, s->text.at, (size_t)text.len) == 0, "the text stays");
+    memset(out, OLD, 8 * LARSAVIM_ACCEPTS_OUT);
+    expect(larsavim_accepts(text.at, text.len, s->tree, records, len, out, LARSAVIM_ACCEPTS_OUT - 1) == LARSAVIM_ROOM && *(uint8_t *)out == OLD, "a short out");
+    give_back(text.at, text.len);
+    give_back(kept, 8 * len);
+    give_back(out, 8 * LARSAVIM_ACCEPTS_OUT);
+    give_back(records, 8 * len);
+}
+
+int main(void) {
+    static char line[1 << 20];
+    while (fgets(line, sizeof line, stdin) != NULL) {
+        struct stored s;
+        line_number++;
+        read_case(line, &s);
+        for (uint64_t behind = 0; behind < 4; behind += 3)
+            ask(&s, behind);
+        give_back(s.text.at, s.text.len);
+        free(s.records);
+    }
+    printf("%u passed, %u failed\n", passed, failed);
+    return failed != 0;
+}
