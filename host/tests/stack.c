@@ -12,7 +12,7 @@
 #define STACK (1024 * 1024)
 #define PAINT 0xa5
 
-enum { CALLS = 7 };
+enum { CALLS = 8 };
 /* The tables, and where the answer of larsavim_needs has their rows, the work and the width. */
 enum { TABLES = 5, ROWS = 3, WORK = ROWS + TABLES, WIDTH };
 
@@ -47,6 +47,12 @@ static void call_answers(void) {
 
 static void call_depth(void) {
     larsavim_depth(table[2], lent[2], table[3], lent[3], 0, depths, sizeof depths / 8, out, LARSAVIM_DEPTH_OUT);
+}
+
+static void call_accepts(void) {
+    static const uint8_t text[] = "QS A { \"a*\" }\nQS B { \"b*\" }\n{*}[2]{ 0 A -1 p_3\n-1 B \"p_1\" p_3\n7 A 0 -1 }";
+    static const uint64_t rows[] = {0, 0, 4, 1, 0, 1, 4, 3, 0, 0, 1, 0, 1, 1, 0, 0, 1, 3, 0, 0};
+    larsavim_accepts(text, sizeof text - 1, 0, rows, sizeof rows / 8, out, LARSAVIM_ACCEPTS_OUT);
 }
 
 static void on_painted_stack(void) {
@@ -94,6 +100,7 @@ static void measure_model(uint64_t most[CALLS]) {
         keep_most(&most[4], stack_of(call_leaves));
         keep_most(&most[5], stack_of(call_answers));
         keep_most(&most[6], stack_of(call_depth));
+        keep_most(&most[7], stack_of(call_accepts));
     }
     for (int t = 0; t < TABLES; t++)
         free(table[t]);
@@ -114,7 +121,7 @@ static void measure_file(const char *path, uint64_t most[CALLS]) {
 }
 
 int main(int argc, char **argv) {
-    static const char *const name[CALLS] = {"open", "needs", "load", "walk", "leaves", "answers", "depth"};
+    static const char *const name[CALLS] = {"open", "needs", "load", "walk", "leaves", "answers", "depth", "accepts"};
     uint64_t most[CALLS] = {0};
     stack = malloc(STACK);
     if (stack == NULL)
