@@ -4,7 +4,8 @@
   accepting.py               makes the stored cases, stored/accepts-1.txt
   accepting.py --check       says whether they are as made
 
-A case is a text, a tree number, rows (lists of four numbers), and number, place and line of the answer."""
+A case is a text, a tree number, rows (lists of four numbers), number, place and line of the answer; of accepted rows also how walks over the text end, each with its answers,
+its limit, number, PDF number and questions asked: a walk over the rows must end so."""
 import os
 import random
 import sys
@@ -163,8 +164,26 @@ def cases():
         yield s, tree, rows, accepts(s, tree, rows)
 
 
+def walks(s, number, r):
+    """Some walks over the text as it is written: all answers of up to three questions, and fewer."""
+    questions, trees = reading.tree_text(s, 0)
+    written = reading.WrittenTree(s, questions, trees[number])
+    for _ in range(4):
+        answers = [r.randint(0, 1) for _ in range(max(0, len(questions) - (r.random() < .2)))]
+        limit = r.choice((0, 1, 2, 9, LARGE))
+        try:
+            pdf, asked = written.walk(answers, limit)
+            yield answers, limit, 0, pdf, asked
+        except reading.Refused as refused:
+            yield answers, limit, refused.number, 0, 0
+
+
 def line(s, tree, rows, want):
-    return ' '.join([s.hex() or '-', str(tree), str(len(rows))] + [str(x) for row in rows for x in row] + [str(x) for x in want])
+    words = [s.hex() or '-', tree, len(rows)] + [x for row in rows for x in row] + list(want)
+    if want[0] == 0:
+        for answers, limit, number, pdf, asked in walks(s, tree, random.Random(len(s) + tree)):
+            words += [''.join(map(str, answers)) or '-', limit, number, pdf, asked]
+    return ' '.join(map(str, words))
 
 
 def made():

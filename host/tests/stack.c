@@ -12,7 +12,7 @@
 #define STACK (1024 * 1024)
 #define PAINT 0xa5
 
-enum { CALLS = 7 };
+enum { CALLS = 10 };
 
 static uint8_t *stack;
 static ucontext_t here, there;
@@ -23,7 +23,7 @@ static void (*measured)(void);
 static uint8_t file[LARSAVIM_FILE_LIMIT];
 static uint64_t file_len, words[LARSAVIM_WORDS], out[LARSAVIM_NEEDS_OUT];
 static struct larsavim_model m;
-static uint8_t answers[LARSAVIM_FILE_LIMIT];
+static uint8_t answers[LARSAVIM_FILE_LIMIT], text[LARSAVIM_FILE_LIMIT];
 static int64_t depths[LARSAVIM_FILE_LIMIT / 8];
 
 static void call_open(void) { larsavim_open(file, file_len, words, LARSAVIM_WORDS, out, LARSAVIM_OPEN_OUT); }
@@ -37,6 +37,15 @@ static void call_answers(void) {
     static const uint8_t label[] = "sh^i-ch+i=sil";
     larsavim_model_answers(&m, label, sizeof label - 1, file + words[LARSAVIM_DATA_START], words[LARSAVIM_DATA_LEN], answers, sizeof answers);
 }
+
+static void call_accepts(void) {
+    static const uint8_t text[] = "QS A { \"a*\" }\nQS B { \"b*\" }\n{*}[2]{ 0 A -1 p_3\n-1 B \"p_1\" p_3\n7 A 0 -1 }";
+    static const uint64_t rows[] = {0, 0, 4, 1, 0, 1, 4, 3, 0, 0, 1, 0, 1, 1, 0, 0, 1, 3, 0, 0};
+    larsavim_accepts(text, sizeof text - 1, 0, rows, sizeof rows / 8, out, LARSAVIM_ACCEPTS_OUT);
+}
+
+static void call_write_needs(void) { larsavim_model_write_needs(&m, file + words[LARSAVIM_DATA_START], words[LARSAVIM_DATA_LEN], out, LARSAVIM_WRITE_NEEDS_OUT); }
+static void call_write(void) { larsavim_model_write(&m, file + words[LARSAVIM_DATA_START], words[LARSAVIM_DATA_LEN], text, sizeof text, out, LARSAVIM_WRITE_OUT); }
 
 static void on_painted_stack(void) {
     top = __builtin_frame_address(0);
@@ -84,6 +93,9 @@ static void measure_model(uint64_t most[CALLS]) {
         keep_most(&most[4], stack_of(call_leaves));
         keep_most(&most[5], stack_of(call_answers));
         keep_most(&most[6], stack_of(call_depth));
+        keep_most(&most[7], stack_of(call_accepts));
+        keep_most(&most[8], stack_of(call_write_needs));
+        keep_most(&most[9], stack_of(call_write));
     }
     for (int t = 0; t < LARSAVIM_TABLES; t++)
         free(m.table[t]);
@@ -104,7 +116,7 @@ static void measure_file(const char *path, uint64_t most[CALLS]) {
 }
 
 int main(int argc, char **argv) {
-    static const char *const name[CALLS] = {"open", "needs", "load", "walk", "leaves", "answers", "depth"};
+    static const char *const name[CALLS] = {"open", "needs", "load", "walk", "leaves", "answers", "depth", "accepts", "write_needs", "write"};
     uint64_t most[CALLS] = {0};
     stack = malloc(STACK);
     if (stack == NULL)
@@ -112,6 +124,6 @@ int main(int argc, char **argv) {
     for (int i = 1; i < argc; i++)
         measure_file(argv[i], most);
     for (int i = 0; i < CALLS; i++)
-        printf("%-8s %llu\n", name[i], (unsigned long long)most[i]);
+        printf("%-11s %llu\n", name[i], (unsigned long long)most[i]);
     return 0;
 }
