@@ -262,6 +262,50 @@ static void leaf_checks(void) {
     expect(larsavim_leaves(NULL, 0, none, LARSAVIM_TREE_ROW, NULL, 0, NULL, 0, 3) == 1, "leaf check, no entries");
 }
 
+/* The text of these tables, with so many questions, into a buffer of so many bytes. */
+static uint8_t buffer[65536];
+
+static uint64_t write_to(uint64_t questions, uint64_t buffer_len, uint64_t out_len) {
+    return larsavim_write(file + good[LARSAVIM_DATA_START], good[LARSAVIM_DATA_LEN], table[QUESTIONS], questions * LARSAVIM_QUESTION_ROW, table[PATTERNS],
+                          needs[ROWS + PATTERNS] * LARSAVIM_PATTERN_ROW, table[TREES], needs[ROWS + TREES] * LARSAVIM_TREE_ROW, table[RECORDS],
+                          needs[ROWS + RECORDS] * LARSAVIM_RECORD_ROW, buffer, buffer_len, out, out_len);
+}
+
+static int buffer_is_painted(uint64_t from) {
+    for (uint64_t i = from; i < sizeof buffer; i++)
+        if (buffer[i] != 0x5a)
+            return 0;
+    return 1;
+}
+
+static void texts(void) {
+    uint64_t questions = needs[ROWS + QUESTIONS], first = table[RECORDS][LARSAVIM_RECORD_YES], len;
+    memset(buffer, 0x5a, sizeof buffer);
+    paint(out, 16);
+    expect(write_to(questions, sizeof buffer, LARSAVIM_WRITE_OUT - 1) == LARSAVIM_ROOM && painted(out, 0, 16), "write, short out");
+    expect(larsavim_write_needs(NULL, 0, NULL, 0, NULL, 0, NULL, 0, NULL, 0, out, LARSAVIM_WRITE_NEEDS_OUT - 1) == LARSAVIM_ROOM && painted(out, 0, 16), "write_needs, short out");
+    expect(refused(larsavim_write_needs(NULL, 0, NULL, 0, NULL, 0, NULL, 0, NULL, 0, out, 16), LARSAVIM_TEXT, LARSAVIM_WRITE_NEEDS_OUT), "write_needs of nothing: no text is without a tree");
+    paint(out, 16);
+    expect(refused(larsavim_write(NULL, 0, NULL, 0, NULL, 0, NULL, 0, NULL, 0, NULL, 0, out, 16), LARSAVIM_TEXT, LARSAVIM_WRITE_OUT), "write of nothing");
+    paint(out, 16);
+    expect(refused(write_to(0, sizeof buffer, 16), LARSAVIM_WALKTABLE, LARSAVIM_WRITE_OUT), "write, no questions");
+    paint(out, 16);
+    expect(refused(write_to(questions, 0, 16), LARSAVIM_ROOM, LARSAVIM_WRITE_OUT), "write, no buffer");
+    table[RECORDS][LARSAVIM_RECORD_YES] = UINT64_MAX;
+    paint(out, 16);
+    expect(refused(write_to(questions, 0, 16), LARSAVIM_WALKTABLE, LARSAVIM_WRITE_OUT), "write, a reference of 2^64 - 1: 24 before 20");
+    table[RECORDS][LARSAVIM_RECORD_YES] = first;
+    expect(buffer_is_painted(0), "a refused write leaves the buffer");
+    paint(out, 16);
+    expect(write_to(questions, sizeof buffer, 16) == 0 && out[0] == 0 && painted(out, 2, 16), "write");
+    len = out[LARSAVIM_WRITE_LENGTH];
+    expect(len > 0 && len < sizeof buffer && buffer[len - 1] == '\n' && buffer_is_painted(len), "bytes behind the text are as they were");
+    paint(out, 16);
+    expect(refused(write_to(questions, len - 1, 16), LARSAVIM_ROOM, LARSAVIM_WRITE_OUT), "write, a byte short");
+    paint(out, 16);
+    expect(write_to(questions, len, 16) == 0 && out[LARSAVIM_WRITE_LENGTH] == len, "write, just the text");
+}
+
 int main(int argc, char **argv) {
     FILE *f = argc == 2 ? fopen(argv[1], "rb") : NULL;
     if (f == NULL)
@@ -278,6 +322,7 @@ int main(int argc, char **argv) {
     tree_rows();
     walks();
     leaf_checks();
+    texts();
     printf("calls: %u passed, %u failed\n", passed, failed);
     return failed == 0 ? 0 : 1;
 }
