@@ -133,7 +133,7 @@ static int explain_line(FILE *to, struct bytes text, uint64_t tree, const struct
         put_row(to, r, k);
         fprintf(to, "; line %" PRIu64 " asks ", k);
         put_quoted(to, l->question);
-        fprintf(to, ", question row %" PRIu64 ", so it should begin (0, %" PRIu64, question, question);
+        fprintf(to, ", question row %" PRIu64 ", so it should begin (0, %" PRIu64 ", ..)", question, question);
         return 1;
     }
     return explain_target(to, text, tree, r, k, "yes", l->yes, row(r, k)[2]) || explain_target(to, text, tree, r, k, "no", l->no, row(r, k)[3]);
