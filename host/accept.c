@@ -202,10 +202,11 @@ static void explain_text_refusal(FILE *to, const struct voice *v, uint64_t which
 
 static int accept_tree(const struct voice *v, uint64_t which, uint64_t tree, const struct rows *r) {
     struct bytes text = lend_copy(tree_text_of(v, which));
-    uint64_t *records = lend(8 * r->count), *out = answer_slice(LARSAVIM_ACCEPTS_OUT);
+    uint64_t *records = lend(8 * r->count), *told = answer_slice(LARSAVIM_ACCEPTS_OUT), out[LARSAVIM_ACCEPTS_OUT];
     if (r->count > 0)
         memcpy(records, r->numbers, (size_t)(8 * r->count));
-    larsavim_accepts(text.at, text.len, tree, records, r->count, out, LARSAVIM_ACCEPTS_OUT);
+    larsavim_accepts(text.at, text.len, tree, records, r->count, told, LARSAVIM_ACCEPTS_OUT);
+    memcpy(out, told, sizeof out);
     if (out[0] == LARSAVIM_SUCCESS)
         puts("ACCEPTED");
     else
