@@ -133,7 +133,7 @@ static int explain_line(FILE *to, struct bytes text, uint64_t tree, const struct
         put_row(to, r, k);
         fprintf(to, "; line %" PRIu64 " asks ", k);
         put_quoted(to, l->question);
-        fprintf(to, ", question row %" PRIu64 ", so it should begin (0, %" PRIu64, question, question);
+        fprintf(to, ", question row %" PRIu64 ", so it should begin (0, %" PRIu64 ", ..)", question, question);
         return 1;
     }
     return explain_target(to, text, tree, r, k, "yes", l->yes, row(r, k)[2]) || explain_target(to, text, tree, r, k, "no", l->no, row(r, k)[3]);
@@ -202,10 +202,11 @@ static void explain_text_refusal(FILE *to, const struct voice *v, uint64_t which
 
 static int accept_tree(const struct voice *v, uint64_t which, uint64_t tree, const struct rows *r) {
     struct bytes text = lend_copy(tree_text_of(v, which));
-    uint64_t *records = lend(8 * r->count), *out = answer_slice(LARSAVIM_ACCEPTS_OUT);
+    uint64_t *records = lend(8 * r->count), *told = answer_slice(LARSAVIM_ACCEPTS_OUT), out[LARSAVIM_ACCEPTS_OUT];
     if (r->count > 0)
         memcpy(records, r->numbers, (size_t)(8 * r->count));
-    larsavim_accepts(text.at, text.len, tree, records, r->count, out, LARSAVIM_ACCEPTS_OUT);
+    larsavim_accepts(text.at, text.len, tree, records, r->count, told, LARSAVIM_ACCEPTS_OUT);
+    memcpy(out, told, sizeof out);
     if (out[0] == LARSAVIM_SUCCESS)
         puts("ACCEPTED");
     else
