@@ -57,6 +57,7 @@ extern "C" {
                                * Of larsavim_answers: a pattern outside its table or the data. Of larsavim_write: a row points outside its table or the data.
                                * Of larsavim_load_shared and larsavim_unload: the two tasks' bounds overlap or pass a table, or there is no such side */
 #define LARSAVIM_STEPS 25     /* another question would pass the walk's limit */
+/* 26 to 28 are kept for a trailer behind the data (02, Wish 7); no call gives them yet. */
 #define LARSAVIM_TRAILER 26   /* the buffer is too short for a trailer, the file with it would pass the limit, or there are fewer than 12 data bytes */
 #define LARSAVIM_SUM 27       /* the trailer's sum isn't that of the bytes before it */
 #define LARSAVIM_TRAILER_ROWS 28 /* the trailer's rows don't end where its last three numbers begin, or aren't the text's */
