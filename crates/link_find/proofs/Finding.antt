@@ -39,10 +39,8 @@ use Rattle.written.specs.Bytes.{same}
 use Rattle.link_order.specs.Keys.{idKey, partOr}
 use Rattle.link_search.specs.declared.Found.{Found}
 use Rattle.link_search.specs.declared.Found.the-variants.{At, Nothing}
-use Rattle.link_find.specs.Find.{starOf, lastFrom, nameStep, named, asked, bears, borneFrom, borne, placed, ordered}
+use Rattle.link_find.specs.Find.{starOf, lastFrom, nameStep, named, asked, bears, placed, ordered}
 use Rattle.link_find.specs.declared.NameStep.the-variants as name
-use Rattle.link_find.specs.declared.Borne.{Borne}
-use Rattle.link_find.specs.declared.Borne.the-variants.{By, Nobody}
 
 module _ (s : List ℕ) where
   -- ---- trees
@@ -217,21 +215,6 @@ module _ {A : Type 0} (p : A → Bool) (k : ℕ) (f : Found) where
   unfolding lastFrom
   last-over e = sym (ap (lastFrom p k f) e)
 
--- ---- the last line that bears an id
-
-module _ (x k : ℕ) (b : Borne) where
-  pub borne-on : {g : Borne} {l : Line} {ls ms : List Line} → ms ≡ l ∷ ls → g ≡ cond (bears x l) (By k l) b → borneFrom x (k + 1) g ls ≡ borneFrom x k b ms
-  unfolding borneFrom
-  borne-on {g} {l} {ls} e q = ap₂ (λ i g. borneFrom x i g ls) (add-one k) q ∙ sym (ap (borneFrom x k b) e)
-
-  pub borne-end : {g : Borne} {l : Line} {ms : List Line} → ms ≡ l ∷ [] → g ≡ cond (bears x l) (By k l) b → g ≡ borneFrom x k b ms
-  unfolding borneFrom
-  borne-end e q = q ∙ sym (ap (borneFrom x k b) e)
-
-  pub borne-none : {ms : List Line} → ms ≡ [] → b ≡ borneFrom x k b ms
-  unfolding borneFrom
-  borne-none e = sym (ap (borneFrom x k b) e)
-
 -- ---- ids in order
 
 module _ (k : ℕ) where
@@ -255,21 +238,7 @@ module _ (k : ℕ) where
   unfolding ordered
   ordered-none e = sym (ap (ordered k) e)
 
--- ---- what was found
-
-abbrev pub numberIn : Borne → Found
-numberIn (By k l) = At k
-numberIn Nobody = Nothing
-
--- the number of the line is that of the last that bears the id
-pub borne-number : (x k : ℕ) (b : Borne) (ls : List Line) → numberIn (borneFrom x k b ls) ≡ lastFrom (bears x) k (numberIn b) ls
-unfolding borneFrom lastFrom
-borne-number x k b [] = refl
-borne-number x k b (l ∷ ls) = borne-number x (suc k) (cond (bears x l) (By k l) b) ls ∙ ap (λ (f : Found). lastFrom (bears x) (suc k) f ls) (go (bears x l))
-  where
-    go : (c : Bool) → numberIn (cond c (By k l) b) ≡ cond c (At k) (numberIn b)
-    go true = refl
-    go false = refl
+-- ---- one alone
 
 module _ {A : Type 0} (p : A → Bool) where
   -- where the test is true of one alone, that one is the last

@@ -18,8 +18,6 @@ use Rattle.link_search.specs.declared.Found.{Found}
 use Rattle.link_search.specs.declared.Found.the-variants.{At, Nothing}
 use Rattle.link_find.specs.declared.NameStep.{NameStep}
 use Rattle.link_find.specs.declared.NameStep.the-variants as name
-use Rattle.link_find.specs.declared.Borne.{Borne}
-use Rattle.link_find.specs.declared.Borne.the-variants.{By, Nobody}
 
 -- ---- trees
 
@@ -55,14 +53,6 @@ asked s w qs = lastFrom (named s w) 0 Nothing qs
 -- a line bears the id of a key
 abbrev pub bears : ℕ → Line → Bool
 bears x l = eqb (idKey (l .id)) x
-
--- the last line from number k on that bears it, or what was found before
-unfoldable pub borneFrom : ℕ → ℕ → Borne → List Line → Borne
-borneFrom x k b [] = b
-borneFrom x k b (l ∷ ls) = borneFrom x (suc k) (cond (bears x l) (By k l) b) ls
-
-abbrev pub borne : ℕ → List Line → Borne
-borne x ls = borneFrom x 0 Nobody ls
 
 -- the number of the last line that bears it
 abbrev pub bearer : ℕ → List Line → Found

@@ -21,17 +21,14 @@ use tree_survey_questions::Patterns;
 use tree_survey_questions::count_patterns;
 ghost use mathlib.Core.Path.{_≡_};
 ghost use mathlib.Core.Bool.{cond};
-ghost use lib.Dec.{eqb};
 ghost use lib.ListN.{length};
 ghost use Rattle.written.specs.Bytes.{same};
 ghost use Rattle.laws.specs.Steps.{read};
-ghost use Rattle.link_order.specs.Keys.{idKey};
 ghost use Rattle.tree_line.specs.Lines.{linesAt};
 ghost use Rattle.tree_question.specs.Questions.{questionStepAt, questionsAt};
 ghost use Rattle.tree_body.specs.Trees.{treesAt};
 ghost use Rattle.link_search.specs.declared.Found.the-variants.{At};
-ghost use Rattle.link_find.specs.Find.{starOf, nameStep, asked, borne, bearer, placed, ordered, Lines};
-ghost use Rattle.link_find.specs.declared.Borne.the-variants.{By};
+ghost use Rattle.link_find.specs.Find.{starOf, nameStep, asked, bears, bearer, placed, ordered, Lines};
 
 // A question's name, and where the next question stands; or the last one's; or no question.
 pub enum NameStep {
@@ -45,12 +42,6 @@ pub enum NameStep {
         len: usize,
     },
     Broken,
-}
-
-// A line, with its number, that bears an id.
-pub enum Borne {
-    By { number: u64, line: Line },
-    Nobody,
 }
 
 // Where tree n of those from `first` on stands.
@@ -169,34 +160,30 @@ pub fn last_question(s: &[u8], at: usize, name: &[u8]) -> Found
     }
 }
 
-// What is found once a line was looked at.
-fn borne_after(before: Borne, line: Line, number: u64, key: u64) -> Borne
-    ensures { λ r. ⌜ r ≡ cond (eqb (idKey (line .id)) key) (By number line) before ⌝ }
+// Whether a line bears the id of a key.
+fn bears_id(line: Line, key: u64) -> bool
+    ensures { λ r. ⌜ r ≡ bears key line ⌝ }
 {
     let id = line.id;
-    if id_key(id) == key {
-        Borne::By { number, line }
-    } else {
-        before
-    }
+    id_key(id) == key
 }
 
-// The last of a tree's lines, from the first one's place on, that bears the id of a key.
-pub fn last_line(s: &[u8], first: usize, key: u64) -> Borne
-    ensures { λ r. ⌜ r ≡ borne key (linesAt (now (s .entry)) first .items) ⌝ }
+// The number of the last of a tree's lines, from the first one's place on, that bears the id of a key.
+pub fn last_line(s: &[u8], first: usize, key: u64) -> Found
+    ensures { λ r. ⌜ r ≡ bearer key (linesAt (now (s .entry)) first .items) ⌝ }
 {
     let mut i = first;
     let mut number: u64 = 0;
-    let mut last = Borne::Nobody;
+    let mut last = Found::Nothing;
     loop {
         match next_line(s, i) {
             LineStep::Next { line, next } => {
-                last = borne_after(last, line, number, key);
+                last = found_after(last, bears_id(line, key), number);
                 number = number + 1;
                 i = next;
             }
             LineStep::Last { line, next: _ } => {
-                return borne_after(last, line, number, key);
+                return found_after(last, bears_id(line, key), number);
             }
             LineStep::Broken => {
                 return last;
@@ -257,8 +244,5 @@ pub fn line_of(s: &[u8], first: usize, n: u64, in_order: bool, key: u64) -> Foun
         }
         return Found::Nothing;
     }
-    match last_line(s, first, key) {
-        Borne::By { number, line: _ } => Found::At(number),
-        Borne::Nobody => Found::Nothing,
-    }
+    last_line(s, first, key)
 }

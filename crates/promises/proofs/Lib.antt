@@ -13,6 +13,7 @@ pub mod Sharing
 pub mod Apart
 pub mod Walking
 pub mod Walked
+pub mod Demand
 pub mod Front
 pub mod Saving
 pub mod Accepting

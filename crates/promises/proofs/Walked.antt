@@ -146,7 +146,7 @@ unread-number (Unread.text-outside a b) = omega arith
 unread-number (Unread.breaks a b c) = omega arith
 unread-number (Unread.said a b c d) = unloaded-number d
 
-no-model-number : {s : List ℕ} {h : record-of.Header} {m : models.Model} {n p k : ℕ} → NoModel widening s h m n p k → 0 < n
+pub no-model-number : {s : List ℕ} {h : record-of.Header} {m : models.Model} {n p k : ℕ} → NoModel widening s h m n p k → 0 < n
 no-model-number (NoModel.unplaced u) = unplaced-number u
 no-model-number (NoModel.placed p u) = unread-number u
 

@@ -2,8 +2,7 @@
 use mathlib.Core.Path.{_≡_, sym, ap, _∙_}
 use mathlib.Core.Bool.{true, false}
 use native.Mathlib.Omega.{arith}
-use Rattle.link_find.specs.declared.Borne.the-variants.{Nobody}
-use Rattle.link_find.proofs.Finding.{numberIn, borne-number, order-above, order-past, order-at}
+use Rattle.link_find.proofs.Finding.{order-above, order-past, order-at}
 use borrow.Author.Needs.{needs}
 use Rattle.link_find.proofs.line_of.Statement.{statement}
 use Rattle.link_find.proofs.line_of.Tie as tie
@@ -20,17 +19,8 @@ returns-3 c = order-past _ _ _ (c .before .before .before .before .pre .many) (s
 last-line-requires : tie.Need-last-line-requires
 last-line-requires c κs = search needs
 
-enum-known-number : tie.Need-enum-known-number
-enum-known-number c = search needs
-
-enum-told : tie.Need-enum-told
-enum-told c = search needs
-
 returns-4 : tie.Need-returns-4
-returns-4 c = ap numberIn (sym (c .before .number .given .1) ∙ c .before .before .before .last-line .ensures) ∙ borne-number _ 0 Nobody _
-
-returns-5 : tie.Need-returns-5
-returns-5 c = ap numberIn (sym (c .enum-told .given .1) ∙ c .before .before .last-line .ensures) ∙ borne-number _ 0 Nobody _
+returns-4 c = c .last-line .ensures
 
 pub line-of-spec : {M : Type 1} → statement M
 line-of-spec =
@@ -40,7 +30,4 @@ line-of-spec =
     returns-2
     returns-3
     last-line-requires
-    enum-known-number
-    enum-told
-    returns-4
-    returns-5)
+    returns-4)
