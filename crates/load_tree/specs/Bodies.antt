@@ -5,6 +5,7 @@ use mathlib.Core.List.{List, [], _∷_}
 use Prim.Native.Nat.{ℕ, _+_, _*_}
 use lib.IntN.{ℤ}
 use lib.ListN.{length, replicate}
+use lib.Seq.{sets}
 use Rattle.laws.specs.Steps.{Ending, doneAt, brokenAt}
 use Rattle.tree_reference.specs.References.{sameIndex}
 use Rattle.tree_reference.specs.declared.TreeIndex.{TreeIndex}
@@ -21,6 +22,7 @@ use Rattle.load_lines.specs.Words.{lineWords}
 use Rattle.load_tree.specs.declared.Single.{Single}
 use Rattle.load_tree.specs.declared.Single.the-variants.{One, Several}
 use Rattle.load_tree.specs.declared.Filled.{Filled}
+use Rattle.load_tree.specs.declared.TreeFill.{TreeFill}
 use Rattle.load_tree.specs.declared.Filled.the-variants.{Done, NodeRef, QuestionRef, LoneNode}
 
 -- how a tree ends, and the numbers that stand in its part of the records
@@ -67,3 +69,9 @@ abbrev pub singleOf : List Line → Single
 singleOf [] = Several
 singleOf (l ∷ []) = cond (sameIndex (l .no) (l .yes)) (One (l .yes)) Several
 singleOf (l ∷ (k ∷ ls)) = Several
+
+-- a tree in braces, filled by the n questions of the table: how it ended, where reading did, and the records and the work after it
+abbrev pub BracesFilled : List ℕ → List ℕ → ℕ → ℕ → ℕ → List ℕ → List ℤ → TreeFill → List ℕ → List ℤ → Type 0
+BracesFilled s questions n at first R w r R₁ w₁ =
+    (r .filled ≡ linesResult s questions n (linesAt s at .items) .ends) × (r .next ≡ linesEnd s at)
+    × (R₁ ≡ sets R first (linesResult s questions n (linesAt s at .items) .rows)) × (w₁ ≡ sets w 0 (lineWords s questions n (linesAt s at .items)))

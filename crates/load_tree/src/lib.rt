@@ -22,8 +22,7 @@ ghost use Rattle.link_search.specs.Index.{Index};
 ghost use Rattle.tree_line.specs.Lines.{linesAt};
 ghost use Rattle.tree_survey_lines.specs.Counts.{recordsOf};
 ghost use Rattle.link_targets.specs.Lines.{linesFrom, pdfsOf};
-ghost use Rattle.load_lines.specs.Words.{lineWords};
-ghost use Rattle.load_tree.specs.Bodies.{leafResult, linkResult, linesResult, linesEnd, singleOf};
+ghost use Rattle.load_tree.specs.Bodies.{leafResult, linkResult, linesEnd, singleOf, BracesFilled};
 
 // How a tree ends: with so many records, and the lines of its row; or refused, at a line.
 pub enum Filled {
@@ -123,7 +122,7 @@ pub fn fill_braces(
     requires { ⌜ Index (λ e. nameKey (nameAt (now s) (now questions) e)) (now index) × (length (now index) < 2 ^ 62) ⌝ }
     requires { ⌜ linesAt (now s) at .ending ≡ doneAt (linesEnd (now s) at) ⌝ }
     requires { ⌜ (first + 4 * recordsOf (linesAt (now s) at .items) ≤ length (now records)) × (6 * length (linesAt (now s) at .items) ≤ length (now work)) ⌝ }
-    ensures { λ r. ⌜ (r .filled ≡ linesResult (now (s .entry)) (now (questions .entry)) (length (now (index .entry))) (linesAt (now (s .entry)) at .items) .ends) × (r .next ≡ linesEnd (now (s .entry)) at) × (now (records .exit) ≡ sets (now (records .entry)) first (linesResult (now (s .entry)) (now (questions .entry)) (length (now (index .entry))) (linesAt (now (s .entry)) at .items) .rows)) × (now (work .exit) ≡ sets (now (work .entry)) 0 (lineWords (now (s .entry)) (now (questions .entry)) (length (now (index .entry))) (linesAt (now (s .entry)) at .items))) ⌝ }
+    ensures { λ r. ⌜ BracesFilled (now (s .entry)) (now (questions .entry)) (length (now (index .entry))) at first (now (records .entry)) (now (work .entry)) r (now (records .exit)) (now (work .exit)) ⌝ }
 {
     match fill_lines(s, at, questions, index, work) {
         LineCount::Counted { lines, pdfs, next } => match single_of(s, at, lines) {
