@@ -4,3 +4,4 @@ pub mod Search
 pub mod Named
 pub mod Joined
 pub mod Examples
+pub mod Texts

@@ -1,6 +1,6 @@
 -- The entries of a name, where the record stands in words: which group is found, and what is made of it.
 use mathlib.Core.Path.{_≡_, refl, sym, ap, ap₂, _∙_}
-use mathlib.Core.Bool.{true}
+use mathlib.Core.Bool.{true, false}
 use mathlib.Core.List.{List}
 use Prim.Native.Nat.{ℕ, _+_, _*_, _≤_, _<_}
 use native.Mathlib.Omega.{arith}
@@ -13,14 +13,14 @@ use Rattle.head_record.specs.declared.StreamData.{StreamData}
 use Rattle.head_record.specs.declared.PositionData.{PositionData}
 use Rattle.head_record_fits.specs.Fits.{noStream, noPosition, recordFits}
 use Rattle.head_record_fits.proofs.Fits.{fits}
-use Rattle.head_words.specs.Words.{wordAt, spanAt, globalAt, streamAt, positionAt, headerAt}
+use Rattle.head_words.specs.Words.{wordAt, flagAt, spanAt, globalAt, streamAt, positionAt, headerAt}
 use Rattle.head_brackets.specs.Rows.{bytesOf}
 use Rattle.link_search.specs.Found.{lastBelow}
 use Rattle.link_search.specs.declared.Found.{Found}
 use Rattle.link_search.specs.declared.Found.the-variants.{At, Nothing}
 use Rattle.link_search.proofs.Last.{last-inside, last-ext-below}
 use Rattle.head_words.proofs.Items.{getD-run}
-use Rattle.load_choose.specs.Chosen.{positionNamed, streamNamed, numbered}
+use Rattle.load_choose.specs.Chosen.{positionNamed, streamNamed, numbered, usedBy, usesGv}
 use Rattle.load_choose.specs.Entries.{typeName}
 use Rattle.load_choose.specs.declared.Chosen.{Chosen}
 use Rattle.load_choose.specs.declared.Chosen.the-variants.{Refused}
@@ -61,42 +61,57 @@ module _ (w : List ℕ) where
   unfolding streamAt
   stream-name k l = ap (λ (d : StreamData). d .name) (stream-at k l)
 
+module _ (s w : List ℕ) (i : ℕ) where
+  -- what is found of the i-th name among the words is what the record has
+  module _ (f : Counts w) (l : i < wordAt w 22) (x : Span) (e : x ≡ spanAt w (6 + 2 * i)) where
+    named-so : bytesOf s x ≡ typeName s (headerAt w) i
+    named-so = ap (bytesOf s) (e ∙ sym (type-at w i (omega (arith, f .types))))
+
+    pub position-found : positionNamed s (headerAt w .positions) (headerAt w .«position_count») (typeName s (headerAt w) i) ≡ groupNamed s w 412 29 (wordAt w 644) (bytesOf s x)
+    unfolding headerAt
+    position-found =
+        last-ext-below _ _ (wordAt w 644) (λ k h. ap₂ (λ y v. same (bytesOf s y) v) (position-name w k (omega (arith, f .positions))) (sym named-so))
+
+    pub stream-found : streamNamed s (headerAt w .streams) (headerAt w .«stream_count») (typeName s (headerAt w) i) ≡ groupNamed s w 95 39 (wordAt w 407) (bytesOf s x)
+    unfolding headerAt
+    stream-found =
+        last-ext-below _ _ (wordAt w 407) (λ k h. ap₂ (λ y v. same (bytesOf s y) v) (stream-name w k (omega (arith, f .streams))) (sym named-so))
+
+  -- and is among the eight
+  module _ (f : Counts w) where
+    pub p-inside : {p : ℕ} → positionNamed s (headerAt w .positions) (headerAt w .«position_count») (typeName s (headerAt w) i) ≡ At p → p < 8
+    unfolding headerAt
+    p-inside q = omega (arith, last-inside _ _ _ q, f .positions)
+
+    pub k-inside : {k : ℕ} → streamNamed s (headerAt w .streams) (headerAt w .«stream_count») (typeName s (headerAt w) i) ≡ At k → k < 8
+    unfolding headerAt
+    k-inside q = omega (arith, last-inside _ _ _ q, f .streams)
+
+    pub stream-uses : {k : ℕ} → streamNamed s (headerAt w .streams) (headerAt w .«stream_count») (typeName s (headerAt w) i) ≡ At k → flagAt w (95 + 39 * k + 5) ≡ usesGv s (headerAt w) i
+    unfolding usesGv streamAt
+    stream-uses {k} q = sym (ap (usedBy (headerAt w .streams)) q ∙ ap (λ (d : StreamData). d .«use_gv») (stream-at w k (k-inside q)))
+
+  pub no-stream-uses : streamNamed s (headerAt w .streams) (headerAt w .«stream_count») (typeName s (headerAt w) i) ≡ Nothing → false ≡ usesGv s (headerAt w) i
+  unfolding usesGv
+  no-stream-uses q = sym (ap (usedBy (headerAt w .streams)) q)
+
 module _ (make : StreamData → PositionData → Chosen) (s w : List ℕ) (i : ℕ) where
   pub not-numbered : wordAt w 22 ≤ i → Refused refusal.NoPosition ≡ numbered make s (headerAt w) i
   unfolding headerAt globalAt
   not-numbered l = no-number make s (headerAt w) i l
 
-  module _ (f : Counts w) (l : i < wordAt w 22) (x : Span) (e : x ≡ spanAt w (6 + 2 * i)) where
-    in-types : i < headerAt w .global .«stream_type_count»
-    unfolding headerAt globalAt
-    in-types = l
+  in-types : i < wordAt w 22 → i < headerAt w .global .«stream_type_count»
+  unfolding headerAt globalAt
+  in-types l = l
 
-    named-so : bytesOf s x ≡ typeName s (headerAt w) i
-    named-so = ap (bytesOf s) (e ∙ sym (type-at w i (omega (arith, f .types))))
+  pub without-position : i < wordAt w 22 → positionNamed s (headerAt w .positions) (headerAt w .«position_count») (typeName s (headerAt w) i) ≡ Nothing → Refused refusal.NoPosition ≡ numbered make s (headerAt w) i
+  without-position l q = no-position make s (headerAt w) i (in-types l) q
 
-    position-found : positionNamed s (headerAt w .positions) (headerAt w .«position_count») (typeName s (headerAt w) i) ≡ groupNamed s w 412 29 (wordAt w 644) (bytesOf s x)
-    unfolding headerAt
-    position-found =
-        last-ext-below _ _ (wordAt w 644) (λ k h. ap₂ (λ y v. same (bytesOf s y) v) (position-name w k (omega (arith, f .positions))) (sym named-so))
+  pub without-stream : i < wordAt w 22 → {p : ℕ} → positionNamed s (headerAt w .positions) (headerAt w .«position_count») (typeName s (headerAt w) i) ≡ At p
+      → streamNamed s (headerAt w .streams) (headerAt w .«stream_count») (typeName s (headerAt w) i) ≡ Nothing → Refused refusal.NoStream ≡ numbered make s (headerAt w) i
+  without-stream l q r = no-stream make s (headerAt w) i (in-types l) q r
 
-    stream-found : streamNamed s (headerAt w .streams) (headerAt w .«stream_count») (typeName s (headerAt w) i) ≡ groupNamed s w 95 39 (wordAt w 407) (bytesOf s x)
-    unfolding headerAt
-    stream-found =
-        last-ext-below _ _ (wordAt w 407) (λ k h. ap₂ (λ y v. same (bytesOf s y) v) (stream-name w k (omega (arith, f .streams))) (sym named-so))
-
-    pub without-position : groupNamed s w 412 29 (wordAt w 644) (bytesOf s x) ≡ Nothing → Refused refusal.NoPosition ≡ numbered make s (headerAt w) i
-    without-position q = no-position make s (headerAt w) i in-types (position-found ∙ q)
-
-    module _ (p : ℕ) (q : groupNamed s w 412 29 (wordAt w 644) (bytesOf s x) ≡ At p) where
-      pub p-inside : p < 8
-      p-inside = omega (arith, last-inside _ _ _ q, f .positions)
-
-      pub without-stream : groupNamed s w 95 39 (wordAt w 407) (bytesOf s x) ≡ Nothing → Refused refusal.NoStream ≡ numbered make s (headerAt w) i
-      without-stream r = no-stream make s (headerAt w) i in-types (position-found ∙ q) (stream-found ∙ r)
-
-      module _ (k : ℕ) (r : groupNamed s w 95 39 (wordAt w 407) (bytesOf s x) ≡ At k) where
-        pub k-inside : k < 8
-        k-inside = omega (arith, last-inside _ _ _ r, f .streams)
-
-        pub with-both : make (streamAt w (95 + 39 * k)) (positionAt w (412 + 29 * p)) ≡ numbered make s (headerAt w) i
-        with-both = sym (ap₂ make (stream-at w k k-inside) (position-at w p p-inside)) ∙ both make s (headerAt w) i in-types (position-found ∙ q) (stream-found ∙ r)
+  pub with-both : Counts w → i < wordAt w 22 → {p k : ℕ} → positionNamed s (headerAt w .positions) (headerAt w .«position_count») (typeName s (headerAt w) i) ≡ At p
+      → streamNamed s (headerAt w .streams) (headerAt w .«stream_count») (typeName s (headerAt w) i) ≡ At k → make (streamAt w (95 + 39 * k)) (positionAt w (412 + 29 * p)) ≡ numbered make s (headerAt w) i
+  with-both f l {p} {k} q r =
+      sym (ap₂ make (stream-at w k (k-inside s w i f r)) (position-at w p (p-inside s w i f q))) ∙ both make s (headerAt w) i (in-types l) q r

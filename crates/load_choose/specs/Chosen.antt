@@ -79,10 +79,6 @@ numbered make s h i =
 
 -- ---- the model asked for
 
-abbrev pub made : Bool → StreamData → PositionData → Chosen
-made true = gvModel
-made false = streamModel
-
 abbrev pub asked : List ℕ → Header → Which → Chosen
 asked s h Duration = modelOf (h .«duration_tree») (h .«duration_pdf») (2 * h .global .«num_states»)
 asked s h (Stream i) = numbered streamModel s h i
@@ -91,6 +87,42 @@ asked s h (Gv i) = numbered gvModel s h i
 -- 16: the record does not fit the file
 unfoldable pub chosenOf : List ℕ → Header → Which → Chosen
 chosenOf s h w = cond (recordFits (length s) h) (asked s h w) (Refused refusal.Range)
+
+-- ---- where its text stands, however wide it is (02, Wish 7): the same, of width 0
+
+-- measured or not
+unfoldable pub streamBy : Bool → StreamData → PositionData → Chosen
+streamBy m d p = modelOf (p .«stream_tree») (p .«stream_pdf») (2 * (cond m (d .«vector_length») 0 * d .«num_windows») + bit (m && d .«is_msd»))
+
+abbrev pub usable : StreamData → PositionData → Bool
+usable d p = d .«use_gv» && p .«has_gv_tree» && p .«has_gv_pdf»
+
+unfoldable pub gvBy : Bool → StreamData → PositionData → Chosen
+gvBy m d p = cond (usable d p) (modelOf (p .«gv_tree») (p .«gv_pdf») (2 * cond m (d .«vector_length») 0)) (Refused refusal.UseGv)
+
+abbrev pub madeBy : Bool → Bool → StreamData → PositionData → Chosen
+madeBy m true = gvBy m
+madeBy m false = streamBy m
+
+abbrev pub askedBy : Bool → List ℕ → Header → Which → Chosen
+askedBy m s h Duration = modelOf (h .«duration_tree») (h .«duration_pdf») (2 * cond m (h .global .«num_states») 0)
+askedBy m s h (Stream i) = numbered (streamBy m) s h i
+askedBy m s h (Gv i) = numbered (gvBy m) s h i
+
+abbrev pub chosenBy : Bool → List ℕ → Header → Which → Chosen
+chosenBy m s h w = cond (recordFits (length s) h) (askedBy m s h w) (Refused refusal.Range)
+
+unfoldable pub textChosen : List ℕ → Header → Which → Chosen
+textChosen s h w = chosenBy false s h w
+
+-- whether the entry that a search among streams found uses a GV
+abbrev pub usedBy : List StreamData → Found → Bool
+usedBy l (At k) = getD l k noStream .«use_gv»
+usedBy l Nothing = false
+
+-- whether the stream of the i-th name uses one
+unfoldable pub usesGv : List ℕ → Header → ℕ → Bool
+usesGv s h i = usedBy (h .streams) (streamNamed s (h .streams) (h .«stream_count») (bytesOf s (getD (h .global .«stream_type») i noSpan)))
 
 -- ---- groups in words
 

@@ -59,7 +59,7 @@ pub enum Planned {
 }
 
 // The tree text that begins at `at` and ends with the slice: 17 with the place where it breaks, 18.
-fn read_text(s: &[u8], at: usize) -> Text
+pub fn read_text(s: &[u8], at: usize) -> Text
     ensures { λ r. ⌜ r ≡ textOf (now (s .entry)) at ⌝ }
 {
     match survey_questions(s, at) {

@@ -1,59 +1,24 @@
 -- `load_choose::gv_model` meets its contract.
 use borrow.Author.Needs.{needs}
-use borrow.Author.Tests.{eq-eqb, ne-eqb}
-use Prim.Native.Nat.{_+_, _*_}
-use lib.ListN.{getD}
+use Rattle.load_choose.specs.Chosen.{modelOf, gvBy}
 use Rattle.head_words.specs.Words.{wordAt, rangeAt, streamAt, positionAt}
-use Rattle.load_choose.specs.Chosen.{gvModel, modelOf}
+use mathlib.Core.Bool.{cond}
+use mathlib.Core.Path.{_≡_, sym, ap, _∙_}
 use native.Mathlib.Omega.{arith}
-use mathlib.Core.Path.{_≡_, ap, _∙_}
+use Prim.Native.Nat.{ℕ, _+_, _*_}
+use borrow.Author.Tests.{not-true, not-false}
 use Rattle.load_choose.proofs.gv_model.Statement.{statement}
 use Rattle.load_choose.proofs.gv_model.Tie as tie
+use Rattle.load_choose.proofs.counted.Reads as counted-reads
+use Rattle.load_choose.proofs.has_gv.Reads as has-gv-reads
+use Rattle.load_choose.proofs.model.Reads as model-reads
 
-add-if1 : tie.Need-add-if1
-add-if1 c = search needs
-
-mul-if1 : tie.Need-mul-if1
-mul-if1 c = search needs
-
-shared-slice-read-if1 : tie.Need-shared-slice-read-if1
-shared-slice-read-if1 c = search needs
+has-gv-requires : tie.Need-has-gv-requires
+has-gv-requires c κs = search needs
 
 returns : tie.Need-returns
-unfolding gvModel streamAt positionAt
-returns c = rw (eq-eqb (wordAt (c .before .before .before .args .words .now) (c .before .before .before .args .stream + 5)) 0 (c .if1 .taken))
-
-add-if2 : tie.Need-add-if2
-add-if2 c = search needs
-
-mul-if2 : tie.Need-mul-if2
-mul-if2 c = search needs
-
-shared-slice-read-if2 : tie.Need-shared-slice-read-if2
-shared-slice-read-if2 c = search needs
-
-returns-2 : tie.Need-returns-2
-unfolding gvModel streamAt positionAt
-returns-2 c =
-    let x = c .before .before .before .before .before .args in
-    let w = x .words .now in
-    rw (ne-eqb (wordAt w (x .stream + 5)) 0 (c .before .before .if1 .left), eq-eqb (wordAt w (x .position + 28)) 0 (c .if2 .taken))
-
-add-if3 : tie.Need-add-if3
-add-if3 c = search needs
-
-mul-if3 : tie.Need-mul-if3
-mul-if3 c = search needs
-
-shared-slice-read-if3 : tie.Need-shared-slice-read-if3
-shared-slice-read-if3 c = search needs
-
-returns-3 : tie.Need-returns-3
-unfolding gvModel streamAt positionAt
-returns-3 c =
-    let x = c .before .before .before .before .before .before .before .args in
-    let w = x .words .now in
-    rw (ne-eqb (wordAt w (x .stream + 5)) 0 (c .before .before .before .before .if1 .left), ne-eqb (wordAt w (x .position + 28)) 0 (c .before .before .if2 .left), eq-eqb (wordAt w (x .position + 25)) 0 (c .if3 .taken))
+unfolding gvBy
+returns c = rw (sym (c .before .has-gv .ensures) ∙ not-true _ (c .if1 .taken))
 
 add-model : tie.Need-add-model
 add-model c = search needs
@@ -61,49 +26,41 @@ add-model c = search needs
 add-model-2 : tie.Need-add-model-2
 add-model-2 c = search needs
 
-add-model-3 : tie.Need-add-model-3
-add-model-3 c = search needs
+add-counted : tie.Need-add-counted
+add-counted c = search needs
 
-mul-model : tie.Need-mul-model
-mul-model c = search needs
+mul-counted : tie.Need-mul-counted
+mul-counted c = search needs
 
-shared-slice-read-model : tie.Need-shared-slice-read-model
-shared-slice-read-model c = search needs
+shared-slice-read-counted : tie.Need-shared-slice-read-counted
+shared-slice-read-counted c = search needs
+
+counted-requires : tie.Need-counted-requires
+counted-requires c κs = search needs
 
 model-requires : tie.Need-model-requires
 model-requires c κs = search needs
 
-returns-4 : tie.Need-returns-4
-unfolding gvModel streamAt positionAt
-returns-4 c =
-    let x = c .before .before .before .before .before .before .before .before .before .args in
+returns-2 : tie.Need-returns-2
+unfolding gvBy streamAt positionAt
+returns-2 c =
+    let x = c .before .before .before .before .before .before .args in
     let w = x .words .now in
-    let v = wordAt w (x .stream + 2) in
-    let e : 2 * (v * 1) + 0 ≡ 2 * v = omega arith in
-    rw
-    (ne-eqb (wordAt w (x .stream + 5)) 0 (c .before .before .before .before .before .before .if1 .left), ne-eqb (wordAt w (x .position + 28)) 0 (c .before .before .before .before .if2 .left), ne-eqb (wordAt w (x .position + 25)) 0 (c .before .before .if3 .left))
-    (c .model .ensures ∙ ap (modelOf (rangeAt w (x .position + 26)) (rangeAt w (x .position + 23))) e)
+    let v : ℕ = cond (x .measured) (wordAt w (x .stream + 2)) 0 in
+    let e : 2 * (c .before .counted .result * 1) + 0 ≡ 2 * v = omega (arith, c .before .counted .ensures) in
+    rw (sym (c .before .before .before .before .has-gv .ensures) ∙ not-false _ (c .before .before .before .if1 .left)) (c .model .ensures ∙ ap (modelOf (rangeAt w (x .position + 26)) (rangeAt w (x .position + 23))) e)
 
 pub gv-model-spec : {M : Type 1} → statement M
 gv-model-spec =
     tie.close
     (tie.spec
-    add-if1
-    mul-if1
-    shared-slice-read-if1
+    has-gv-requires
     returns
-    add-if2
-    mul-if2
-    shared-slice-read-if2
-    returns-2
-    add-if3
-    mul-if3
-    shared-slice-read-if3
-    returns-3
     add-model
     add-model-2
-    add-model-3
-    mul-model
-    shared-slice-read-model
+    add-counted
+    mul-counted
+    shared-slice-read-counted
+    counted-requires
     model-requires
-    returns-4)
+    returns-2)
