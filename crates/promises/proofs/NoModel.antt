@@ -22,7 +22,7 @@ use Rattle.load_plan.specs.declared.Planned.the-variants as planned
 use Rattle.written.specs.Models as models
 use Rattle.written.specs.Models.{dataOf, Within, Placed, Unplaced}
 use Rattle.written.specs.Loading.{NoModel, Unread, Unloaded}
-use Rattle.shown_models.proofs.Chosen.{whichOf, Placing, at, wide, nowhere, choice-placed}
+use Rattle.shown_models.proofs.Chosen.{record-arrays, data-is, whichOf, Placing, at, wide, nowhere, choice-placed}
 use Rattle.load_model.specs.Load.{Tables, lent}
 use Rattle.shown_load.specs.Refused as code
 use Rattle.shown_load.specs.Refused.{NotLoaded}
@@ -30,7 +30,6 @@ use Rattle.shown_load.specs.Stored.{Chose}
 use Rattle.shown_load.proofs.Refused.{needs-not}
 use Rattle.shown_load.proofs.Numbers.{Before, planned-before}
 use Rattle.promises.proofs.Moved.{moved₂}
-use Rattle.promises.proofs.Plans.{record-arrays, data-is}
 
 clash : {A : Type 0} → _≡_ {A = ℕ} 0 1 → A
 clash e = absurd (omega arith)

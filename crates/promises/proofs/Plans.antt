@@ -41,7 +41,7 @@ use Rattle.load_model.proofs.Laws.{length-values}
 use Rattle.shown_words.proofs.Shaped.{record-shaped}
 use Rattle.written.specs.Models as models
 use Rattle.written.specs.Models.{dataOf, Within, Placed}
-use Rattle.shown_models.proofs.Chosen.{whichOf, Placing, at, wide, nowhere, choice-placed}
+use Rattle.shown_models.proofs.Chosen.{record-arrays, data-is, whichOf, Placing, at, wide, nowhere, choice-placed}
 use Rattle.shown_load.proofs.Refused.{within-is}
 use Rattle.shown_load.proofs.Texts as texts
 use Rattle.shown_load.proofs.Texts.{small-take, small-drop}
@@ -121,13 +121,6 @@ pub record PlanSaid (s : List ℕ) (h : record-of.Header) (m : models.Model) (p 
   -- the same at the plan's own places
   pub own-says : tree.Says (take (p .«text_end») (plans.dataOf s (headerRecord h))) (p .text) text layout
   pub own-block : block.Block (widenOf 8 23 11 52) (p .trees) (p .width) (drop (p .block) (take (p .«block_end») (plans.dataOf s (headerRecord h)))) rows values
-
-pub record-arrays : (h : record-of.Header) → Arrays (headerRecord h)
-record-arrays h = let f = record-shaped h in record { streams = f .streams; positions = f .positions }
-
-pub data-is : (s : List ℕ) (h : record-of.Header) → plans.dataOf s (headerRecord h) ≡ dataOf s h
-unfolding headerRecord
-data-is s h = refl
 
 module _ {s : List ℕ} (bytes : Bytes s) {h : record-of.Header} (says : record-of.Says s h) (m : models.Model) where
   pub placing : Placing s h m (chosenOf s (headerRecord h) (whichOf m))

@@ -66,7 +66,7 @@ within-is a b n {x} {y} e = go (leb a (b + 1)) refl (leb (b + 1) n) refl e
     go true c false d e = let u : _≡_ {A = ℕ} 0 1 = cc in absurd (omega arith)
     go false c k d e = let u : _≡_ {A = ℕ} 0 1 = cc in absurd (omega arith)
 
-outside-is : (a b n : ℕ) → withinOf a b n ≡ bounds.Outside → ¬ ((a ≤ b + 1) × (b + 1 ≤ n))
+pub outside-is : (a b n : ℕ) → withinOf a b n ≡ bounds.Outside → ¬ ((a ≤ b + 1) × (b + 1 ≤ n))
 unfolding withinOf
 outside-is a b n e h = go (cond (leb a (b + 1) && leb (b + 1) n) (bounds.Inside a (b + 1)) bounds.Outside) e (rw (le-leb _ _ (h .0), le-leb _ _ (h .1)) refl)
   where

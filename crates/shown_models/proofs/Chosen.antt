@@ -2,7 +2,8 @@
 use mathlib.Core.Path.{_≡_, refl, sym, ap, _∙_, subst}
 use mathlib.Core.Bool.{Bool, true, false, cond, _&&_, true≢false}
 use mathlib.Core.List.{List, [], _∷_, map}
-use mathlib.Core.Option.{Option, some, none}
+use mathlib.Core.Option.{Option, some}
+use mathlib.Core.Option as option
 use Prim.Native.Nat.{ℕ, zero, suc, _+_, _*_, _≤_, _<_}
 use native.Mathlib.Omega.{arith}
 use borrow.Author.Tests.{ltb-true, ltb-false}
@@ -33,6 +34,8 @@ use Rattle.load_choose.specs.declared.Which.{Which}
 use Rattle.load_choose.specs.declared.Which.the-variants.{Duration, Stream, Gv}
 use Rattle.load_choose.specs.declared.Chosen.{Chosen}
 use Rattle.load_choose.specs.declared.Chosen.the-variants as chosen
+use Rattle.load_plan.specs.Plans.{dataOf}
+use Rattle.shown_words.proofs.Shaped.{record-shaped}
 use Rattle.written.specs.Models as models
 use Rattle.written.specs.Models.{Model, OfName, a-stream, a-gv, LastNamed, Unnamed, streamName, positionName, EntriesOf, Placed, of-duration, of-stream, of-gv, NoGv, Unplaced}
 
@@ -66,7 +69,7 @@ module _ {A B : Type 0} (f : A → B) (code-name : B → Span) (name : A → wri
   bytes-are : (a : A) → bytesOf s (code-name (f a)) ≡ models.bytesOf s (name a)
   bytes-are a = ap (bytesOf s) (same-name a)
 
-  named : {l : List A} {x : B} → code.LastNamed code-name s w (map f l) x → (a : A) × LastNamed name s w l a × (x ≡ f a)
+  pub named : {l : List A} {x : B} → code.LastNamed code-name s w (map f l) x → (a : A) × LastNamed name s w l a × (x ≡ f a)
   named {l} {x} r =
       let n = nth-map f (f-default l r) l (r .last .stands) in (
         n .0,
@@ -86,8 +89,17 @@ module _ {A B : Type 0} (f : A → B) (code-name : B → Span) (name : A → wri
       f-default : (l : List A) → code.LastNamed code-name s w (map f l) x → B
       f-default l r = r .last .at
 
-  unnamed : {l : List A} → code.Unnamed code-name s w (map f l) → Unnamed name s w l
+  pub unnamed : {l : List A} → code.Unnamed code-name s w (map f l) → Unnamed name s w l
   unnamed u k a t e = u k (f a) (map-nth f (f a) t) (bytes-are a ∙ e)
+
+-- ---- the record in the code's words
+
+pub record-arrays : (h : record-of.Header) → code.Arrays (headerRecord h)
+record-arrays h = let f = record-shaped h in record { streams = f .streams; positions = f .positions }
+
+pub data-is : (s : List ℕ) (h : record-of.Header) → dataOf s (headerRecord h) ≡ models.dataOf s h
+unfolding headerRecord
+data-is s h = refl
 
 -- ---- the model asked for
 
@@ -111,47 +123,49 @@ module _ (s : List ℕ) (h : record-of.Header) (r : Says s h) where
       go true e = wide p (ltb-true 4096 w e)
       go false e = at p (ltb-false 4096 w e)
 
-  positions : code.positionsOf (headerRecord h) ≡ map positionRecord (h .positions)
+  pub positions : code.positionsOf (headerRecord h) ≡ map positionRecord (h .positions)
   unfolding headerRecord
   positions = counted positionRecord emptyPosition 8 (h .positions) (r .positions-fit .names)
 
-  streams : code.streamsOf (headerRecord h) ≡ map streamRecord (h .streams)
+  pub streams : code.streamsOf (headerRecord h) ≡ map streamRecord (h .streams)
   unfolding headerRecord
   streams = counted streamRecord emptyStream 8 (h .streams) (r .streams-fit .names)
 
-  types : headerRecord h .global .«stream_type_count» ≡ length (h .global .stream-type)
+  pub types : headerRecord h .global .«stream_type_count» ≡ length (h .global .stream-type)
   unfolding headerRecord globalRecord
   types = refl
 
-  position-name : (p : record-of.Position) → positionRecord p .name ≡ spanOf (p .name)
+  pub position-name : (p : record-of.Position) → positionRecord p .name ≡ spanOf (p .name)
   unfolding positionRecord
   position-name p = refl
 
-  stream-name : (d : record-of.Stream) → streamRecord d .name ≡ spanOf (d .name)
+  pub stream-name : (d : record-of.Stream) → streamRecord d .name ≡ spanOf (d .name)
   unfolding streamRecord
   stream-name d = refl
 
   -- the i-th name
-  type-is : (i : ℕ) {x : written.Span} → Nth (h .global .stream-type) i x → code.typeName s (headerRecord h) i ≡ models.bytesOf s x
+  pub type-is : (i : ℕ) {x : written.Span} → Nth (h .global .stream-type) i x → code.typeName s (headerRecord h) i ≡ models.bytesOf s x
   unfolding headerRecord globalRecord
   type-is i n = ap (bytesOf s) (at-place spanOf noSpan 8 (h .global .stream-type) noSpan (r .global-fits .names) n)
 
-  module _ (make : StreamData → PositionData → Chosen) (m : Model) (i : ℕ) (of : OfName m i)
-      (made : (d : record-of.Stream) (p : record-of.Position) → EntriesOf s h i d p → Placing s h m (make (streamRecord d) (positionRecord p))) where
-    numbered : {c : Chosen} → Numbered make s (headerRecord h) i c → Placing s h m c
-    numbered (no-number l) = nowhere (Unplaced.no-name of (λ x n. let k = nth-inside n in omega (arith, types))) (refl, refl)
+  -- what holds of what the entries of the i-th name make, and of 13 and 14
+  module _ (make : StreamData → PositionData → Chosen) (m : Model) (i : ℕ) (of : OfName m i) (P : Chosen → Type 0)
+      (none : (z : Refusal) → Unplaced s h m (numberOf z) → (placeOf z ≡ 0) × (lineOf z ≡ 0) → P (chosen.Refused z))
+      (made : (d : record-of.Stream) (p : record-of.Position) → EntriesOf s h i d p → P (make (streamRecord d) (positionRecord p))) where
+    pub numbered : {c : Chosen} → Numbered make s (headerRecord h) i c → P c
+    numbered (no-number l) = none refusal.NoPosition (Unplaced.no-name of (λ x n. let k = nth-inside n in omega (arith, types))) (refl, refl)
     numbered (no-position l u) =
         let n = nth-of (h .global .stream-type) i (omega (arith, types)) in
-        nowhere (Unplaced.no-position of (n .1) (unnamed positionRecord (λ x. x .name) positionName position-name s (models.bytesOf s (n .0)) (rw (positions, type-is i (n .1)) at u))) (refl, refl)
+        none refusal.NoPosition (Unplaced.no-position of (n .1) (unnamed positionRecord (λ x. x .name) positionName position-name s (models.bytesOf s (n .0)) (rw (positions, type-is i (n .1)) at u))) (refl, refl)
     numbered (no-stream {p = p} l q u) =
         let n = nth-of (h .global .stream-type) i (omega (arith, types)) in
         let a = named positionRecord (λ x. x .name) positionName position-name s (models.bytesOf s (n .0)) (rw (positions, type-is i (n .1)) at q) in
-        nowhere (Unplaced.no-stream of (n .1) (a .1) (unnamed streamRecord (λ x. x .name) streamName stream-name s (models.bytesOf s (n .0)) (rw (streams, type-is i (n .1)) at u))) (refl, refl)
+        none refusal.NoStream (Unplaced.no-stream of (n .1) (a .1) (unnamed streamRecord (λ x. x .name) streamName stream-name s (models.bytesOf s (n .0)) (rw (streams, type-is i (n .1)) at u))) (refl, refl)
     numbered (entries {p = x} l q t) =
         let n = nth-of (h .global .stream-type) i (omega (arith, types)) in
         let a = named positionRecord (λ x. x .name) positionName position-name s (models.bytesOf s (n .0)) (rw (positions, type-is i (n .1)) at q) in
         let b = named streamRecord (λ x. x .name) streamName stream-name s (models.bytesOf s (n .0)) (rw (streams, type-is i (n .1)) at t) in
-        subst (Placing s h m) (sym (ap (λ (d : StreamData). make d x) (b .2) ∙ ap (make (streamRecord (b .0))) (a .2)))
+        subst P (sym (ap (λ (d : StreamData). make d x) (b .2) ∙ ap (make (streamRecord (b .0))) (a .2)))
         (made (b .0) (a .0) (record { name = n .0; named = n .1; in-positions = a .1; in-streams = b .1 }))
 
   a-gv-model : (i : ℕ) (d : record-of.Stream) (p : record-of.Position) → EntriesOf s h i d p → Placing s h (models.gv i) (gvModel (streamRecord d) (positionRecord p))
@@ -161,8 +175,8 @@ module _ (s : List ℕ) (h : record-of.Header) (r : Says s h) where
       go : (c : Bool) → d .use-gv ≡ c → (t : Option says.Range) → p .gv-tree ≡ t → (b : Option says.Range) → p .gv-pdf ≡ b
           → Placing s h (models.gv i) (cond (c && present t && present b) (modelOf (rangeOr t) (rangeOr b) (2 * d .vector-length)) (chosen.Refused refusal.UseGv))
       go false u t k b j = nowhere (Unplaced.no-gv e (NoGv.unused u)) (refl, refl)
-      go true u none k b j = nowhere (Unplaced.no-gv e (NoGv.no-tree k)) (refl, refl)
-      go true u (some t) k none j = nowhere (Unplaced.no-gv e (NoGv.no-block j)) (refl, refl)
+      go true u option.none k b j = nowhere (Unplaced.no-gv e (NoGv.no-tree k)) (refl, refl)
+      go true u (some t) k option.none j = nowhere (Unplaced.no-gv e (NoGv.no-block j)) (refl, refl)
       go true u (some t) k (some b) j = of-width (of-gv e u k j)
 
   a-stream-model : (i : ℕ) (d : record-of.Stream) (p : record-of.Position) → EntriesOf s h i d p → Placing s h (models.stream i) (streamModel (streamRecord d) (positionRecord p))
@@ -177,6 +191,6 @@ module _ (s : List ℕ) (h : record-of.Header) (r : Says s h) where
   choice-placed models.duration (unfit e) = unfitting e
   choice-placed models.duration (duration e) = of-width of-duration
   choice-placed (models.stream i) (unfit e) = unfitting e
-  choice-placed (models.stream i) (stream e n) = numbered streamModel (models.stream i) i a-stream (a-stream-model i) n
+  choice-placed (models.stream i) (stream e n) = numbered streamModel (models.stream i) i a-stream (Placing s h (models.stream i)) (λ z. nowhere {z = z}) (a-stream-model i) n
   choice-placed (models.gv i) (unfit e) = unfitting e
-  choice-placed (models.gv i) (gv e n) = numbered gvModel (models.gv i) i a-gv (a-gv-model i) n
+  choice-placed (models.gv i) (gv e n) = numbered gvModel (models.gv i) i a-gv (Placing s h (models.gv i)) (λ z. nowhere {z = z}) (a-gv-model i) n
