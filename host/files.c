@@ -3,6 +3,7 @@
 #include <fcntl.h>
 #include <inttypes.h>
 #include <signal.h>
+#include <stdlib.h>
 #include <string.h>
 #include <sys/mman.h>
 #include <sys/stat.h>
@@ -95,4 +96,34 @@ void unmap_file(struct bytes file) {
         give_back(file.at, file.len);
     else
         unmap(file);
+}
+
+int same_file(const char *a, const char *b) {
+    struct stat x, y;
+    return stat(a, &x) == 0 && stat(b, &y) == 0 && x.st_dev == y.st_dev && x.st_ino == y.st_ino;
+}
+
+static int write_bytes(FILE *to, struct bytes s) {
+    return s.len == 0 || fwrite(s.at, 1, (size_t)s.len, to) == s.len;
+}
+
+/* To another name first: the file is whole or what it was. */
+int write_file(const char *path, struct bytes first, struct bytes second) {
+    char *new = malloc(strlen(path) + 5);
+    FILE *to;
+    int done;
+    if (new == NULL)
+        stop("there is not enough memory for a file's name");
+    strcpy(new, path);
+    strcat(new, ".new");
+    to = fopen(new, "wb");
+    done = to != NULL && write_bytes(to, first) && write_bytes(to, second);
+    done = to != NULL && fclose(to) == 0 && done && rename(new, path) == 0;
+    if (!done) {
+        fprintf(stderr, "larsavim: %s: %s\n", path, strerror(errno));
+        if (to != NULL)
+            remove(new);
+    }
+    free(new);
+    return done ? ALL_WELL : TROUBLE;
 }

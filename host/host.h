@@ -66,6 +66,12 @@ int answer_lines(const char *verb, const char *(*answer)(char *line, void *with)
 int map_file(const char *path, struct bytes *file);
 void unmap_file(struct bytes file);
 
+/* Writes a file of two parts, whole or not at all. ALL_WELL, or TROUBLE after a sentence. */
+int write_file(const char *path, struct bytes first, struct bytes second);
+
+/* Whether two paths lead to one file. */
+int same_file(const char *a, const char *b);
+
 /* ---- voices (voice.c) --------------------------------------------------------------------------------------------------------- */
 
 struct pair {
@@ -349,6 +355,8 @@ int depth(int n, char **words);     /* depth.c */
 int pair_up(char **words);          /* pair.c */
 int share(void);                    /* share.c */
 int accept_rows(char **words);      /* accept.c */
+int trail(char **words);            /* trail.c */
+int trailer(const char *path);      /* trail.c */
 void show_depth(const struct larsavim_model *m); /* depth.c: of `inspect` */
 
 #endif

@@ -57,7 +57,6 @@ extern "C" {
                                * Of larsavim_answers: a pattern outside its table or the data. Of larsavim_write: a row points outside its table or the data.
                                * Of larsavim_load_shared and larsavim_unload: the two tasks' bounds overlap or pass a table, or there is no such side */
 #define LARSAVIM_STEPS 25     /* another question would pass the walk's limit */
-/* 26 to 28 are kept for a trailer behind the data (02, Wish 7); no call gives them yet. */
 #define LARSAVIM_TRAILER 26   /* the buffer is too short for a trailer, the file with it would pass the limit, or there are fewer than 12 data bytes */
 #define LARSAVIM_SUM 27       /* the trailer's sum isn't that of the bytes before it */
 #define LARSAVIM_TRAILER_ROWS 28 /* the trailer's rows don't end where its last three numbers begin, or aren't the text's */
@@ -93,6 +92,8 @@ extern "C" {
 #define LARSAVIM_WRITE_OUT 2    /* number, length */
 #define LARSAVIM_DEPTH_OUT 3    /* number, 1 or 0, questions */
 #define LARSAVIM_ACCEPTS_OUT 3  /* number, place, line */
+#define LARSAVIM_TRAILER_OUT 3  /* number, place, bytes of the trailer */
+#define LARSAVIM_TRAILED_OUT 4  /* number, place, rows, file offset of the first row */
 
 /* Where an answer has what: the number comes first in all of them. */
 #define LARSAVIM_OUT_NUMBER 0
@@ -127,6 +128,11 @@ extern "C" {
 #define LARSAVIM_DEPTH_QUESTIONS 2
 #define LARSAVIM_ACCEPTS_PLACE 1
 #define LARSAVIM_ACCEPTS_LINE 2
+#define LARSAVIM_TRAILER_PLACE 1
+#define LARSAVIM_TRAILER_BYTES 2   /* told with 0 and 26 */
+#define LARSAVIM_TRAILED_PLACE 1
+#define LARSAVIM_TRAILED_ROWS 2
+#define LARSAVIM_TRAILED_BEGIN 3
 
 /* ---- Opening -------------------------------------------------------------------------------------------------------------------
  * The header record crosses as words: LARSAVIM_WORDS numbers that an opening writes and later calls take back. Words that no
@@ -346,6 +352,23 @@ uint64_t larsavim_leaves(const uint64_t *questions, uint64_t questions_len, cons
  * every row after the lines is a leaf (1, number, 0, 0); a bare leaf is one leaf of its number, empty braces have no rows. out: number (0, 17, 18, 20 to 24, 37), place,
  * line. Order: 20 for `out`, 17 (place: from the text's first byte on), 18, 24 for no such tree, 21 to 23 of this tree alone (place and line: tree and line), 37. */
 uint64_t larsavim_accepts(const uint8_t *text, uint64_t text_len, uint64_t tree, const uint64_t *records, uint64_t records_len, uint64_t *out, uint64_t out_len);
+
+/* ---- A trailer behind the data ----------------------------------------------------------------------------------------------------
+ * One row a tree, of three 32-bit little-endian numbers: the model (as `which` of larsavim_load; none where USE_GV is 0), the offset of the tree's {*} from the first
+ * data byte, the lines of its row. Rows stand in text order, model by model; behind them their count, the file offset where they begin, and the sum of every earlier
+ * byte of the file, with wrap-around at 2^32. To a call that knows nothing of it a trailer is data: a voice that loaded before loads the same with it. Neither call
+ * looks at blocks, widths or links. Both open the file themselves, with the record into the words as larsavim_open has it, refusals and 20 too. */
+
+#define LARSAVIM_TRAILER_ROW 12 /* bytes of a row */
+
+/* Writes the trailer of a file to the front of `trailer`; put it behind the file. Bytes beyond it are unchanged. out: number (0, 1 to 10, 12 to 18, 20, 26), place, bytes of
+ * the trailer. Order: 20 for `out`, those of opening; of each model in turn 13, 14, 15, 16 for its tree range, 17, 18; then 26 where the buffer is shorter than the trailer
+ * or the file with it longer than LARSAVIM_FILE_LIMIT: the bytes that it would have are told, so that a call without a buffer sizes one. A refusal leaves the buffer unchanged. */
+uint64_t larsavim_trailer(const uint8_t *file, uint64_t file_len, uint64_t *words, uint64_t words_len, uint8_t *trailer, uint64_t trailer_len, uint64_t *out, uint64_t out_len);
+
+/* Whether a file ends in its trailer. Reads every byte: once for a voice, when it comes. out: number (0, 1 to 10, 12 to 18, 20, 26 to 28), place, rows, file offset of the
+ * first; 0 when refused. Order: 20 for `out`, those of opening, 26 for fewer than 12 data bytes, 27, of each model 13 to 18 as above, 28. Of a file with two trailers the last is read. */
+uint64_t larsavim_trailed(const uint8_t *file, uint64_t file_len, uint64_t *words, uint64_t words_len, uint64_t *out, uint64_t out_len);
 
 /* ---- Tables back to text ---------------------------------------------------------------------------------------------------------
  * The tree text that the rows of loaded tables say: questions in row order, trees in row order with the ids 0, -1, -2 and on, a bare leaf

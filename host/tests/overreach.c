@@ -33,6 +33,8 @@ __typeof__(larsavim_leaves) __real_larsavim_leaves, __wrap_larsavim_leaves;
 __typeof__(larsavim_answers) __real_larsavim_answers, __wrap_larsavim_answers;
 __typeof__(larsavim_depth) __real_larsavim_depth, __wrap_larsavim_depth;
 __typeof__(larsavim_accepts) __real_larsavim_accepts, __wrap_larsavim_accepts;
+__typeof__(larsavim_trailer) __real_larsavim_trailer, __wrap_larsavim_trailer;
+__typeof__(larsavim_trailed) __real_larsavim_trailed, __wrap_larsavim_trailed;
 __typeof__(larsavim_write_needs) __real_larsavim_write_needs, __wrap_larsavim_write_needs;
 __typeof__(larsavim_write) __real_larsavim_write, __wrap_larsavim_write;
 
@@ -178,6 +180,23 @@ uint64_t __wrap_larsavim_accepts(const uint8_t *text, uint64_t text_len, uint64_
     touch("accepts.text", text, text_len);
     touch("accepts.records", records, 8 * records_len);
     touch("accepts.out", out, 8 * out_len);
+    return number;
+}
+
+uint64_t __wrap_larsavim_trailer(const uint8_t *file, uint64_t file_len, uint64_t *words, uint64_t words_len, uint8_t *trailer, uint64_t trailer_len, uint64_t *out, uint64_t out_len) {
+    uint64_t number = __real_larsavim_trailer(file, file_len, words, words_len, trailer, trailer_len, out, out_len);
+    touch("trailer.file", file, file_len);
+    touch("trailer.words", words, 8 * words_len);
+    touch("trailer.trailer", trailer, trailer_len);
+    touch("trailer.out", out, 8 * out_len);
+    return number;
+}
+
+uint64_t __wrap_larsavim_trailed(const uint8_t *file, uint64_t file_len, uint64_t *words, uint64_t words_len, uint64_t *out, uint64_t out_len) {
+    uint64_t number = __real_larsavim_trailed(file, file_len, words, words_len, out, out_len);
+    touch("trailed.file", file, file_len);
+    touch("trailed.words", words, 8 * words_len);
+    touch("trailed.out", out, 8 * out_len);
     return number;
 }
 

@@ -12,7 +12,7 @@
 #define STACK (1024 * 1024)
 #define PAINT 0xa5
 
-enum { CALLS = 10 };
+enum { CALLS = 12 };
 
 static uint8_t *stack;
 static ucontext_t here, there;
@@ -46,6 +46,16 @@ static void call_accepts(void) {
 
 static void call_write_needs(void) { larsavim_model_write_needs(&m, file + words[LARSAVIM_DATA_START], words[LARSAVIM_DATA_LEN], out, LARSAVIM_WRITE_NEEDS_OUT); }
 static void call_write(void) { larsavim_model_write(&m, file + words[LARSAVIM_DATA_START], words[LARSAVIM_DATA_LEN], text, sizeof text, out, LARSAVIM_WRITE_OUT); }
+
+static void call_trailer(void) {
+    static uint8_t trailer[1 << 16];
+    larsavim_trailer(file, file_len, words, LARSAVIM_WORDS, trailer, sizeof trailer, out, LARSAVIM_TRAILER_OUT);
+    if (out[0] == LARSAVIM_SUCCESS && file_len + out[LARSAVIM_TRAILER_BYTES] <= sizeof file)
+        memcpy(file + file_len, trailer, (size_t)out[LARSAVIM_TRAILER_BYTES]);
+}
+
+/* Of the file with what call_trailer wrote behind it. */
+static void call_trailed(void) { larsavim_trailed(file, file_len + out[LARSAVIM_TRAILER_BYTES], words, LARSAVIM_WORDS, out, LARSAVIM_TRAILED_OUT); }
 
 static void on_painted_stack(void) {
     top = __builtin_frame_address(0);
@@ -113,10 +123,12 @@ static void measure_file(const char *path, uint64_t most[CALLS]) {
         return;
     for (m.which = 0; m.which <= 2 * words[LARSAVIM_STREAM_TYPE_COUNT]; m.which++)
         measure_model(most);
+    keep_most(&most[10], stack_of(call_trailer));
+    keep_most(&most[11], stack_of(call_trailed)); /* the words are those of the longer file from here on */
 }
 
 int main(int argc, char **argv) {
-    static const char *const name[CALLS] = {"open", "needs", "load", "walk", "leaves", "answers", "depth", "accepts", "write_needs", "write"};
+    static const char *const name[CALLS] = {"open", "needs", "load", "walk", "leaves", "answers", "depth", "accepts", "write_needs", "write", "trailer", "trailed"};
     uint64_t most[CALLS] = {0};
     stack = malloc(STACK);
     if (stack == NULL)

@@ -48,12 +48,14 @@ mod calls;
 mod model;
 mod refusal;
 mod shared;
+mod trail;
 mod voice;
 
 pub use calls::Job;
 pub use model::{accepts, Entry, Model, Needs, Question, Record, Records, Tables, Tree, Walk};
 pub use refusal::Refusal;
 pub use shared::{Shared, Side};
+pub use trail::{trailer_len, write_trailer, Trailer, TrailerRow};
 pub use voice::{Position, Range, Stream, Voice, Which};
 
 /// The version of this crate and of the library that it came with.

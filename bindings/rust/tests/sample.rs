@@ -154,3 +154,24 @@ fn rows_of_another() {
     assert_eq!(larsavim::accepts(b"QS A { a }\n{*}[2]{ 0 B p_2 p_3 }", 0, &[]), Err(Refusal::QuestionRef { tree: 0, line: 0 }));
     assert_eq!(larsavim::accepts(b"{*}[2]p_1 x", 0, &[1, 1, 0, 0]), Err(Refusal::Text { place: 10 }));
 }
+
+#[test]
+fn trailers() {
+    let file = sample();
+    let len = larsavim::trailer_len(&file).unwrap();
+    let mut buffer = vec![0x5a; len + 1];
+    assert_eq!(larsavim::write_trailer(&file, &mut buffer[..len - 1]), Err(Refusal::NoTrailer));
+    assert!(buffer.iter().all(|&b| b == 0x5a));
+    assert_eq!(larsavim::write_trailer(&file, &mut buffer), Ok(len));
+    assert_eq!(buffer[len], 0x5a);
+    assert_eq!(larsavim::Trailer::of(&file), Err(Refusal::TrailerSum));
+    let mut trailed = file.clone();
+    trailed.extend_from_slice(&buffer[..len]);
+    let trailer = larsavim::Trailer::of(&trailed).unwrap();
+    assert_eq!((trailer.begin, trailer.rows().count()), (file.len(), (len - 12) / 12));
+    let first = trailer.rows().next().unwrap();
+    let data = Voice::open(&file).unwrap().data();
+    assert_eq!((first.model, &data[first.offset as usize..][..3]), (0, &b"{*}"[..]));
+    trailed[200] ^= 1;
+    assert!(larsavim::Trailer::of(&trailed).is_err());
+}

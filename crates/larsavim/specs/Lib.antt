@@ -3,3 +3,4 @@ pub mod Write
 pub mod Depths
 pub mod Sharing
 pub mod Accepts
+pub mod Trails

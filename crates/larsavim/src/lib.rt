@@ -13,6 +13,8 @@ use face_open::open_words;
 use face_open::pair_said;
 use face_shared::shared_said;
 use face_shared::unload_said;
+use face_trail::trailed_said;
+use face_trail::trailer_said;
 use face_write::length_said;
 use face_write::write_said;
 use label_answers::answers_said;
@@ -35,6 +37,7 @@ ghost use Rattle.larsavim.specs.Write.{Measures, Writes};
 ghost use Rattle.larsavim.specs.Depths.{DepthTells};
 ghost use Rattle.larsavim.specs.Sharing.{heldLeft, LoadShares, UnloadTells};
 ghost use Rattle.larsavim.specs.Accepts.{AcceptTells};
+ghost use Rattle.larsavim.specs.Trails.{TrailerTells, TrailedTells};
 
 // 20: a lent slice is too short.
 const ROOM: u64 = 20;
@@ -67,6 +70,10 @@ const WRITE_OUT: usize = 2;
 const DEPTH_OUT: usize = 3;
 
 const ACCEPTS_OUT: usize = 3;
+
+const TRAILER_OUT: usize = 3;
+
+const TRAILED_OUT: usize = 4;
 
 // Three numbers to the front.
 fn put3(out: &mut [u64], a: u64, b: u64, c: u64)
@@ -464,5 +471,36 @@ pub extern "C" fn larsavim_accepts(text: &[u8], tree: u64, records: &[u64], out:
     }
     let said = accepts_said(text, tree, records);
     put3(out, said.number, said.place as u64, said.line as u64);
+    said.number
+}
+
+// Writes the trailer of a file to the front of a buffer.
+#[no_mangle]
+pub extern "C" fn larsavim_trailer(
+    file: &[u8],
+    words: &mut [u64],
+    trailer: &mut [u8],
+    out: &mut [u64],
+) -> u64
+    ensures { λ r. ⌜ TrailerTells (now (file .entry)) (now (words .entry)) (now (trailer .entry)) (now (out .entry)) r (now (words .exit)) (now (trailer .exit)) (now (out .exit)) ⌝ }
+{
+    if out.len() < TRAILER_OUT {
+        return ROOM;
+    }
+    let said = trailer_said(file, words, trailer);
+    put3(out, said.number, said.place, said.bytes);
+    said.number
+}
+
+// Whether a file ends in its trailer.
+#[no_mangle]
+pub extern "C" fn larsavim_trailed(file: &[u8], words: &mut [u64], out: &mut [u64]) -> u64
+    ensures { λ r. ⌜ TrailedTells (now (file .entry)) (now (words .entry)) (now (out .entry)) r (now (words .exit)) (now (out .exit)) ⌝ }
+{
+    if out.len() < TRAILED_OUT {
+        return ROOM;
+    }
+    let said = trailed_said(file, words);
+    put4(out, 0, said.number, said.place, said.rows, said.begin);
     said.number
 }

@@ -13,8 +13,6 @@ use Rattle.written.specs.Faults.{Refused}
 use Rattle.written.proofs.OneFile.{says-one}
 use Rattle.written.proofs.ApartFile.{refused-one, says-never}
 use Rattle.error.specs.Numbers.{numberOf}
-use Rattle.error.specs.declared.Refusal.{Refusal}
-use Rattle.error.specs.declared.Refusal.the-variants as refusal
 use Rattle.head_record.specs.Record.{headerRecord}
 use Rattle.head_words.specs.Words.{headerWords}
 use Rattle.head_de.proofs.Sound.{Bytes}
@@ -25,6 +23,7 @@ use Rattle.shown_open.proofs.Opened as answer
 use Rattle.face_open.specs.declared.Said.{Said}
 use Rattle.face_open.specs.Answers.{said, openSaidBy, openSaid, openWordsBy, openWords}
 use Rattle.larsavim.specs.Face.{answered, written, left, saidNumbers, Opens}
+use Rattle.face_trail.proofs.Above.{above-zero}
 use Rattle.promises.proofs.Moved.{moved₃}
 use Rattle.promises.specs.Opening.{recordWords, AfterOpen, short-out, opened, few-words, refused}
 
@@ -89,37 +88,6 @@ open-short (few-words a x l) h = absurd (omega arith)
 open-short (refused a x) h = absurd (omega arith)
 
 -- ---- no refusal is 0
-
-above-zero : (r : Refusal) → 0 < numberOf r
-above-zero refusal.Split = omega arith
-above-zero (refusal.Utf8 p) = omega arith
-above-zero (refusal.Eof p) = omega arith
-above-zero (refusal.ExpectedBool p) = omega arith
-above-zero (refusal.ExpectedInteger p) = omega arith
-above-zero (refusal.ExpectedArrayComma p) = omega arith
-above-zero (refusal.ExpectedMapColon p) = omega arith
-above-zero (refusal.ExpectedMapNewline p) = omega arith
-above-zero refusal.Field = omega arith
-above-zero (refusal.Number p) = omega arith
-above-zero refusal.Limit = omega arith
-above-zero refusal.NoPosition = omega arith
-above-zero refusal.NoStream = omega arith
-above-zero refusal.UseGv = omega arith
-above-zero refusal.Range = omega arith
-above-zero (refusal.Text p) = omega arith
-above-zero refusal.State = omega arith
-above-zero refusal.Block = omega arith
-above-zero refusal.Room = omega arith
-above-zero (refusal.NodeRef t k) = omega arith
-above-zero (refusal.QuestionRef t k) = omega arith
-above-zero (refusal.LoneNode t k) = omega arith
-above-zero refusal.WalkTable = omega arith
-above-zero refusal.Steps = omega arith
-above-zero refusal.NoTrailer = omega arith
-above-zero refusal.TrailerSum = omega arith
-above-zero refusal.TrailerRows = omega arith
-above-zero refusal.Held = omega arith
-above-zero refusal.OtherRows = omega arith
 
 pub never-zero : {s : List ℕ} → Bytes s → {n p : ℕ} → Refused s n p → ¬ (n ≡ 0)
 never-zero {s} bytes {n} {p} x e = go (open-sound bytes)
