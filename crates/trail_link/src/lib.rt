@@ -63,9 +63,7 @@ pub fn fill_one(
     requires { ⌜ Fits (now s) at star n (length (now questions)) (length (now patterns)) (length (now trees)) (length (now records)) (length (now work)) ⌝ }
     ensures { λ r. ⌜ OneFilled (now (s .entry)) at star k (now (questions .entry)) (now (patterns .entry)) (now (trees .entry)) (now (records .entry)) (now (work .entry)) r (now (questions .exit)) (now (patterns .exit)) (now (trees .exit)) (now (records .exit)) (now (work .exit)) ⌝ }
 {
-    let linked = link_one(
-        s, at, star, n, k, questions, patterns, trees, records, work,
-    );
+    let linked = link_one(s, at, star, n, k, questions, patterns, trees, records, work);
     zero_work(work);
     if all_linked(linked) {
         fill_all_patterns(s, at, patterns);

@@ -40,7 +40,7 @@ use Rattle.load_plan.specs.declared.Planned.the-variants.{Model, Refused}
 use Rattle.trail_find.specs.Rows.{rowsTo, trailAt, offsetsAt, nthOf}
 use Rattle.trail_find.specs.declared.Trail.{Trail}
 use Rattle.trail_find.specs.declared.Trail.the-variants as trail
-use Rattle.trail_plan.specs.Plans.{treeFor, askedFor, treeTextOf, withTree, valuesFrom, entriesFor, entriesOf, blockIn, blockOf, rowIn, textIn, treeOf, chosenTree, trailTree, treePlanned}
+use Rattle.trail_plan.specs.Plans.{treeFor, askedFor, treeTextOf, withTree, valuesFrom, entriesFor, entriesOf, blockIn, blockOf, rowIn, textIn, RowOf, treeOf, chosenTree, trailTree, treePlanned}
 
 -- ---- the text
 
@@ -81,6 +81,9 @@ block-size n w s i k e l h =
     part : total (wordsAt s i k) + wordAt s (i + 4 * k) ≤ sum
     part = total-part s i k n l
 
+    positive : ¬ (w ≡ 0) → 0 < w
+    positive h = omega (arith, h)
+
     made : length s - i ≡ 4 * (n + sum * w) → sum ≤ sum * w → Size n w s i k
     made e z =
         let m : 4 * (n + sum * w) ≡ 4 * n + 4 * (sum * w) = omega arith in
@@ -101,7 +104,7 @@ block-size n w s i k e l h =
     go : (x y : Bool) → eqb (length s - i) (4 * (n + sum * w)) ≡ y → (z : Bool) → eqb w 0 ≡ z → (u : Bool) → eqb sum 0 ≡ u
         → block.Fits e ≡ cond (x && (y && cond z u true)) (block.Fits sum) block.Wrong → Size n w s i k
     go true true a true b true c h = made (eqb-true _ _ a) (omega (arith, eqb-true sum 0 c))
-    go true true a false b u c h = made (eqb-true _ _ a) (le-mul-of-pos-right sum w (omega (arith, eqb-false w 0 b)))
+    go true true a false b u c h = made (eqb-true _ _ a) (le-mul-of-pos-right {m = w} sum (positive (eqb-false w 0 b)))
     go true true a true b false c h = let u : _≡_ {A = ℕ} 0 1 = cc in absurd (omega arith)
     go true false a z b u c h = let u : _≡_ {A = ℕ} 0 1 = cc in absurd (omega arith)
     go false y a z b u c h = let u : _≡_ {A = ℕ} 0 1 = cc in absurd (omega arith)
@@ -156,6 +159,12 @@ nth-inside [] k h = let u : _≡_ {A = ℕ} 0 1 = cc in absurd (omega arith)
 nth-inside (x ∷ os) zero h = omega arith
 nth-inside (x ∷ os) (suc k) h = omega (arith, nth-inside os k h)
 
+pub row-of : (os : List ℕ) (k : ℕ) {n : ℕ} {o : Found} → n ≡ length os → o ≡ nthOf os k → RowOf n k o
+row-of os k {n} e z = record { inside = λ f h. inside (nth-inside os k (sym z ∙ h)) }
+  where
+    inside : k < length os → k < n
+    inside h = omega (arith, e)
+
 pub rows-inside : (s : List ℕ) (n : ℕ) {b c : ℕ} → trail.Rows b c ≡ trailAt s n → b + 12 * c ≤ length s
 unfolding trailAt
 rows-inside s n {b} {c} h = go (ltb n 12) (eqb (wordAt s (length s - 12 + 4) + 12 * wordAt s (length s - 12)) (length s - 12)) refl h
@@ -165,7 +174,8 @@ rows-inside s n {b} {c} h = go (ltb n 12) (eqb (wordAt s (length s - 12 + 4) + 1
     go false true e h =
         let i : b ≡ wordAt s (length s - 12 + 4) = cc in
         let j : c ≡ wordAt s (length s - 12) = cc in
-        omega (arith, i, j, eqb-true _ _ e)
+        let z : wordAt s (length s - 12 + 4) + 12 * wordAt s (length s - 12) ≡ length s - 12 = eqb-true _ _ e in
+        omega arith
     go false false e h = let u : _≡_ {A = ℕ} 0 1 = cc in absurd (omega arith)
     go true y e h = let u : _≡_ {A = ℕ} 0 1 = cc in absurd (omega arith)
 

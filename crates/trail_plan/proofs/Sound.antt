@@ -15,7 +15,7 @@ use Rattle.tree_question.specs.Questions.{questionsAt}
 use Rattle.tree_survey_questions.specs.Counts.{patternCount, questionsCounted}
 use Rattle.tree_survey_questions.specs.declared.Questions.{Questions}
 use Rattle.tree_survey_questions.specs.declared.Questions.the-variants as questions
-use Rattle.tree_body.specs.Trees.{Tree, headAt, treeFollowed, treeStepAt}
+use Rattle.tree_body.specs.Trees.{Tree, headAt, afterTree, treeFollowed, treeStepAt}
 use Rattle.tree_body.specs.declared.TreeStep.{TreeStep}
 use Rattle.tree_body.specs.declared.TreeStep.the-variants as after
 use Rattle.tree_survey.specs.Survey.{bodyRecords, bodyLines, treeNegative, treeRecords, treeLines, treeSurveyed}
@@ -32,7 +32,7 @@ use Rattle.load_choose.specs.declared.Chosen.the-variants as chosen
 use Rattle.load_choose.specs.declared.Bounds.{Bounds}
 use Rattle.load_choose.specs.declared.Bounds.the-variants as bounds
 use Rattle.load_questions.specs.Words.{Done}
-use Rattle.load_trees.specs.Trees.{headBody, Whole}
+use Rattle.load_trees.specs.Trees.{headBody, headEnd, Whole}
 use Rattle.load_trees.proofs.Loop.{stands, Facts}
 use Rattle.load_plan.specs.Plans.{planFor, dataOf}
 use Rattle.load_plan.specs.declared.Text.{Text}
@@ -43,8 +43,8 @@ use Rattle.load_plan.specs.declared.Planned.the-variants.{Model, Refused}
 use Rattle.trail_find.specs.Rows.{trailAt, offsetsAt, nthOf}
 use Rattle.trail_find.specs.declared.Trail.{Trail}
 use Rattle.trail_find.specs.declared.Trail.the-variants as trail
-use Rattle.trail_plan.specs.Plans.{treeFor, askedFor, treeTextOf, withTree, valuesFrom, entriesFor, entriesOf, blockIn, blockOf, rowIn, textIn, treeOf, chosenTree, trailTree, treePlanned, SoundTree}
-use Rattle.trail_plan.proofs.Laws.{block-size, nth-inside}
+use Rattle.trail_plan.specs.Plans.{treeFor, askedFor, treeTextOf, withTree, valuesFrom, entriesFor, entriesOf, blockIn, blockOf, rowIn, textIn, RowOf, treeOf, chosenTree, trailTree, treePlanned, SoundTree}
+use Rattle.trail_plan.proofs.Laws.{block-size, row-of}
 
 -- a tree that was surveyed
 pub record WasTree (s : List ℕ) (i f g q p n r l : ℕ) : Type 0 where
@@ -72,7 +72,7 @@ was-tree s i f {g} {q} {p} {n} {r} {l} h = go (questionsCounted 0 0 (questionsAt
         made : (t : Tree) → ((j : ℕ) → ¬ (treeStepAt s f ≡ broken j)) → ((x : Tree) (a : TreeStep) → treeStepAt s f ≡ treeFollowed s x a → x ≡ t) → R ≡ text.Read f q′ p′ 1 (treeRecords t) (treeLines t) → WasTree s i f g q p n r l
         made t z only h =
             let w = stands s f z in
-            let y : w .0 ≡ t = only (w .0) _ (w .1 .follows) in
+            let y : w .0 ≡ t = only (w .0) (afterTree s (headEnd s (headAt s f))) (w .1 .follows) in
             let b : t .body ≡ headBody s (headAt s f) = sym (ap (λ (x : Tree). x .body) y) ∙ w .1 .body in
             let k = asked (questionsAt s i) q′ p′ j e in
             let v₁ : g ≡ f = cc in
@@ -133,7 +133,7 @@ module _ (d : List ℕ) (p : Plan) where
       go (block.Fits m) e h = let u : p ≡ withTree o (valuesFrom z (o .block) (o .width) n k) (wordAt z (o .block + 4 * k)) = cc in (u, (m, e))
       go block.Wrong e h = let u : _≡_ {A = ℕ} 0 1 = cc in absurd (omega arith)
 
-  pub tree-sound : (u v x y w n k : ℕ) (o : Found) → ((f : ℕ) → o ≡ found.At f → k < n) → Model p ≡ treeOf d u v x y w n k o → SoundTree d p
+  pub tree-sound : (u v x y w n k : ℕ) (o : Found) → RowOf n k o → Model p ≡ treeOf d u v x y w n k o → SoundTree d p
   unfolding treeOf
   tree-sound u v x y w n k o inside h = go (withinOf u v (length d)) h
     where
@@ -160,7 +160,7 @@ module _ (d : List ℕ) (p : Plan) where
 
       in-row : (a e : ℕ) (z : Found) → o ≡ z → Model p ≡ rowIn d a e x y w n k z → SoundTree d p
       in-row a e found.Nothing i h = let z : _≡_ {A = ℕ} 0 1 = cc in absurd (omega arith)
-      in-row a e (found.At f) i h = in-text a e f (inside f i) (treeTextOf (take e d) a f) refl h
+      in-row a e (found.At f) i h = in-text a e f (inside .inside f i) (treeTextOf (take e d) a f) refl h
 
       go : (b : Bounds) → Model p ≡ textIn d x y w n k o b → SoundTree d p
       go bounds.Outside h = let z : _≡_ {A = ℕ} 0 1 = cc in absurd (omega arith)
@@ -172,7 +172,7 @@ needs-sound s h which m k p e = go (recordFits (length s) h) e
   where
     chose : (os : List ℕ) (c : Chosen) → Model p ≡ chosenTree (dataOf s h) os k c → SoundTree (dataOf s h) p
     chose os (chosen.Refused r) e = let z : _≡_ {A = ℕ} 0 1 = cc in absurd (omega arith)
-    chose os (chosen.Model u v x y w) e = tree-sound (dataOf s h) p u v x y w (length os) k (nthOf os k) (λ f g. nth-inside os k g) e
+    chose os (chosen.Model u v x y w) e = tree-sound (dataOf s h) p u v x y w (length os) k (nthOf os k) (row-of os k refl refl) e
 
     trailed : (t : Trail) → Model p ≡ trailTree s h which m k t → SoundTree (dataOf s h) p
     trailed trail.Short e = let z : _≡_ {A = ℕ} 0 1 = cc in absurd (omega arith)

@@ -4,7 +4,7 @@
 use mathlib.Core.Path.{_≡_}
 use mathlib.Core.Bool.{cond}
 use mathlib.Core.List.{List}
-use Prim.Native.Nat.{ℕ, _+_, _*_, _≤_}
+use Prim.Native.Nat.{ℕ, _+_, _*_, _≤_, _<_}
 use lib.ListN.{length, take}
 use Rattle.written.specs.Blocks.{total}
 use Rattle.laws.specs.Totals as totals
@@ -105,6 +105,10 @@ rowIn d a e x y w n k found.Nothing = Refused refusal.WalkTable
 abbrev pub textIn : List ℕ → ℕ → ℕ → ℕ → ℕ → ℕ → Found → Bounds → Planned
 textIn d x y w n k o (bounds.Inside a e) = rowIn d a e x y w n k o
 textIn d x y w n k o bounds.Outside = Refused refusal.Range
+
+-- where there is a k-th of n rows, k is below n
+pub record RowOf (n k : ℕ) (o : Found) : Type 0 where
+  pub inside : (f : ℕ) → o ≡ found.At f → k < n
 
 -- tree k of a model with n rows, whose k-th row, if there is one, is o
 unfoldable pub treeOf : List ℕ → ℕ → ℕ → ℕ → ℕ → ℕ → ℕ → ℕ → Found → Planned

@@ -31,9 +31,8 @@ ghost use Prim.Native.Nat.{_+_, _*_, _≤_, _<_, _^_};
 ghost use lib.ListN.{length};
 ghost use Rattle.written.specs.Blocks.{total};
 ghost use Rattle.pdf_blocks.specs.Values.{wordsAt};
-ghost use Rattle.link_search.specs.declared.Found.the-variants as found;
 ghost use Rattle.head_words.specs.Words.{headerAt};
-ghost use Rattle.trail_plan.specs.Plans.{treeTextOf, entriesOf, blockOf, treeOf, treePlanned};
+ghost use Rattle.trail_plan.specs.Plans.{treeTextOf, entriesOf, blockOf, RowOf, treeOf, treePlanned};
 
 // What a tree that was read needs; 18.
 fn tree_read(
@@ -193,7 +192,7 @@ fn plan_tree(
     k: u64,
     star: Found,
 ) -> Planned
-    requires { ⌜ (f : ℕ) → star ≡ found.At f → k < n ⌝ }
+    requires { ⌜ RowOf n k star ⌝ }
     ensures { λ r. ⌜ r ≡ treeOf (now (d .entry)) «tree_from» «tree_to» «pdf_from» «pdf_to» width n k star ⌝ }
 {
     match within(tree_from, tree_to, d.len()) {
