@@ -1,0 +1,4 @@
+pub mod Steps
+pub mod Values
+pub mod Plan
+pub mod AsFull
