@@ -110,13 +110,13 @@ folded-nth (there h) (there g) = there (folded-nth h g)
 
 module _ (s : List ℕ) (h : Header) (which : Which) (short : length s < 2 ^ 63) where
   module _ {p : Plan} {t : Text} {l : Layout} (c : Chose s h which p t l) where
-    abbrev S : List ℕ
+    abbrev pub S : List ℕ
     S = take (p .«text_end») (dataOf s h)
 
-    abbrev W : Was S (p .text) (p .first) (p .questions) (p .patterns) (p .trees) (p .records) (p .lines)
+    abbrev pub W : Was S (p .text) (p .first) (p .questions) (p .patterns) (p .trees) (p .records) (p .lines)
     W = was S (p .text) (needs-sound s h which p (c .plan) .text)
 
-    S-short : length S < 2 ^ 63
+    pub S-short : length S < 2 ^ 63
     S-short = omega (arith, take-short (p .«text_end») (dataOf s h), part-short s (h .«data_start») (h .«data_len»))
 
     module _ {k : ℕ} {x : said.Tree} {y : said.TreePlace} (i : Nth (t .trees) k x) (j : Nth (l .trees) k y) where
@@ -163,10 +163,10 @@ module _ (s : List ℕ) (h : Header) (which : Which) (short : length s < 2 ^ 63)
     within : k < p .trees
     within = omega (arith, nth-inside i, K .chose .trees)
 
-    before : ℕ
+    abbrev before : ℕ
     before = total (wordsAt B (p .block) k)
 
-    own : ℕ
+    abbrev own : ℕ
     own = wordAt B (p .block + 4 * k)
 
     values-are : valuesAt B (valuesFrom B (p .block) (p .width) (p .trees) k) (p .width) own ≡ take (own * p .width) (drop (0 + before * p .width) (K .read))

@@ -74,6 +74,15 @@ module _ (s : List ℕ) (h : Header) (which : Which) (p : Plan) where
       go (block.Fits n) h = (n, (let e : p ≡ withEntries o n = cc in e))
       go block.Wrong h = clash cc
 
+  -- a record that doesn't fit chooses nothing
+  fits-chosen : {u v x y w : ℕ} → chosen.Model u v x y w ≡ chosenOf s h which → recordFits (length s) h ≡ true
+  unfolding chosenOf
+  fits-chosen {u} {v} {x} {y} {w} i = go (recordFits (length s) h) refl i
+    where
+      go : (b : Bool) → recordFits (length s) h ≡ b → chosen.Model u v x y w ≡ cond b (asked s h which) (chosen.Refused refusal.Range) → recordFits (length s) h ≡ true
+      go true e i = e
+      go false e i = clash cc
+
   pub stages : Model p ≡ planned s h which → Stages s h which p
   unfolding planned planOf
   stages g = chose (chosenOf s h which) refl g
@@ -91,16 +100,11 @@ module _ (s : List ℕ) (h : Header) (which : Which) (p : Plan) where
             v = v;
             x = x;
             y = y;
-            fits = fitting (recordFits (length s) h) refl i;
+            fits = fits-chosen i;
             chose = ap (λ (w : ℕ). chosen.Model u v x y w) (ap (λ (p : Plan). p .width) P) ∙ i;
             text = ap₂ (λ (a e : ℕ). bounds.Inside a e) (ap (λ (p : Plan). p .text) P) (ap (λ (p : Plan). p .«text_end») P) ∙ j;
             block = ap₂ (λ (b c : ℕ). bounds.Inside b c) (ap (λ (p : Plan). p .block) P) (ap (λ (p : Plan). p .«block_end») P) ∙ k;
           }
-        where
-          fitting : (b : Bool) → recordFits (length s) h ≡ b → chosen.Model u v x y w ≡ chosenOf s h which → recordFits (length s) h ≡ true
-          unfolding chosenOf
-          fitting true e i = e
-          fitting false e i = let z : chosen.Model u v x y w ≡ chosen.Refused refusal.Range = i ∙ ap (λ (b : Bool). cond b (asked s h which) (chosen.Refused refusal.Range)) e in clash cc
 
       in-block : (u v x y w a e f q r n m l : ℕ) → chosen.Model u v x y w ≡ chosenOf s h which → bounds.Inside a e ≡ withinOf u v (length d) → (b : Bounds) → b ≡ withinOf x y (length d)
           → Model p ≡ blockIn d a e f q r n m l w b → Stages s h which p

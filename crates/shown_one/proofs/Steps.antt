@@ -64,19 +64,20 @@ module _ (s : List ℕ) where
           read (brokenAt k) h = absurd (never e (ap (treeHeaded s i) q ∙ ap (treeRead s i x (linesAt s f .items)) h))
       go head.NoTree q = absurd (never e (ap (treeHeaded s i) q))
 
-  -- the k-th of those that are read from i on
+  -- the first of those that are read from i on, and the others
+  first : (i : ℕ) (u : Step Tree) → treeStepAt s i ≡ u → {z : Tree} → Nth (readOf (treesAt s) u .items) 0 z → (j : ℕ) × Stepped j z
+  first i (next x j) e here = (i, goes e)
+  first i (last x j) e here = (i, ends e)
+  first i (broken j) e h = absurd (no-row h)
+
+  later : (u : Step Tree) {k : ℕ} {z : Tree} → ((j : ℕ) → Nth (treesAt s j .items) k z → (i : ℕ) × Stepped i z) → Nth (readOf (treesAt s) u .items) (suc k) z → (i : ℕ) × Stepped i z
+  later (next x j) rest (there h) = rest j h
+  later (last x j) rest (there h) = absurd (no-row h)
+  later (broken j) rest h = absurd (no-row h)
+
   steps : (k i : ℕ) {z : Tree} → Nth (treesAt s i .items) k z → (j : ℕ) × Stepped j z
-  steps k i {z} h = go k (treeStepAt s i) refl (subst (λ (l : List Tree). Nth l k z) (ap (λ (r : Reading Tree). r .items) (trees-are s i)) h)
-    where
-      go : (k : ℕ) (u : Step Tree) → treeStepAt s i ≡ u → Nth (readOf (treesAt s) (treeStepAt s i) .items) k z → (j : ℕ) × Stepped j z
-      go k u e h = by k u e (subst (λ (v : Step Tree). Nth (readOf (treesAt s) v .items) k z) e h)
-        where
-          by : (k : ℕ) (u : Step Tree) → treeStepAt s i ≡ u → Nth (readOf (treesAt s) u .items) k z → (j : ℕ) × Stepped j z
-          by zero (next x j) e here = (i, goes e)
-          by (suc k) (next x j) e (there h) = steps k j h
-          by zero (last x j) e here = (i, ends e)
-          by (suc k) (last x j) e (there h) = absurd (no-row h)
-          by k (broken j) e h = absurd (no-row h)
+  steps zero i {z} h = first i (treeStepAt s i) refl (subst (λ (l : List Tree). Nth l 0 z) (ap (λ (r : Reading Tree). r .items) (trees-are s i)) h)
+  steps (suc k) i {z} h = later (treeStepAt s i) (λ j g. steps k j g) (subst (λ (l : List Tree). Nth l (suc k) z) (ap (λ (r : Reading Tree). r .items) (trees-are s i)) h)
 
   -- where its star is
   pub stepped : (k i : ℕ) {z : Tree} → Nth (treesAt s i .items) k z → Stepped (z .star) z
