@@ -8,7 +8,7 @@ use Prim.Native.Nat.{ℕ, zero, suc, _+_, _*_, _^_, _≤_, _<_}
 use native.Mathlib.Nat.{zero-add}
 use native.Mathlib.Omega.{arith}
 use lib.IntN.{ℤ, pos, negsuc}
-use lib.ListN.{length, take, drop, replicate}
+use lib.ListN.{length, getD, take, drop, replicate}
 use lib.Seq.{sets}
 use Rattle.written.specs.Said as said
 use Rattle.written.specs.Said.{Text, Layout, Question}
@@ -16,7 +16,10 @@ use Rattle.written.specs.Linking.{Nth, here, there, Row, Records, Refused}
 use Rattle.written.specs.Tables.{TreeRows, LinesOf, folded, treeRow, ModelRefused, Negative, negative}
 use Rattle.written.specs.Blocks as block
 use Rattle.written.specs.Blocks.{total, rowsFrom}
-use Rattle.written.proofs.Folded.{wide-text}
+use Rattle.written.specs.Walks.{Ending, Written, isYes}
+use Rattle.written.proofs.Folded.{wide-text, wide-folded}
+use Rattle.written.proofs.Link.{records-linked}
+use Rattle.written.proofs.Walk.{written-once}
 use Rattle.written.proofs.OneBlock.{block-one}
 use Rattle.written.proofs.ModelOnce.{model-rows-once, model-never-both}
 use Rattle.written_trailer.proofs.OneTree.{LinkedAlone, linked-alone}
@@ -51,6 +54,12 @@ use Rattle.trail_link.specs.One.{oneResult, oneEnd, oneRow}
 use Rattle.trail_plan.specs.Plans.{valuesFrom}
 use Rattle.trail_plan.proofs.Laws.{total-part}
 use Rattle.trail_load.specs.Load.{onlyBlock, treeFilledBy, treeFilled}
+use Rattle.table_rows.proofs.Fours.{fours-model}
+use Rattle.walk.specs.Walking.{walkOf}
+use Rattle.walk.specs.Answer.{answerOf, endingAnswer}
+use Rattle.walk.proofs.Demand.{flat-walk}
+use Rattle.shown_text.proofs.Walks.{bytes-answer}
+use Rattle.shown_load.proofs.Says.{cut-rows, load-walks}
 use Rattle.shown_text.proofs.OneTree.{Verdict}
 use Rattle.shown_text.proofs.Text.{trees-are, text-questions, text-patterns, resultOf, tree-said}
 use Rattle.shown_load.specs.Stored.{Chose, Stored}
@@ -145,12 +154,13 @@ module _ (s : List ℕ) (h : Header) (which : Which) (short : length s < 2 ^ 63)
     abbrev R : Result
     R = oneResult T (p .text) (y .star)
 
-    a : LinkedAlone (K .t .questions) (K .tree-rows) (K .record-rows) k x
-    a = linked-alone (K .linked) i
+    -- tree k linked alone
+    pub tree-alone : LinkedAlone (K .t .questions) (K .tree-rows) (K .record-rows) k x
+    tree-alone = linked-alone (K .linked) i
 
-    A : Alone R (a .state) (a .first) (a .count) (a .lines) x (K .record-rows)
-    A = subst (λ (r : Result). Alone r (a .state) (a .first) (a .count) (a .lines) x (K .record-rows)) (sym (result-is (K .chose) i j))
-        (alone a (resultOf (K .chose .says) (W (K .chose) .begins) (S-short (K .chose)) x y) (tree-said (K .chose .says) (W (K .chose) .begins) (S-short (K .chose)) i j))
+    A : Alone R (tree-alone .state) (tree-alone .first) (tree-alone .count) (tree-alone .lines) x (K .record-rows)
+    A = subst (λ (r : Result). Alone r (tree-alone .state) (tree-alone .first) (tree-alone .count) (tree-alone .lines) x (K .record-rows)) (sym (result-is (K .chose) i j))
+        (alone tree-alone (resultOf (K .chose .says) (W (K .chose) .begins) (S-short (K .chose)) x y) (tree-said (K .chose .says) (W (K .chose) .begins) (S-short (K .chose)) i j))
 
     -- the block
     said-block : (p .entries ≡ total (wordsAt B (p .block) (p .trees))) × (K .block-rows ≡ rowsFrom (p .width) 0 (wordsAt B (p .block) (p .trees)))
@@ -177,7 +187,7 @@ module _ (s : List ℕ) (h : Header) (which : Which) (short : length s < 2 ^ 63)
     one-ends : oneEnd T (p .text) (y .star) k ≡ linked.Done
     one-ends = ap (endedAt k) (A .ends)
 
-    row-is : oneRow T (p .text) (y .star) ≡ flatten (map begun ((a .state ∷ 0 ∷ a .count ∷ a .lines ∷ []) ∷ []))
+    row-is : oneRow T (p .text) (y .star) ≡ flatten (map begun ((tree-alone .state ∷ 0 ∷ tree-alone .count ∷ tree-alone .lines ∷ []) ∷ []))
     unfolding flatten map
     row-is = ap₂ (λ (n : ℕ) (e : Filled). rowWords n 0 e) (state-at (K .chose) i j ∙ A .state-is) (A .ends)
 
@@ -188,25 +198,58 @@ module _ (s : List ℕ) (h : Header) (which : Which) (short : length s < 2 ^ 63)
         let P = onePlan (dataOf s h) p (treeOf x y) k in
         let E = one-ends in
         record {
-          state = a .state;
-          first = a .first;
-          count = a .count;
-          lines = a .lines;
+          state = tree-alone .state;
+          first = tree-alone .first;
+          count = tree-alone .count;
+          lines = tree-alone .lines;
           value = 0 + before * p .width;
           entries = own;
-          stands = folded-nth (a .stands) (subst (λ (l : List block.Row). Nth l k (record { first = 0 + before * p .width; entries = own })) (sym (said-block .1)) (block-row B (p .block) (p .width) k (p .trees) 0 within));
+          stands = folded-nth (tree-alone .stands) (subst (λ (l : List block.Row). Nth l k (record { first = 0 + before * p .width; entries = own })) (sym (said-block .1)) (block-row B (p .block) (p .width) k (p .trees) 0 within));
           counts = ap (answerFor P) E ∙ ap (λ (n : ℕ). loaded.Done (p .questions) (p .patterns) 1 n (own * p .width)) records-are;
           at-questions = ap (λ (o : Linked). kept o (L .questions) (questionWordsAt T (p .text))) E ∙ ap (sets (L .questions) 0) (text-questions (K .chose .says) (W (K .chose) .begins) (S-short (K .chose)));
           at-patterns = ap (λ (o : Linked). kept o (L .patterns) (patternWords (questionsAt T (p .text) .items))) E ∙ ap (sets (L .patterns) 0) (text-patterns (K .chose .says) (W (K .chose) .begins) (S-short (K .chose)));
           at-trees =
               ap (λ (o : Linked). keptTrees o (L .trees) (oneRow T (p .text) (y .star)) (onlyBlock P)) E
               ∙ ap (λ (l : List ℕ). withBlocks (sets (L .trees) 0 l) 0 (onlyBlock P)) row-is
-              ∙ fold-stored (L .trees) 0 ((a .state ∷ 0 ∷ a .count ∷ a .lines ∷ []) ∷ []) (onlyBlock P) (wide-text (a .by-itself)) refl;
+              ∙ fold-stored (L .trees) 0 ((tree-alone .state ∷ 0 ∷ tree-alone .count ∷ tree-alone .lines ∷ []) ∷ []) (onlyBlock P) (wide-text (tree-alone .by-itself)) refl;
           at-records = ap (λ (o : Linked). kept o (L .records) (R .rows)) E ∙ ap (sets (L .records) 0) (A .rows);
           at-values = ap (λ (o : Linked). kept o (L .values) (valuesAt B (P .block) (P .width) (P .entries))) E ∙ ap (sets (L .values) 0) values-are;
           at-work = refl;
         }
       where
-        records-are : onePlan (dataOf s h) p (treeOf x y) k .records ≡ a .count
+        records-are : onePlan (dataOf s h) p (treeOf x y) k .records ≡ tree-alone .count
         records-are =
             sym (body-records T (questionWordsAt T (p .text)) (length (questionsAt T (p .text) .items)) (headBody T (headAt T (y .star))) (A .ends) ∙ sym (ap bodyRecords (facts-of T (step (K .chose) i j) .body)))
+
+    -- ---- its walk
+
+    -- over the tables cut to the rows that the load returned: the written walk of the text's tree
+    pub one-walks : (L : Tables) → 6 ≤ length (L .trees) → 4 * tree-alone .count ≤ length (L .records) → (bytes : List ℕ) → length (K .t .questions) ≤ length bytes → (m : ℕ)
+        → (e : Ending) × Written (K .t .questions) (λ n. isYes (getD bytes n 0)) (x .body) m e
+        × (answerOf (walkOf (take 6 (treeFilled (dataOf s h) k (onePlan (dataOf s h) p (treeOf x y) k) L .tables .trees)) (take (4 * tree-alone .count) (treeFilled (dataOf s h) k (onePlan (dataOf s h) p (treeOf x y) k) L .tables .records)) 0 bytes m) ≡ endingAnswer e)
+    unfolding flatten zipWith as-full
+    one-walks L room room-records bytes n m =
+        let O = as-full L in
+        let P = onePlan (dataOf s h) p (treeOf x y) k in
+        let r = tree-alone .by-itself in
+        let four = wide-text r in
+        let T₁ = cut-rows (L .trees) (folded ((tree-alone .state ∷ 0 ∷ tree-alone .count ∷ tree-alone .lines ∷ []) ∷ []) (onlyBlock P)) 1 (wide-folded ((tree-alone .state ∷ 0 ∷ tree-alone .count ∷ tree-alone .lines ∷ []) ∷ []) (onlyBlock P) four) refl (omega arith) (O .at-trees) in
+        let R₁ = cut-rows (L .records) (take (tree-alone .count) (drop (tree-alone .first) (K .record-rows))) (tree-alone .count) (fours-model r) (count-is r) room-records (O .at-records) in
+        flat-walk (bytes-answer (K .t .questions) bytes n) r (onlyBlock P) refl here m (ap₂ (λ (T R : List ℕ). walkOf T R 0 bytes m) T₁ R₁)
+      where
+        count-is : {qs : List Question} {f n c q d : ℕ} {z : said.Tree} {records : List Row} → TreeRows qs f (z ∷ []) ((n ∷ q ∷ c ∷ d ∷ []) ∷ []) records → c ≡ length records
+        count-is (TreeRows.more {rows = rows} s r l TreeRows.none) = ap length (sym (append-nil rows))
+
+    -- it answers as the walk of tree k over the full load's tables
+    pub same-walks : (L : Tables) → 6 ≤ length (L .trees) → 4 * tree-alone .count ≤ length (L .records) → 6 * p .trees ≤ length (F .trees) → 4 * p .records ≤ length (F .records)
+        → (bytes : List ℕ) → length (K .t .questions) ≤ length bytes → (m : ℕ)
+        → answerOf (walkOf (take 6 (treeFilled (dataOf s h) k (onePlan (dataOf s h) p (treeOf x y) k) L .tables .trees)) (take (4 * tree-alone .count) (treeFilled (dataOf s h) k (onePlan (dataOf s h) p (treeOf x y) k) L .tables .records)) 0 bytes m)
+        ≡ answerOf (walkOf (take (6 * p .trees) (X .tables .trees)) (take (4 * p .records) (X .tables .records)) k bytes m)
+    same-walks L room room-records full full-records bytes n m =
+        let one = one-walks L room room-records bytes n m in
+        let all = load-walks K full full-records i bytes n m in
+        let e = written-once (bytes-answer (K .t .questions) bytes n) (records-linked (records-in (tree-alone .by-itself) .1)) (one .1) (all .1) in
+        one .2 ∙ ap endingAnswer e ∙ sym (all .2)
+      where
+        records-in : {qs : List Question} {f : ℕ} {z : said.Tree} {trees records : List Row} → TreeRows qs f (z ∷ []) trees records → (rows : List Row) × Records qs (z .body) rows
+        records-in (TreeRows.more {rows = rows} s r l w) = (rows, r)

@@ -2,3 +2,4 @@ pub mod Steps
 pub mod Values
 pub mod Plan
 pub mod AsFull
+pub mod Unlinked
