@@ -3,3 +3,4 @@ pub mod Values
 pub mod Plan
 pub mod AsFull
 pub mod Unlinked
+pub mod Reach
