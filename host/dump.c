@@ -189,7 +189,7 @@ static void put_values(const struct larsavim_model *m) {
     }
 }
 
-static void put_tables(const struct voice *v, const struct larsavim_model *m) {
+void put_tables(const struct voice *v, const struct larsavim_model *m) {
     struct bytes data = data_of(v);
     for (uint64_t i = 0; i < rows_of(m, QUESTIONS); i++)
         put_question(m, data, i);

@@ -324,6 +324,10 @@ void free_shared(struct shared *s);
 uint64_t load_shared(struct shared *s, const struct voice *v, uint64_t which, uint64_t side, uint64_t out[LARSAVIM_LOAD_OUT]);
 uint64_t unload_shared(struct shared *s, uint64_t side);
 
+/* One tree of a model through the file's trailer, likewise (tree.c); and the line of a load. */
+uint64_t load_tree(struct shared *s, const struct voice *v, uint64_t which, uint64_t tree, uint64_t side, uint64_t out[LARSAVIM_LOAD_OUT]);
+void put_loaded(const uint64_t out[LARSAVIM_LOAD_OUT]);
+
 /* A task's rows, cut out into memory of just their length; 0 where its bounds pass a table. To be freed as a model; its width is not set. */
 int own_rows(const struct shared *s, uint64_t side, struct larsavim_model *m);
 
@@ -342,6 +346,7 @@ int check(int json, int strict, int files, char **paths); /* check.c */
 int tables(int files, char **paths); /* tables.c */
 int dump(const char *path);         /* dump.c */
 void dump_voice(struct bytes file); /* dump.c */
+void put_tables(const struct voice *v, const struct larsavim_model *m); /* dump.c: the rows of a loaded model */
 int hex(void);                      /* hex.c */
 int walk(char **words);             /* walk.c */
 int walks(const char *path);        /* walks.c */
@@ -357,6 +362,7 @@ int share(void);                    /* share.c */
 int accept_rows(char **words);      /* accept.c */
 int trail(char **words);            /* trail.c */
 int trailer(const char *path);      /* trail.c */
+int one_tree(char **words);         /* tree.c */
 void show_depth(const struct larsavim_model *m); /* depth.c: of `inspect` */
 
 #endif

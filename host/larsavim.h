@@ -55,7 +55,8 @@ extern "C" {
 #define LARSAVIM_LONENODE 23  /* a tree's one reference is a node; place and line as in 21 */
 #define LARSAVIM_WALKTABLE 24 /* no such tree or no record in it, a record met outside its tree, the tables or the kinds, or no answer for its question.
                                * Of larsavim_answers: a pattern outside its table or the data. Of larsavim_write: a row points outside its table or the data.
-                               * Of larsavim_load_shared and larsavim_unload: the two tasks' bounds overlap or pass a table, or there is no such side */
+                               * Of larsavim_load_shared, larsavim_load_tree and larsavim_unload: the two tasks' bounds overlap or pass a table, or there is
+                               * no such side; of larsavim_load_tree also: the model has no such row in the trailer */
 #define LARSAVIM_STEPS 25     /* another question would pass the walk's limit */
 #define LARSAVIM_TRAILER 26   /* the buffer is too short for a trailer, the file with it would pass the limit, or there are fewer than 12 data bytes */
 #define LARSAVIM_SUM 27       /* the trailer's sum isn't that of the bytes before it */
@@ -292,6 +293,18 @@ uint64_t larsavim_load_shared(const uint8_t *file, uint64_t file_len, const uint
                               uint64_t *questions, uint64_t questions_len, uint64_t *patterns, uint64_t patterns_len,
                               uint64_t *trees, uint64_t trees_len, uint64_t *records, uint64_t records_len,
                               uint64_t *values, uint64_t values_len, int64_t *work, uint64_t work_len, uint64_t *out, uint64_t out_len);
+
+/* Loads one tree of a model through the trailer behind the data, into one task's rows: all questions and patterns of the model, one tree row, its records and the values of its
+ * entries. Only the last 12 bytes, the trailer's rows, the questions, that tree and the block are read. tree: counted from 0 among the model's rows. out: as larsavim_load, with 1
+ * tree; number (0, 12 to 24, 26, 28, 29). Order: 20, 29 and 24 for bounds, as larsavim_load_shared; 16 for the record; 26 for fewer than 12 data bytes; 28 where the rows don't
+ * end where the last three numbers begin; 13 to 15, 12; 16 for the tree text; 24 where the model has no such row; 17 and 18 for the questions and that tree, which stands where
+ * its row says; 16 and 19 for the block, of as many trees as the model has rows; 20; 21 to 23 for that tree, with its number as the place. Success: the tree's row is
+ * (state, 0, records, lines, 0, entries). 21 to 23: as larsavim_load_shared. Of a file that ends in its trailer, the rows are those that a full load has for that tree. */
+uint64_t larsavim_load_tree(const uint8_t *file, uint64_t file_len, const uint64_t *words, uint64_t words_len, uint64_t which, uint64_t tree, uint64_t side,
+                            uint64_t *held, uint64_t held_len, const uint64_t *other, uint64_t other_len,
+                            uint64_t *questions, uint64_t questions_len, uint64_t *patterns, uint64_t patterns_len,
+                            uint64_t *trees, uint64_t trees_len, uint64_t *records, uint64_t records_len,
+                            uint64_t *values, uint64_t values_len, int64_t *work, uint64_t work_len, uint64_t *out, uint64_t out_len);
 
 /* Zeroes a task's rows and its bounds; of a task that holds nothing it changes nothing. Returns 0; 20 where bounds have fewer than LARSAVIM_BOUNDS numbers; 24 where side is
  * neither 0 nor 1, or the two tasks' rows overlap or pass a table. Refused, nothing is written. */

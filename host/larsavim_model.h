@@ -66,6 +66,14 @@ static inline uint64_t larsavim_model_load_shared(struct larsavim_model *m, uint
                                 LARSAVIM_LOAD_OUT);
 }
 
+/* Loads one tree of the model through the file's trailer, likewise; work for the model's longest tree is enough. */
+static inline uint64_t larsavim_model_load_tree(struct larsavim_model *m, uint64_t tree, uint64_t side, uint64_t *held, const uint64_t *other, const uint8_t *file, uint64_t file_len, const uint64_t *words) {
+    return larsavim_load_tree(file, file_len, words, LARSAVIM_WORDS, m->which, tree, side, held, LARSAVIM_BOUNDS, other, LARSAVIM_BOUNDS, m->table[LARSAVIM_QUESTIONS],
+                              m->lent[LARSAVIM_QUESTIONS], m->table[LARSAVIM_PATTERNS], m->lent[LARSAVIM_PATTERNS], m->table[LARSAVIM_TREES], m->lent[LARSAVIM_TREES],
+                              m->table[LARSAVIM_RECORDS], m->lent[LARSAVIM_RECORDS], m->table[LARSAVIM_VALUES], m->lent[LARSAVIM_VALUES], m->work, m->work_lent, m->loaded,
+                              LARSAVIM_LOAD_OUT);
+}
+
 static inline uint64_t larsavim_model_unload(const struct larsavim_model *m, uint64_t side, uint64_t *held, const uint64_t *other) {
     return larsavim_unload(side, held, LARSAVIM_BOUNDS, other, LARSAVIM_BOUNDS, m->table[LARSAVIM_QUESTIONS], m->lent[LARSAVIM_QUESTIONS], m->table[LARSAVIM_PATTERNS],
                            m->lent[LARSAVIM_PATTERNS], m->table[LARSAVIM_TREES], m->lent[LARSAVIM_TREES], m->table[LARSAVIM_RECORDS], m->lent[LARSAVIM_RECORDS],

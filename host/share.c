@@ -2,6 +2,7 @@
  *
  *   tables Q P T R V W             so many numbers in each table and in the work, each 5a5a5a5a5a5a5a5a; both tasks hold nothing
  *   load SIDE MODEL HEX            LOAD number place line questions patterns trees records values
+ *   tree SIDE MODEL TREE HEX       the same of one tree, through the file's trailer
  *   unload SIDE                    UNLOAD number
  *   held SIDE Q P T R V            bounds that no call handed back; no answer
  *   walk SIDE TREE ANSWERS LIMIT   WALK number PDF asked, over the task's own rows
@@ -118,19 +119,17 @@ static void show(const struct shared *s) {
     put_numbers("work", (const uint64_t *)s->work, s->work_lent);
 }
 
-static void put_load(struct script *c, uint64_t side, uint64_t which, struct bytes file) {
+/* The whole model, or one tree of it. */
+static void put_load(struct script *c, uint64_t side, uint64_t which, const uint64_t *tree, struct bytes file) {
     struct voice v;
     uint64_t out[LARSAVIM_LOAD_OUT] = {0};
     open_voice(&v, file);
     out[OUT_NUMBER] = v.number;
     out[OUT_PLACE] = v.place;
     if (v.number == LARSAVIM_SUCCESS)
-        load_shared(&c->s, &v, which, side, out);
+        tree == NULL ? load_shared(&c->s, &v, which, side, out) : load_tree(&c->s, &v, which, *tree, side, out);
     close_voice(&v);
-    fputs("LOAD", stdout);
-    for (int i = 0; i < LARSAVIM_LOAD_OUT; i++)
-        printf(" %" PRIu64, out[i]);
-    putchar('\n');
+    put_loaded(out);
     c->refused |= out[OUT_NUMBER] != LARSAVIM_SUCCESS;
 }
 
@@ -180,14 +179,16 @@ static const char *answer_held(struct script *c, char **words, uint64_t side) {
     return NULL;
 }
 
-static const char *answer_load(struct script *c, char **words, uint64_t side) {
-    uint64_t which;
+static const char *answer_load(struct script *c, char **words, uint64_t side, int one) {
+    uint64_t which, tree;
     struct bytes file;
     if (!read_number(words[2], &which))
         return "has a wrong MODEL";
-    if (!bytes_of_hex(words[3], &file))
+    if (one && !read_number(words[3], &tree))
+        return "has a wrong TREE";
+    if (!bytes_of_hex(words[3 + one], &file))
         return "has a file that is no hex";
-    put_load(c, side, which, file);
+    put_load(c, side, which, one ? &tree : NULL, file);
     give_back(file.at, file.len);
     return NULL;
 }
@@ -218,7 +219,9 @@ static const char *answer_task(struct script *c, char **words, int n) {
     if (n < 2 || !read_side(words[1], &side))
         return "has no SIDE, which is `bottom` or `top`";
     if (strcmp(words[0], "load") == 0 && n == 4)
-        return answer_load(c, words, side);
+        return answer_load(c, words, side, 0);
+    if (strcmp(words[0], "tree") == 0 && n == 5)
+        return answer_load(c, words, side, 1);
     if (strcmp(words[0], "held") == 0 && n == 2 + LARSAVIM_BOUNDS)
         return answer_held(c, words, side);
     if (strcmp(words[0], "walk") == 0 && n == 5)
@@ -231,7 +234,7 @@ static const char *answer_task(struct script *c, char **words, int n) {
         c->refused |= number != LARSAVIM_SUCCESS;
         return NULL;
     }
-    return "is no load, unload, held, walk or leaves with its words";
+    return "is no load, tree, unload, held, walk or leaves with its words";
 }
 
 static const char *answer(char *line, void *with) {

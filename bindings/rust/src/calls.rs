@@ -102,6 +102,7 @@ mod raw {
         pub fn larsavim_needs(file: *const u8, file_len: u64, words: *const u64, words_len: u64, which: u64, out: *mut u64, out_len: u64) -> u64;
         pub fn larsavim_load(file: *const u8, file_len: u64, words: *const u64, words_len: u64, which: u64, questions: *mut u64, questions_len: u64, patterns: *mut u64, patterns_len: u64, trees: *mut u64, trees_len: u64, records: *mut u64, records_len: u64, values: *mut u64, values_len: u64, work: *mut i64, work_len: u64, out: *mut u64, out_len: u64) -> u64;
         pub fn larsavim_load_shared(file: *const u8, file_len: u64, words: *const u64, words_len: u64, which: u64, side: u64, held: *mut u64, held_len: u64, other: *const u64, other_len: u64, questions: *mut u64, questions_len: u64, patterns: *mut u64, patterns_len: u64, trees: *mut u64, trees_len: u64, records: *mut u64, records_len: u64, values: *mut u64, values_len: u64, work: *mut i64, work_len: u64, out: *mut u64, out_len: u64) -> u64;
+        pub fn larsavim_load_tree(file: *const u8, file_len: u64, words: *const u64, words_len: u64, which: u64, tree: u64, side: u64, held: *mut u64, held_len: u64, other: *const u64, other_len: u64, questions: *mut u64, questions_len: u64, patterns: *mut u64, patterns_len: u64, trees: *mut u64, trees_len: u64, records: *mut u64, records_len: u64, values: *mut u64, values_len: u64, work: *mut i64, work_len: u64, out: *mut u64, out_len: u64) -> u64;
         pub fn larsavim_unload(side: u64, held: *mut u64, held_len: u64, other: *const u64, other_len: u64, questions: *mut u64, questions_len: u64, patterns: *mut u64, patterns_len: u64, trees: *mut u64, trees_len: u64, records: *mut u64, records_len: u64, values: *mut u64, values_len: u64) -> u64;
         pub fn larsavim_answers(label: *const u8, label_len: u64, questions: *const u64, questions_len: u64, patterns: *const u64, patterns_len: u64, data: *const u8, data_len: u64, answers: *mut u8, answers_len: u64) -> u64;
         pub fn larsavim_walk(trees: *const u64, trees_len: u64, records: *const u64, records_len: u64, tree: u64, answers: *const u8, answers_len: u64, limit: u64, out: *mut u64, out_len: u64) -> u64;
@@ -189,6 +190,14 @@ pub fn load_shared(asked: &Asked, side: u64, held: &mut [u64; BOUNDS], other: &[
     let Asked { file, words, which } = *asked;
     let crate::Tables { questions, patterns, trees, records, values } = tables;
     call!(larsavim_load_shared; [file], [words], which, side, [mut held], [other], [mut questions], [mut patterns], [mut trees], [mut records], [mut values], [mut work], [mut out]);
+    out
+}
+
+pub fn load_tree(asked: &Asked, tree: u64, side: u64, held: &mut [u64; BOUNDS], other: &[u64; BOUNDS], tables: &mut crate::Tables, work: &mut [i64]) -> [u64; LOAD_OUT] {
+    let mut out = [0; LOAD_OUT];
+    let Asked { file, words, which } = *asked;
+    let crate::Tables { questions, patterns, trees, records, values } = tables;
+    call!(larsavim_load_tree; [file], [words], which, tree, side, [mut held], [other], [mut questions], [mut patterns], [mut trees], [mut records], [mut values], [mut work], [mut out]);
     out
 }
 

@@ -60,6 +60,17 @@ impl<'f, 't> Shared<'f, 't> {
         Ok(())
     }
 
+    /// Loads one tree of a model through the trailer behind the voice's data: the model then has that tree alone, as tree 0. [`Refusal::WalkTable`] where the trailer has no such row.
+    pub fn load_tree(&mut self, side: Side, needs: &Needs<'f, '_>, tree: u64, work: &mut [i64]) -> Result<(), Refusal> {
+        let voice = needs.voice();
+        let asked = Asked { file: voice.file(), words: voice.words(), which: needs.which().number() };
+        let (task, other, tables) = self.task(side);
+        let [number, place, line, ..] = calls::load_tree(&asked, tree, side as u64, &mut task.held, other, tables, work);
+        Refusal::told(number, place, line)?;
+        task.model = Some((voice.data(), needs.width()));
+        Ok(())
+    }
+
     /// Zeroes a task's rows and frees them for either; of a task that holds nothing it changes nothing.
     pub fn unload(&mut self, side: Side) -> Result<(), Refusal> {
         let (task, other, tables) = self.task(side);

@@ -21,7 +21,7 @@ ghost use Rattle.face_shared.specs.Answers.{heldAt, SharedSaid, UnloadSa
 const TOP: u64 = 1;
 
 // A task's bounds out of five numbers.
-fn bounds(l: &[u64]) -> Held
+pub fn bounds(l: &[u64]) -> Held
     requires { ⌜ 5 ≤ length (now l) ⌝ }
     ensures { λ r. ⌜ heldOf r ≡ heldAt (now (l .entry)) ⌝ }
 {
@@ -35,7 +35,7 @@ fn bounds(l: &[u64]) -> Held
 }
 
 // Whether a side is one of the two, and bounds stand beside each other in tables of so many numbers.
-fn standing(
+pub fn standing(
     side: u64,
     a: Held,
     b: Held,

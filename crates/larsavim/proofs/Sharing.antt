@@ -1,4 +1,4 @@
--- What a shared load and an unload promise fixes what they return and every lent slice.
+-- What a shared load, the load of one tree and an unload promise fixes what they return and every lent slice.
 use mathlib.Core.Path.{_≡_, sym, ap, _∙_}
 use mathlib.Core.Bool.{Bool, true, false, cond}
 use mathlib.Core.List.{List, [], _∷_}
@@ -13,7 +13,7 @@ use Rattle.load_shared.specs.Beside.{Tabled}
 use Rattle.face_model.specs.declared.Rows.{Rows}
 use Rattle.face_shared.specs.Answers.{heldAt, UnloadSaid}
 use Rattle.larsavim.specs.Face.{rowsNumbers}
-use Rattle.larsavim.specs.Sharing.{heldLeft, LoadShares, UnloadTells}
+use Rattle.larsavim.specs.Sharing.{heldLeft, LoadShares, TreeShares, UnloadTells}
 
 -- a slice that is long enough is not too short
 not-short : {a b c : ℕ} → (a < 8) ⊎ ((b < 5) ⊎ (c < 5)) → 8 ≤ a → 5 ≤ b → 5 ≤ c → ⊥
@@ -31,6 +31,19 @@ shared-once (LoadShares.no-room k a b c e) (LoadShares.no-room l a′ b′ c′ 
 shared-once (LoadShares.no-room k a b c e) (LoadShares.told l m n x a′ b′ e′) = absurd (not-short k l m n)
 shared-once (LoadShares.told l m n x a′ b′ e′) (LoadShares.no-room k a b c e) = absurd (not-short k l m n)
 shared-once {held = held} {out = out} (LoadShares.told {x = x} l m n i a b c) (LoadShares.told {x = y} l′ m′ n′ j a′ b′ c′) =
+    let e : x ≡ y = i .0 ∙ sym (j .0) in (
+      a ∙ ap (λ (z : Rows). z .number) e ∙ sym a′,
+      b ∙ ap (λ (z : Rows). heldLeft z held) e ∙ sym b′,
+      i .1 ∙ sym (j .1),
+      c ∙ ap (λ (z : Rows). sets out 0 (rowsNumbers z)) e ∙ sym c′,
+    )
+
+pub tree-once : {s w : List ℕ} {n k d : ℕ} {held other : List ℕ} {T : Tables} {out : List ℕ} {r r′ : ℕ} {h h′ : List ℕ} {T₁ T₂ : Tables} {o o′ : List ℕ}
+    → TreeShares s w n k d held other T out r h T₁ o → TreeShares s w n k d held other T out r′ h′ T₂ o′ → (r ≡ r′) × (h ≡ h′) × (T₁ ≡ T₂) × (o ≡ o′)
+tree-once (TreeShares.no-room k a b c e) (TreeShares.no-room l a′ b′ c′ e′) = (a ∙ sym a′, b ∙ sym b′, c ∙ sym c′, e ∙ sym e′)
+tree-once (TreeShares.no-room k a b c e) (TreeShares.told l m n x a′ b′ e′) = absurd (not-short k l m n)
+tree-once (TreeShares.told l m n x a′ b′ e′) (TreeShares.no-room k a b c e) = absurd (not-short k l m n)
+tree-once {held = held} {out = out} (TreeShares.told {x = x} l m n i a b c) (TreeShares.told {x = y} l′ m′ n′ j a′ b′ c′) =
     let e : x ≡ y = i .0 ∙ sym (j .0) in (
       a ∙ ap (λ (z : Rows). z .number) e ∙ sym a′,
       b ∙ ap (λ (z : Rows). heldLeft z held) e ∙ sym b′,

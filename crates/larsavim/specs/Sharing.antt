@@ -12,6 +12,7 @@ use Rattle.load_model.specs.Load.{Tables}
 use Rattle.load_shared.specs.Beside.{tablesOf, Tabled}
 use Rattle.face_model.specs.declared.Rows.{Rows}
 use Rattle.face_shared.specs.Answers.{heldAt, SharedSaid, UnloadSaid}
+use Rattle.face_tree.specs.Answers.{TreeSaid}
 use Rattle.larsavim.specs.Face.{rowsNumbers}
 
 -- a task's bounds after a load that answers x
@@ -23,6 +24,12 @@ pub data LoadShares (s w : List ℕ) (n d : ℕ) (held other : List ℕ) (T : Ta
   no-room : (length out < 8) ⊎ ((length held < 5) ⊎ (length other < 5)) → r ≡ 20 → held₁ ≡ held → T₁ ≡ T → out₁ ≡ out → LoadShares s w n d held other T out r held₁ T₁ out₁
   told : {x : Rows} → 8 ≤ length out → 5 ≤ length held → 5 ≤ length other → SharedSaid s w n d (heldAt held) (heldAt other) T x T₁
       → r ≡ x .number → held₁ ≡ heldLeft x held → out₁ ≡ sets out 0 (rowsNumbers x) → LoadShares s w n d held other T out r held₁ T₁ out₁
+
+-- larsavim_load_tree: as larsavim_load_shared, of tree k of the model
+pub data TreeShares (s w : List ℕ) (n k d : ℕ) (held other : List ℕ) (T : Tables) (out : List ℕ) (r : ℕ) (held₁ : List ℕ) (T₁ : Tables) (out₁ : List ℕ) : Type 0 where
+  no-room : (length out < 8) ⊎ ((length held < 5) ⊎ (length other < 5)) → r ≡ 20 → held₁ ≡ held → T₁ ≡ T → out₁ ≡ out → TreeShares s w n k d held other T out r held₁ T₁ out₁
+  told : {x : Rows} → 8 ≤ length out → 5 ≤ length held → 5 ≤ length other → TreeSaid s w n k d (heldAt held) (heldAt other) T x T₁
+      → r ≡ x .number → held₁ ≡ heldLeft x held → out₁ ≡ sets out 0 (rowsNumbers x) → TreeShares s w n k d held other T out r held₁ T₁ out₁
 
 -- larsavim_unload
 pub data UnloadTells (d : ℕ) (held other q a t c v : List ℕ) (r : ℕ) (held₁ q₁ a₁ t₁ c₁ v₁ : List ℕ) : Type 0 where

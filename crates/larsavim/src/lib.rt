@@ -15,6 +15,7 @@ use face_shared::shared_said;
 use face_shared::unload_said;
 use face_trail::trailed_said;
 use face_trail::trailer_said;
+use face_tree::tree_said;
 use face_write::length_said;
 use face_write::write_said;
 use label_answers::answers_said;
@@ -35,7 +36,7 @@ ghost use Rattle.load_model.specs.Load.{lent};
 ghost use Rattle.larsavim.specs.Face.{rowsNumbers, neededNumbers, Opens, Comments, Gets, Pairs, Needs, Loads, Walks, Leaves};
 ghost use Rattle.larsavim.specs.Write.{Measures, Writes};
 ghost use Rattle.larsavim.specs.Depths.{DepthTells};
-ghost use Rattle.larsavim.specs.Sharing.{heldLeft, LoadShares, UnloadTells};
+ghost use Rattle.larsavim.specs.Sharing.{heldLeft, LoadShares, TreeShares, UnloadTells};
 ghost use Rattle.larsavim.specs.Accepts.{AcceptTells};
 ghost use Rattle.larsavim.specs.Trails.{TrailerTells, TrailedTells};
 
@@ -283,6 +284,55 @@ pub extern "C" fn larsavim_load_shared(
         file,
         words,
         which,
+        side,
+        held,
+        other,
+        questions,
+        patterns,
+        trees,
+        records,
+        values,
+        work,
+    );
+    keep_rows(held, rows);
+    put_rows(out, rows);
+    rows.number
+}
+
+// Loads one tree of a model through the trailer at the file's end: all questions and patterns, one tree row, its records and its entries.
+#[no_mangle]
+pub extern "C" fn larsavim_load_tree(
+    file: &[u8],
+    words: &[u64],
+    which: u64,
+    tree: u64,
+    side: u64,
+    held: &mut [u64],
+    other: &[u64],
+    questions: &mut [u64],
+    patterns: &mut [u64],
+    trees: &mut [u64],
+    records: &mut [u64],
+    values: &mut [u64],
+    work: &mut [i64],
+    out: &mut [u64],
+) -> u64
+    ensures { λ r. ⌜ TreeShares (now (file .entry)) (now (words .entry)) which tree side (now (held .entry)) (now (other .entry)) (lent (now (questions .entry)) (now (patterns .entry)) (now (trees .entry)) (now (records .entry)) (now (values .entry)) (now (work .entry))) (now (out .entry)) r (now (held .exit)) (lent (now (questions .exit)) (now (patterns .exit)) (now (trees .exit)) (now (records .exit)) (now (values .exit)) (now (work .exit))) (now (out .exit)) ⌝ }
+{
+    if out.len() < LOAD_OUT {
+        return ROOM;
+    }
+    if held.len() < BOUNDS {
+        return ROOM;
+    }
+    if other.len() < BOUNDS {
+        return ROOM;
+    }
+    let rows = tree_said(
+        file,
+        words,
+        which,
+        tree,
         side,
         held,
         other,

@@ -71,10 +71,10 @@ module _ {s : List ℕ} {i f : ℕ} {t : Text} {l : Layout} (says : Says s i t l
   unfolding textAt
   read = sym (ap (textRead s (questionsAt s i .items)) begins) ∙ says-read s says
 
-  questions-are : questionsAt s i .items ≡ l .questions
+  pub questions-are : questionsAt s i .items ≡ l .questions
   questions-are = ap (λ (r : survey.Text). r .questions) read
 
-  trees-are : treesAt s f .items ≡ zipWith treeOf (t .trees) (l .trees)
+  pub trees-are : treesAt s f .items ≡ zipWith treeOf (t .trees) (l .trees)
   trees-are = ap (λ (r : survey.Text). r .trees) read
 
   -- ---- questions and patterns

@@ -1,0 +1,6 @@
+pub mod Steps
+pub mod Values
+pub mod Plan
+pub mod AsFull
+pub mod Unlinked
+pub mod Reach
