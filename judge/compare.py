@@ -2,6 +2,7 @@
 """Runs the oracle, the second reading and, once it is there, the product on the same inputs, and compares every line of their answers.
 
   compare.py headers|trees|voices|walks FROM TO     the generated inputs of these numbers
+  compare.py trails FROM TO                         the generated voices, each with its trailer behind it (02, Wish 7), where it has one
   compare.py texts FROM TO                          the generated tree texts, each as a stream of a whole voice
   compare.py byhand                                 the inputs by hand, each limit, each field missing
   compare.py short [LENGTH [PART]]                  all short tree texts over small alphabets (LENGTH pieces), all short header values (LENGTH - 2 bytes);
@@ -27,6 +28,7 @@ import sys
 
 import headers
 import reading
+import trailing
 import treetexts
 import voices
 
@@ -267,7 +269,7 @@ def main(argv):
     argv = [a for a in argv if a != '--no-oracle']
     judge = Judge(product, walker, oracle)
     what, rest = argv[1], argv[2:]
-    modes = {'headers': ('open', headers.header), 'trees': ('tree', treetexts.tree_text), 'voices': ('dump', voices.voice), 'texts': ('dump', lambda n: voices.around(treetexts.tree_text(n)))}
+    modes = {'headers': ('open', headers.header), 'trees': ('tree', treetexts.tree_text), 'voices': ('dump', voices.voice), 'trails': ('dump', trailing.trailed), 'texts': ('dump', lambda n: voices.around(treetexts.tree_text(n)))}
     if what in modes:
         mode, make = modes[what]
         judge.all(mode, (make(n).hex() for n in range(int(rest[0]), int(rest[1]))))

@@ -143,6 +143,12 @@ def drawn(number):
     return voices.voice(number)
 
 
+def trailed(number):
+    """A drawn voice with its trailer, where it has one."""
+    file = drawn(number)
+    return file + writes(file, ROOM)[1]
+
+
 def files():
     seen = list(by_hand()) + [drawn(n) for n in range(CASES)]
     for n, file in enumerate(seen):

@@ -18,3 +18,4 @@ pub mod Front
 pub mod Saving
 pub mod Accepting
 pub mod Trailing
+pub mod Longer
