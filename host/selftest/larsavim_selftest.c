@@ -8,7 +8,7 @@
 int larsavim_selftest(void);
 
 enum {
-    VOICE_LEN = 1193,
+    VOICE_LEN = 1265,
     QUESTIONS = 5,
     PATTERNS = 7,
     TREES = 2,
@@ -73,7 +73,10 @@ static const uint8_t voice[VOICE_LEN] = {
     42, 125, 91, 50, 93, 32, 34, 103, 118, 95, 49, 34, 2, 0, 0, 0, 0, 0, 0, 191, 0, 0, 128, 255,
     0, 0, 128, 63, 0, 0, 128, 127, 0, 0, 0, 128, 255, 255, 127, 127, 81, 83, 32, 83, 105, 108, 32, 123,
     32, 34, 42, 45, 115, 105, 108, 43, 42, 34, 32, 125, 10, 123, 42, 125, 91, 50, 93, 10, 123, 32, 48, 32,
-    83, 105, 108, 32, 34, 108, 95, 50, 34, 32, 34, 108, 95, 49, 34, 32, 125
+    83, 105, 108, 32, 34, 108, 95, 50, 34, 32, 34, 108, 95, 49, 34, 32, 125, 0, 0, 0, 0, 106, 0, 0,
+    0, 2, 0, 0, 0, 1, 0, 0, 0, 69, 1, 0, 0, 7, 0, 0, 0, 1, 0, 0, 0, 198, 1, 0,
+    0, 0, 0, 0, 0, 2, 0, 0, 0, 223, 1, 0, 0, 0, 0, 0, 0, 3, 0, 0, 0, 29, 2, 0,
+    0, 1, 0, 0, 0, 5, 0, 0, 0, 169, 4, 0, 0, 60, 55, 1, 0
 };
 
 static const struct {
@@ -155,6 +158,19 @@ static const struct {
     {0, 5, 0, 25, 0, 0}
 };
 
+/* Each tree of each model, loaded through the trailer: its rows, and each table. */
+static const struct {
+    uint8_t model, tree;
+    uint16_t rows[TABLES];
+    uint64_t table[TABLES];
+} one_trees[] = {
+    {0, 0, {2, 3, 1, 5, 12}, {UINT64_C(0xc2c32cfac4861539), UINT64_C(0x2af415d68205d0d9), UINT64_C(0x5fd976364ca4569d), UINT64_C(0x9bf8f7430e727103), UINT64_C(0x2230c42ddd106495)}},
+    {1, 0, {5, 7, 1, 15, 12}, {UINT64_C(0x1cbd5183c02f6c8a), UINT64_C(0x869ade1199b633cc), UINT64_C(0x6e0407e31ab2ddab), UINT64_C(0x2c7635443050359c), UINT64_C(0xae49b8fa7d106495)}},
+    {1, 1, {5, 7, 1, 1, 2}, {UINT64_C(0x1cbd5183c02f6c8a), UINT64_C(0x869ade1199b633cc), UINT64_C(0x54760c356dc4f254), UINT64_C(0xb5d445774c80560f), UINT64_C(0xd2328807b4eb6fed)}},
+    {2, 0, {0, 0, 1, 1, 2}, {UINT64_C(0xcbf29ce484222325), UINT64_C(0xcbf29ce484222325), UINT64_C(0xf1171a57af4b42d1), UINT64_C(0xb5d445774c80560f), UINT64_C(0xd2328807b4eb6fed)}},
+    {3, 0, {1, 1, 1, 3, 6}, {UINT64_C(0xeef3f61e355092b0), UINT64_C(0x01a3b107af5911b6), UINT64_C(0xb9cb3e4707c7ca0d), UINT64_C(0x4ae73c18c87764f3), UINT64_C(0xdd0da0e1099d713d)}}
+};
+
 /* One byte of the voice changed: where, to what; then the opening (model -1) or the load of a model is refused so. */
 static const struct {
     uint16_t at;
@@ -168,8 +184,8 @@ static const struct {
     {241, 128, -1, 2, 241, 0},
     {192, 128, -1, 2, 192, 0},
     {129, 57, 1, 13, 0, 0},
-    {129, 49, 1, 13, 0, 0},
-    {130, 42, 1, 13, 0, 0},
+    {129, 44, 1, 13, 0, 0},
+    {129, 44, 1, 13, 0, 0},
     {129, 57, 2, 13, 0, 0},
     {920, 128, 1, 17, 277, 0},
     {1015, 224, 1, 17, 325, 0},
@@ -178,61 +194,57 @@ static const struct {
     {18, 123, -1, 9, 0, 0},
     {443, 125, -1, 9, 0, 0},
     {886, 10, 1, 22, 0, 5},
+    {961, 32, 1, 22, 0, 0},
     {1028, 49, 1, 22, 0, 4},
-    {1026, 91, 1, 22, 0, 4},
     {62, 10, -1, 7, 62, 0},
     {170, 10, -1, 7, 170, 0},
     {576, 10, -1, 7, 579, 0},
-    {751, 224, 0, 17, 106, 0},
-    {767, 34, 0, 17, 106, 0},
-    {758, 128, 0, 17, 106, 0},
-    {89, 65, -1, 8, 89, 0},
-    {82, 34, -1, 8, 82, 0},
-    {167, 57, -1, 8, 167, 0},
+    {983, 49, 1, 21, 0, 1},
+    {1023, 10, 1, 21, 0, 3},
+    {980, 49, 1, 21, 0, 1},
+    {354, 93, 2, 15, 0, 0},
+    {631, 245, 0, 19, 0, 0},
+    {630, 42, 0, 19, 0, 0},
+    {630, 125, 0, 19, 0, 0},
     {1184, 123, 3, 17, 541, 0},
     {1105, 224, 2, 17, 479, 0},
     {1149, 48, 3, 22, 0, 0},
     {409, 255, -1, 1, 0, 0},
-    {253, 42, -1, 1, 0, 0},
-    {407, 42, -1, 1, 0, 0},
+    {252, 255, -1, 1, 0, 0},
+    {410, 57, -1, 1, 0, 0},
+    {730, 125, 0, 17, 106, 0},
+    {708, 10, 0, 17, 58, 0},
+    {710, 45, 0, 17, 58, 0},
+    {470, 58, -1, 5, 470, 0},
     {594, 34, -1, 5, 594, 0},
     {428, 125, -1, 5, 428, 0},
-    {530, 58, -1, 5, 530, 0},
-    {603, 42, 2, 15, 0, 0},
     {611, 44, -1, 6, 611, 0},
     {610, 58, -1, 6, 610, 0},
-    {612, 125, -1, 6, 612, 0},
+    {449, 32, -1, 6, 449, 0},
     {774, 48, 1, 19, 0, 0},
     {776, 224, 1, 19, 0, 0},
     {774, 34, 1, 19, 0, 0},
-    {1023, 10, 1, 21, 0, 3},
-    {1014, 57, 1, 21, 0, 3},
-    {1036, 57, 1, 21, 0, 4},
+    {82, 34, -1, 8, 82, 0},
+    {167, 57, -1, 8, 167, 0},
+    {166, 57, -1, 8, 208, 0},
     {234, 42, -1, 3, 246, 0},
-    {613, 10, -1, 3, 616, 0},
-    {225, 58, -1, 3, 246, 0},
+    {364, 34, -1, 3, 403, 0},
+    {389, 10, -1, 3, 403, 0},
     {595, 93, 2, 16, 0, 0},
-    {1117, 32, 3, 19, 0, 0},
+    {131, 42, 3, 13, 0, 0},
     {530, 57, 3, 16, 0, 0},
-    {338, 42, -1, 4, 338, 0},
-    {338, 57, -1, 4, 338, 0},
-    {350, 93, -1, 4, 350, 0},
-    {87, 57, -1, 10, 69, 0},
-    {77, 49, -1, 10, 69, 0},
-    {86, 57, -1, 10, 69, 0},
-    {132, 32, 3, 13, 0, 0},
-    {1094, 125, 2, 19, 0, 0},
-    {631, 42, 0, 19, 0, 0},
-    {632, 245, 0, 19, 0, 0},
-    {101, 48, 0, 19, 0, 0},
-    {754, 32, 0, 21, 0, 0},
-    {685, 93, 0, 22, 0, 0},
+    {1116, 65, 3, 19, 0, 0},
+    {508, 57, 1, 16, 0, 0},
+    {553, 57, 1, 16, 0, 0},
+    {510, 125, 1, 16, 0, 0},
+    {1092, 91, 2, 19, 0, 0},
+    {687, 91, 0, 22, 0, 0},
     {744, 10, 0, 22, 0, 0},
     {687, 44, 0, 22, 0, 0},
-    {509, 32, 1, 16, 0, 0},
-    {508, 48, 1, 16, 0, 0},
-    {553, 48, 1, 16, 0, 0},
-    {452, 10, 0, 16, 0, 0}
+    {374, 42, -1, 4, 374, 0},
+    {338, 57, -1, 4, 338, 0},
+    {350, 93, -1, 4, 350, 0},
+    {75, 57, -1, 10, 69, 0}
 };
 
 /* ---- memory ------------------------------------------------------------------------------------------------------------------------ */
@@ -305,7 +317,7 @@ static uint64_t walk(int k, uint64_t tree, uint64_t limit) {
 static int header_holds(void) {
     if (!holds(open_file() == LARSAVIM_SUCCESS && out[LARSAVIM_OPEN_PLACE] == 0))
         return 0;
-    if (!holds(mixed(words, LARSAVIM_WORDS) == UINT64_C(0xcafa928d41afbf30)))
+    if (!holds(mixed(words, LARSAVIM_WORDS) == UINT64_C(0xcafb2a8d41b0c178)))
         return 0;
     if (!holds(larsavim_get(words, LARSAVIM_WORDS, LARSAVIM_FRAME_PERIOD, out, LARSAVIM_GET_OUT) == LARSAVIM_SUCCESS && out[LARSAVIM_GET_VALUE] == UINT64_MAX))
         return 0;
@@ -420,6 +432,24 @@ static int tasks_hold(void) {
            load_shared(1, LARSAVIM_BOTTOM) == LARSAVIM_ROOM && task_holds(2, LARSAVIM_TOP);
 }
 
+/* A tree by itself, through the trailer, for the top task; one that has no row is refused. */
+static int one_tree_holds(int i) {
+    uint64_t number, tree = one_trees[i].tree;
+    for (int k = 0; k < 2; k++, tree += 99) {
+        number = larsavim_load_tree(file, VOICE_LEN, words, LARSAVIM_WORDS, one_trees[i].model, tree, LARSAVIM_TOP, held[LARSAVIM_TOP], LARSAVIM_BOUNDS, held[LARSAVIM_BOTTOM],
+                                    LARSAVIM_BOUNDS, questions, room[0], patterns, room[1], trees, room[2], records, room[3], values, room[4], work, WORK, out, LARSAVIM_LOAD_OUT);
+        if (number != (k == 0 ? LARSAVIM_SUCCESS : LARSAVIM_WALKTABLE))
+            return 0;
+        for (int t = 0; t < TABLES && k == 0; t++)
+            if (held[LARSAVIM_TOP][t] != one_trees[i].rows[t] ||
+                mixed(table[t] + LARSAVIM_FIRST(LARSAVIM_TOP, room[t], width[t], held[LARSAVIM_TOP][t]), width[t] * held[LARSAVIM_TOP][t]) != one_trees[i].table[t])
+                return 0;
+        if (unload(LARSAVIM_TOP) != LARSAVIM_SUCCESS)
+            return 0;
+    }
+    return 1;
+}
+
 /* The refusal of one changed byte; up to 20 no table is changed. */
 static int change_holds(int i) {
     uint64_t before[TABLES], number, line = 0;
@@ -455,5 +485,10 @@ int larsavim_selftest(void) {
             return check;
     if (!holds(tasks_hold()))
         return check;
+    if (!holds(unload(LARSAVIM_TOP) == LARSAVIM_SUCCESS))
+        return check;
+    for (int i = 0; i < (int)COUNT(one_trees); i++)
+        if (!holds(one_tree_holds(i)))
+            return check;
     return 0;
 }

@@ -15,6 +15,7 @@ import sys
 HERE = os.path.dirname(os.path.abspath(__file__))
 sys.path.insert(0, os.path.join(HERE, '..', '..', 'judge'))
 import labels  # noqa: E402
+import one_tree  # noqa: E402
 import reading  # noqa: E402
 import writing  # noqa: E402
 
@@ -43,7 +44,8 @@ def voice():
             'FULLCONTEXT_VERSION:1.0', 'GV_OFF_CONTEXT:"*-sil+*","*-pau+*"', 'COMMENT:é あ \U0001f50a', '[STREAM]', 'VECTOR_LENGTH[M]:1', 'VECTOR_LENGTH[L]:1', 'NUM_WINDOWS[M]:1', 'NUM_WINDOWS[L]:1', 'IS_MSD[M]:0', 'IS_MSD[L]:1', 'USE_GV[M]:1',
             'USE_GV[L]:0', 'OPTION[M]:ALPHA=0.5,GAMMA=0', '[POSITION]', 'DURATION_PDF:' + at['DP'], 'DURATION_TREE:' + at['DT'], 'STREAM_WIN[M]:0-5', 'STREAM_WIN[L]:0-5', 'STREAM_PDF[M]:' + at['MP'],
             'STREAM_PDF[L]:' + at['LP'], 'STREAM_TREE[M]:' + at['MT'], 'STREAM_TREE[L]:' + at['LT'], 'GV_PDF[M]:' + at['MGP'], 'GV_TREE[M]:' + at['MGT'], '[DATA]', '']
-    return '\n'.join(head).encode() + data
+    whole = '\n'.join(head).encode() + data
+    return whole + one_tree.trailer(whole)
 
 
 # ---- what must be answered, by the second reading
@@ -181,6 +183,15 @@ def rows_of(b):
     return rows, walked
 
 
+def one_trees(b):
+    """Each tree of each model, loaded through the trailer: model, tree, rows, and each table."""
+    h = reading.Header(b)
+    for which in range(4):
+        for t in range(reading.Model(b, h, which).needed()[2]):
+            rows, _, _, linked = one_tree.load(b, which, t)
+            yield which, t, rows, [mixed(x) for x in linked()]
+
+
 # ---- the C file
 
 def c_bytes(b):
@@ -208,6 +219,7 @@ def made():
             ', '.join(map(str, n)), ', '.join('UINT64_C(0x%016x)' % t for t in tables), answers, length, text_mix, depth_mix, first, count)
             for n, tables, answers, length, text_mix, depth_mix, first, count in rows),
         'WALKS': ',\n'.join('    {%d, %d, %d, %d, %d, %d}' % w for w in walked),
+        'ONE_TREES': ',\n'.join('    {%d, %d, {%s}, {%s}}' % (which, t, ', '.join(map(str, n)), ', '.join('UINT64_C(0x%016x)' % x for x in tables)) for which, t, n, tables in one_trees(b)),
         'CHANGES': ',\n'.join('    {%d, %d, %d, %d, %d, %d}' % c for c in changes(b)),
     }
     for name, value in put.items():

@@ -10,6 +10,7 @@ pub mod NoModel
 pub mod Beside
 pub mod Loading
 pub mod Sharing
+pub mod OneTree
 pub mod Apart
 pub mod Walking
 pub mod Walked

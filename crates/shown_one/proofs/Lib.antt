@@ -4,3 +4,4 @@ pub mod Plan
 pub mod AsFull
 pub mod Unlinked
 pub mod Reach
+pub mod Beside

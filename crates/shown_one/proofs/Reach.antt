@@ -32,6 +32,17 @@ clash e = absurd (omega arith)
 
 -- ---- numbers behind some bytes
 
+-- a number is that of its four bytes
+of-bytes : (n : ℕ) → n < 2 ^ 32 → n % 0x100 + n / 0x100 % 0x100 * 0x100 + n / 0x1_0000 % 0x100 * 0x1_0000 + n / 0x100_0000 % 0x100 * 0x100_0000 ≡ n
+of-bytes n h =
+    let d : n / 0x1_0000 ≡ n / 0x100 / 0x100 = omega arith in
+    let e : n / 0x100_0000 ≡ n / 0x1_0000 / 0x100 = omega arith in
+    let f : n / 0x100_0000 < 0x100 = omega arith in
+    of-parts n (n / 0x100) (n / 0x1_0000) (n / 0x100_0000) (omega arith) (omega arith) (omega arith) f
+  where
+    of-parts : (n a b c : ℕ) → n ≡ n % 0x100 + a * 0x100 → a ≡ a % 0x100 + b * 0x100 → b ≡ b % 0x100 + c * 0x100 → c < 0x100 → n % 0x100 + a % 0x100 * 0x100 + b % 0x100 * 0x1_0000 + c % 0x100 * 0x100_0000 ≡ n
+    of-parts n a b c p q r s = let z : c % 0x100 ≡ c = omega arith in omega arith
+
 -- the one that stands behind p
 word-there : (p : List ℕ) (n : ℕ) (q : List ℕ) → n < 2 ^ 32 → wordAt (p ++ ((n % 0x100) ∷ (n / 0x100 % 0x100) ∷ (n / 0x1_0000 % 0x100) ∷ (n / 0x100_0000 % 0x100) ∷ q)) (length p) ≡ n
 word-there p n q h =
@@ -41,7 +52,7 @@ word-there p n q h =
     let e₁ : getD (p ++ b) (length p + 1) 0 ≡ n / 0x100 % 0x100 = getD-append-add p b 1 0 in
     let e₂ : getD (p ++ b) (length p + 2) 0 ≡ n / 0x1_0000 % 0x100 = getD-append-add p b 2 0 in
     let e₃ : getD (p ++ b) (length p + 3) 0 ≡ n / 0x100_0000 % 0x100 = getD-append-add p b 3 0 in
-    omega (arith, e₀, e₁, e₂, e₃)
+    ap₂ _+_ (ap₂ _+_ (ap₂ _+_ e₀ (ap (λ (b : ℕ). b * 0x100) e₁)) (ap (λ (b : ℕ). b * 0x1_0000) e₂)) (ap (λ (b : ℕ). b * 0x100_0000) e₃) ∙ of-bytes n h
 
 pub words-there : (p l q : List ℕ) → Below32 l → wordsAt (p ++ (littleEndian l ++ q)) (length p) (length l) ≡ l
 unfolding wordsAt littleEndian
@@ -103,26 +114,38 @@ all-to : {A : Type 0} {P Q : A → Type 0} → ((x : A) → P x → Q x) → {l 
 all-to f All.end = All.end
 all-to f (All.next {a = x} p a) = All.next (f x p) (all-to f a)
 
+-- numbers above one are above a lesser one
+lower : {a b : ℕ} → a ≤ b → {ms : List Model} → All (λ m. b < modelNumber m) ms → All (λ m. a < modelNumber m) ms
+lower {a} {b} h l = all-to (λ x (p : b < modelNumber x). under (modelNumber x) p) l
+  where
+    under : (n : ℕ) → b < n → a < n
+    under n p = omega arith
+
 module _ {s : List ℕ} {h : Header} where
   rising : {i : ℕ} {xs : List Span} {ms : List Model} → StreamModels s h i xs ms → All (λ m. 2 * i < modelNumber m) ms × Rising ms
   rising StreamModels.end = (All.end, none)
   rising {i} (StreamModels.both {ms = ms} n u r) =
       let w = rising r in
-      let up : All (λ m. 2 * i + 2 < modelNumber m) ms = all-to (λ x p. omega arith) (w .0) in (
-        All.next (omega arith) (All.next (omega arith) (all-to (λ x p. omega arith) up)),
-        more (All.next (omega arith) (all-to (λ x p. omega arith) up)) (more up (w .1)),
+      let up : All (λ m. 2 * i + 2 < modelNumber m) ms = lower {a = 2 * i + 2} {b = 2 * suc i} (omega arith) (w .0) in
+      let p : 2 * i < modelNumber (stream i) = omega arith in
+      let q : 2 * i < modelNumber (gv i) = omega arith in
+      let z : modelNumber (stream i) < modelNumber (gv i) = omega arith in (
+        All.next {a = stream i} p (All.next {a = gv i} q (lower {a = 2 * i} {b = 2 * i + 2} (omega arith) up)),
+        more {m = stream i} (All.next {a = gv i} z (lower {a = 2 * i + 1} {b = 2 * i + 2} (omega arith) up)) (more {m = gv i} up (w .1)),
       )
   rising {i} (StreamModels.alone {ms = ms} n u r) =
       let w = rising r in
-      let up : All (λ m. 2 * i + 2 < modelNumber m) ms = all-to (λ x p. omega arith) (w .0) in
-      (All.next (omega arith) (all-to (λ x p. omega arith) up), more (all-to (λ x p. omega arith) up) (w .1))
+      let up : All (λ m. 2 * i + 1 < modelNumber m) ms = lower {a = 2 * i + 1} {b = 2 * suc i} (omega arith) (w .0) in
+      let p : 2 * i < modelNumber (stream i) = omega arith in
+      (All.next {a = stream i} p (lower {a = 2 * i} {b = 2 * i + 1} (omega arith) up), more {m = stream i} up (w .1))
   rising {i} (StreamModels.unnamed {ms = ms} n r) =
       let w = rising r in
-      let up : All (λ m. 2 * i + 2 < modelNumber m) ms = all-to (λ x p. omega arith) (w .0) in
-      (All.next (omega arith) (all-to (λ x p. omega arith) up), more (all-to (λ x p. omega arith) up) (w .1))
+      let up : All (λ m. 2 * i + 1 < modelNumber m) ms = lower {a = 2 * i + 1} {b = 2 * suc i} (omega arith) (w .0) in
+      let p : 2 * i < modelNumber (stream i) = omega arith in
+      (All.next {a = stream i} p (lower {a = 2 * i} {b = 2 * i + 1} (omega arith) up), more {m = stream i} up (w .1))
 
   models-rise : {ms : List Model} → Models s h ms → Rising ms
-  models-rise (Models.voice m) = let w = rising m in more (all-to (λ x p. omega arith) (w .0)) (w .1)
+  models-rise (Models.voice m) = let w = rising m in more {m = duration} (lower {a = 0} {b = 2 * 0} (omega arith) (w .0)) (w .1)
 
   -- ---- a model that has a place is one of them
 
@@ -130,22 +153,22 @@ module _ {s : List ℕ} {h : Header} where
   at-stream {k} (StreamModels.both {ms = ms} n u r) here = (0, subst (λ (i : ℕ). Nth (stream k ∷ gv k ∷ ms) 0 (stream i)) (omega arith) here)
   at-stream {k} (StreamModels.alone {ms = ms} n u r) here = (0, subst (λ (i : ℕ). Nth (stream k ∷ ms) 0 (stream i)) (omega arith) here)
   at-stream {k} (StreamModels.unnamed {ms = ms} n r) here = (0, subst (λ (i : ℕ). Nth (stream k ∷ ms) 0 (stream i)) (omega arith) here)
-  at-stream {k} {suc a} (StreamModels.both {ms = ms} n u r) (there t) = let w = at-stream r t in (suc (suc (w .0)), subst (λ (i : ℕ). Nth (stream k ∷ gv k ∷ ms) (suc (suc (w .0))) (stream i)) (omega arith) (there (there (w .1))))
-  at-stream {k} {suc a} (StreamModels.alone {ms = ms} n u r) (there t) = let w = at-stream r t in (suc (w .0), subst (λ (i : ℕ). Nth (stream k ∷ ms) (suc (w .0)) (stream i)) (omega arith) (there (w .1)))
-  at-stream {k} {suc a} (StreamModels.unnamed {ms = ms} n r) (there t) = let w = at-stream r t in (suc (w .0), subst (λ (i : ℕ). Nth (stream k ∷ ms) (suc (w .0)) (stream i)) (omega arith) (there (w .1)))
+  at-stream {k = k} {a = suc a} (StreamModels.both {ms = ms} n u r) (there t) = let w = at-stream r t in (suc (suc (w .0)), subst (λ (i : ℕ). Nth (stream k ∷ gv k ∷ ms) (suc (suc (w .0))) (stream i)) (omega arith) (there (there (w .1))))
+  at-stream {k = k} {a = suc a} (StreamModels.alone {ms = ms} n u r) (there t) = let w = at-stream r t in (suc (w .0), subst (λ (i : ℕ). Nth (stream k ∷ ms) (suc (w .0)) (stream i)) (omega arith) (there (w .1)))
+  at-stream {k = k} {a = suc a} (StreamModels.unnamed {ms = ms} n r) (there t) = let w = at-stream r t in (suc (w .0), subst (λ (i : ℕ). Nth (stream k ∷ ms) (suc (w .0)) (stream i)) (omega arith) (there (w .1)))
 
   at-gv : {k a : ℕ} {xs : List Span} {ms : List Model} {x : Span} → StreamModels s h k xs ms → Nth xs a x → {d : _} → models.LastNamed models.streamName s (bytesOf s x) (h .streams) d → d .use-gv ≡ true → (j : ℕ) × Nth ms j (gv (k + a))
   at-gv {k} (StreamModels.both {ms = ms} n u r) here l g = (1, subst (λ (i : ℕ). Nth (stream k ∷ gv k ∷ ms) 1 (gv i)) (omega arith) (there here))
   at-gv (StreamModels.alone n u r) here l g = absurd (true≢false (sym g ∙ ap (λ d. d .use-gv) (named-one l n) ∙ u))
   at-gv (StreamModels.unnamed n r) here l g = absurd (named-never l n)
-  at-gv {k} {suc a} (StreamModels.both {ms = ms} n u r) (there t) l g = let w = at-gv r t l g in (suc (suc (w .0)), subst (λ (i : ℕ). Nth (stream k ∷ gv k ∷ ms) (suc (suc (w .0))) (gv i)) (omega arith) (there (there (w .1))))
-  at-gv {k} {suc a} (StreamModels.alone {ms = ms} n u r) (there t) l g = let w = at-gv r t l g in (suc (w .0), subst (λ (i : ℕ). Nth (stream k ∷ ms) (suc (w .0)) (gv i)) (omega arith) (there (w .1)))
-  at-gv {k} {suc a} (StreamModels.unnamed {ms = ms} n r) (there t) l g = let w = at-gv r t l g in (suc (w .0), subst (λ (i : ℕ). Nth (stream k ∷ ms) (suc (w .0)) (gv i)) (omega arith) (there (w .1)))
+  at-gv {k = k} {a = suc a} (StreamModels.both {ms = ms} n u r) (there t) l g = let w = at-gv r t l g in (suc (suc (w .0)), subst (λ (i : ℕ). Nth (stream k ∷ gv k ∷ ms) (suc (suc (w .0))) (gv i)) (omega arith) (there (there (w .1))))
+  at-gv {k = k} {a = suc a} (StreamModels.alone {ms = ms} n u r) (there t) l g = let w = at-gv r t l g in (suc (w .0), subst (λ (i : ℕ). Nth (stream k ∷ ms) (suc (w .0)) (gv i)) (omega arith) (there (w .1)))
+  at-gv {k = k} {a = suc a} (StreamModels.unnamed {ms = ms} n r) (there t) l g = let w = at-gv r t l g in (suc (w .0), subst (λ (i : ℕ). Nth (stream k ∷ ms) (suc (w .0)) (gv i)) (omega arith) (there (w .1)))
 
   member : {m : Model} {ms : List Model} {x y : _} {w : ℕ} → Placed s h m x y w → Models s h ms → (j : ℕ) × Nth ms j m
   member of-duration (Models.voice v) = (0, here)
-  member (of-stream {i = i} e) (Models.voice {ms = ms} v) = let w = at-stream v (e .named) in (suc (w .0), there (subst (λ (k : ℕ). Nth ms (w .0) (stream k)) (omega arith) (w .1)))
-  member (of-gv {i = i} e u t b) (Models.voice {ms = ms} v) = let w = at-gv v (e .named) (e .in-streams) u in (suc (w .0), there (subst (λ (k : ℕ). Nth ms (w .0) (gv k)) (omega arith) (w .1)))
+  member (of-stream {i = i} e) (Models.voice {ms = ms} v) = let w = at-stream v (e .named) in (suc (w .0), there (let z : 0 + i ≡ i = omega arith in subst (λ (k : ℕ). Nth ms (w .0) (stream k)) z (w .1)))
+  member (of-gv {i = i} e u t b) (Models.voice {ms = ms} v) = let w = at-gv v (e .named) (e .in-streams) u in (suc (w .0), there (let z : 0 + i ≡ i = omega arith in subst (λ (k : ℕ). Nth ms (w .0) (gv k)) z (w .1)))
 
   -- ---- the rows of one model
 
