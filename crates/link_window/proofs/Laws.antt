@@ -186,6 +186,9 @@ zeros (suc n) (suc j) = zeros n j
 pub from-none : {n : ℕ} (k : ℕ) {p : ℕ → Bool} {e : List ℕ} {r : Found} → Marked (replicate k 0) n p e → FirstOf (λ (j : ℕ). isYes (getD e j 0)) n r → FirstOf p n r
 from-none {n} k {p} {e} w f = first-as (λ j l. w .each j l ∙ ap (λ (x : ℕ). isYes x || p j) (zeros k j)) f
 
+pub heard-in : (s names : List ℕ) {n : ℕ} {qs ps : List QuestionPlace} {r : Found} → ps ≡ qs → FirstOf (λ (j : ℕ). heard s (nameIn s names j) qs) n r → FirstOf (λ (j : ℕ). heard s (nameIn s names j) ps) n r
+heard-in s names {n} {r = r} e f = subst (λ (x : List QuestionPlace). FirstOf (λ (j : ℕ). heard s (nameIn s names j) x) n r) (sym e) f
+
 -- where there is no question
 pub silent-none : (s names : List ℕ) {n : ℕ} {qs : List QuestionPlace} → qs ≡ [] → n ≡ 0 → FirstOf (λ (j : ℕ). heard s (nameIn s names j) qs) n Nothing
 silent-none s names e z = none (λ i h. absurd (omega arith))
@@ -362,6 +365,10 @@ module _ (s names : List ℕ) (qs : List QuestionPlace) (i : ℕ) where
       let q : j ≡ k = cc in
       subst (λ (x : ℕ). Windowed s qs i (Next x)) q (next (λ m x l o. all-heard h g z m x l o) d a b c)
   window-next (all h a b) e g z = let y : _≡_ {A = ℕ} 0 1 = cc in absurd (omega arith)
+
+pub taken-few : {s names : List ℕ} {i n : ℕ} {f : _} → Taken s i names f → f ≡ All n → n ≤ 32
+taken-few (more {j = k} h d a b c) e = let y : _≡_ {A = ℕ} 0 1 = cc in absurd (omega arith)
+taken-few {n = n} (all {n = k} h a b) e = let q : k ≡ n = cc in omega arith
 
 -- ---- window by window
 

@@ -1,58 +1,52 @@
+-- `link_window::first_unasked`: the first among those still to come is the first of all.
+use mathlib.Core.Path.{_≡_, refl, sym, ap, ap₂, _∙_}
+use native.Mathlib.Omega.{arith}
+use Prim.Native.Nat.{_-_}
+use lib.ListN.{length}
+use Rattle.tree_question.specs.Questions.{questionsAt}
+use Rattle.link_window.proofs.Laws.{Going, going-none, going-small, going-missing, going-up, going-next, going-clean}
+use borrow.Author.Needs.{needs}
 use Rattle.link_window.proofs.first_unasked.Statement.{statement}
 use Rattle.link_window.proofs.first_unasked.Tie as tie
-use Rattle.link_window.proofs.first_unasked.Reads as reads
-use Rattle.link_window.proofs.first_unasked.Lts as lts
-use Rattle.link_window.proofs.read_window.Reads as read-window-reads
 
 abbrev Inv-loop : tie.InvT-loop
-Inv-loop s at first i₀ k₀ i k = ?
+Inv-loop s at first i₀ k₀ i k = Going s (questionsAt s at .items) first i k
 
 abbrev μ-loop : tie.MeasureT-loop
-μ-loop s at first i₀ k₀ i k = ?
+μ-loop s at first i₀ k₀ i k = length s - i
 
--- src/lib.rt:212:5
 loop-holds : tie.Need-loop-holds Inv-loop μ-loop
-loop-holds c = ?
+loop-holds c = going-none _ _ _
 
--- src/lib.rt:213:15
 read-window-requires : tie.Need-read-window-requires Inv-loop μ-loop
-read-window-requires c κs = ?
+read-window-requires c κs = search needs
 
--- src/lib.rt:214:29
 enum-known-j : tie.Need-enum-known-j Inv-loop μ-loop
-enum-known-j c = ?
+enum-known-j c = search needs
 
--- src/lib.rt:215:34
 add-t9 : tie.Need-add-t9 Inv-loop μ-loop
-add-t9 c = ?
+add-t9 c = omega (arith, going-small _ _ _ (c .before .before .before .before .loop .inv) (c .before .before .before .read-window .ensures) (c .before .j .given .1), c .before .before .before .before .before .before .good)
 
--- src/lib.rt:215:17
 returns : tie.Need-returns Inv-loop μ-loop
-returns c = ?
+returns c = going-missing _ _ _ (c .before .before .before .before .loop .inv) (c .before .before .before .read-window .ensures) (c .before .j .given .1)
 
--- src/lib.rt:217:26
 enum-known-next : tie.Need-enum-known-next Inv-loop μ-loop
-enum-known-next c = ?
+enum-known-next c = search needs
 
--- src/lib.rt:218:21
 add-k : tie.Need-add-k Inv-loop μ-loop
-add-k c = ?
+add-k c = omega (arith, going-up _ _ _ (c .before .before .before .before .loop .inv) (c .before .before .before .read-window .ensures) (c .before .next .given .1), c .before .before .before .before .loop .inv .few, c .before .before .before .before .before .before .good)
 
--- src/lib.rt:212:5
 loop-less : tie.Need-loop-less Inv-loop μ-loop
-loop-less c = ?
+loop-less c = omega (arith, going-up _ _ _ (c .before .before .before .before .loop .inv) (c .before .before .before .read-window .ensures) (c .before .next .given .1))
 
--- src/lib.rt:212:5
 loop-again : tie.Need-loop-again Inv-loop μ-loop
-loop-again c = ?
+loop-again c = going-next _ _ _ (c .before .before .before .before .loop .inv) (c .before .before .before .read-window .ensures) (c .before .next .given .1)
 
--- src/lib.rt:222:17
 enum-told : tie.Need-enum-told Inv-loop μ-loop
-enum-told c = ?
+enum-told c = search needs
 
--- src/lib.rt:222:17
 returns-2 : tie.Need-returns-2 Inv-loop μ-loop
-returns-2 c = ?
+returns-2 c = going-clean _ _ _ (c .before .before .before .loop .inv) (c .before .before .read-window .ensures) (c .enum-told .given .1)
 
 pub first-unasked-spec : {M : Type 1} → statement M
 first-unasked-spec =

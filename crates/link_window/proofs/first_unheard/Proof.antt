@@ -1,30 +1,24 @@
+-- `link_window::first_unheard`: no mark, then those of the questions, then the first without one.
+use native.Mathlib.Omega.{arith}
+use Rattle.link_window.proofs.Laws.{from-none}
 use borrow.Author.Needs.{needs}
 use Rattle.link_window.proofs.first_unheard.Statement.{statement}
 use Rattle.link_window.proofs.first_unheard.Tie as tie
-use Rattle.link_window.proofs.first_unheard.Reads as reads
-use Rattle.link_window.proofs.first_unheard.Lts as lts
-use Rattle.link_window.proofs.first_unmet.Reads as first-unmet-reads
-use Rattle.link_window.proofs.mark_all.Reads as mark-all-reads
 
--- src/lib.rt:166:31
 slice-aggregate-mark-all : tie.Need-slice-aggregate-mark-all
 slice-aggregate-mark-all c = search needs
 
--- src/lib.rt:166:5
 mark-all-requires : tie.Need-mark-all-requires
-mark-all-requires c κs = search needs
+mark-all-requires c κs = (omega (arith, c .before .before .before .pre .0), c .before .before .before .pre .1)
 
--- src/lib.rt:167:17
 slice-aggregate-first-unmet : tie.Need-slice-aggregate-first-unmet
 slice-aggregate-first-unmet c = search needs
 
--- src/lib.rt:167:5
 first-unmet-requires : tie.Need-first-unmet-requires
-first-unmet-requires c κs = search needs
+first-unmet-requires c κs = omega (arith, c .before .before .before .before .before .before .pre .0, c .before .before .mark-all .ensures .long)
 
--- src/lib.rt:161:1
 returns : tie.Need-returns
-returns c = ?
+returns c = from-none 32 (c .before .before .before .mark-all .ensures) (c .first-unmet .ensures)
 
 pub first-unheard-spec : {M : Type 1} → statement M
 first-unheard-spec =

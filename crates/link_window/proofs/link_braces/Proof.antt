@@ -1,71 +1,54 @@
+-- `link_window::link_braces`: one reference, or the lower fault of the lines.
+use mathlib.Core.Path.{_≡_, refl, sym, ap, ap₂, _∙_}
+use Rattle.tree_question.specs.Questions.{questionsAt}
+use Rattle.link_alone.specs.declared.Single.the-variants.{One, Several}
+use Rattle.link_window.specs.Windows.{faultLines}
+use Rattle.link_window.proofs.Laws.{counted-many, braces-are, braces-broken}
 use borrow.Author.Needs.{needs}
 use Rattle.link_window.proofs.link_braces.Statement.{statement}
 use Rattle.link_window.proofs.link_braces.Tie as tie
-use Rattle.link_window.proofs.link_braces.Reads as reads
-use Rattle.link_window.proofs.link_braces.Lts as lts
-use Rattle.link_alone.proofs.single_of.Reads as single-of-reads
-use Rattle.link_find.proofs.ids_in_order.Reads as ids-in-order-reads
-use Rattle.link_window.proofs.first_astray.Reads as first-astray-reads
-use Rattle.link_window.proofs.first_unasked.Reads as first-unasked-reads
-use Rattle.link_window.proofs.link_alone.Reads as link-alone-reads
-use Rattle.link_window.proofs.lower.Reads as lower-reads
-use Rattle.tree_survey_lines.proofs.count_lines.Reads as count-lines-reads
 
--- src/lib.rt:308:11
 count-lines-requires : tie.Need-count-lines-requires
 count-lines-requires c κs = search needs
 
--- src/lib.rt:310:13
 enum-known-lines : tie.Need-enum-known-lines
 enum-known-lines c = search needs
 
--- src/lib.rt:313:20
 single-of-requires : tie.Need-single-of-requires
-single-of-requires c κs = ?
+single-of-requires c κs = counted-many (c .before .before .before .before .before .args .s .now) (questionsAt (c .before .before .before .before .before .args .s .now) (c .before .before .before .before .before .args .at) .items) (c .before .before .before .before .before .args .first) (sym (c .before .lines .given .1) ∙ c .before .before .before .count-lines .ensures)
 
--- src/lib.rt:314:25
 enum-known-index : tie.Need-enum-known-index
 enum-known-index c = search needs
 
--- src/lib.rt:314:35
 link-alone-requires : tie.Need-link-alone-requires
 link-alone-requires c κs = search needs
 
--- src/lib.rt:316:40
 enum-told : tie.Need-enum-told
 enum-told c = search needs
 
--- src/lib.rt:316:54
 ids-in-order-requires : tie.Need-ids-in-order-requires
 ids-in-order-requires c κs = search needs
 
--- src/lib.rt:316:17
 first-astray-requires : tie.Need-first-astray-requires
-first-astray-requires c κs = ?
+first-astray-requires c κs = record { many = counted-many (c .before .before .before .before .before .before .before .before .before .args .s .now) (questionsAt (c .before .before .before .before .before .before .before .before .before .args .s .now) (c .before .before .before .before .before .before .before .before .before .args .at) .items) (c .before .before .before .before .before .before .before .before .before .args .first) (sym (c .before .before .before .before .before .lines .given .1) ∙ c .before .before .before .before .before .before .before .count-lines .ensures); order = c .ids-in-order .ensures }
 
--- src/lib.rt:317:17
 first-unasked-requires : tie.Need-first-unasked-requires
 first-unasked-requires c κs = search needs
 
--- src/lib.rt:315:32
 lower-requires : tie.Need-lower-requires
 lower-requires c κs = search needs
 
--- src/lib.rt:321:30
 enum-told-2 : tie.Need-enum-told-2
 enum-told-2 c = search needs
 
--- src/lib.rt:305:1
 returns : tie.Need-returns
-returns c = ?
+returns c = braces-are (c .before .before .before .before .before .before .before .before .before .before .args .s .now) (questionsAt (c .before .before .before .before .before .before .before .before .before .before .args .s .now) (c .before .before .before .before .before .before .before .before .before .before .args .at) .items) (c .before .before .before .before .before .before .before .before .before .before .args .first) (sym (c .before .before .before .before .before .before .lines .given .1) ∙ c .before .before .before .before .before .before .before .before .count-lines .ensures) _ (sym (c .before .before .index .given .1) ∙ c .before .before .before .before .single-of .ensures) (c .link-alone .ensures)
 
--- src/lib.rt:305:1
 returns-2 : tie.Need-returns-2
-returns-2 c = ?
+returns-2 c = braces-are (c .before .before .before .before .before .before .before .before .before .before .before .before .args .s .now) (questionsAt (c .before .before .before .before .before .before .before .before .before .before .before .before .args .s .now) (c .before .before .before .before .before .before .before .before .before .before .before .before .args .at) .items) (c .before .before .before .before .before .before .before .before .before .before .before .before .args .first) (sym (c .before .before .before .before .before .before .before .before .lines .given .1) ∙ c .before .before .before .before .before .before .before .before .before .before .count-lines .ensures) Several (sym (c .before .before .before .before .enum-told .given .1) ∙ c .before .before .before .before .before .before .single-of .ensures) (c .lower .ensures ∙ ap₂ faultLines (c .before .before .first-astray .ensures) (c .before .first-unasked .ensures))
 
--- src/lib.rt:305:1
 returns-3 : tie.Need-returns-3
-returns-3 c = ?
+returns-3 c = braces-broken (c .before .before .before .before .args .s .now) (questionsAt (c .before .before .before .before .args .s .now) (c .before .before .before .before .args .at) .items) (c .before .before .before .before .args .first) (sym (c .enum-told2 .given .1) ∙ c .before .before .count-lines .ensures)
 
 pub link-braces-spec : {M : Type 1} → statement M
 link-braces-spec =

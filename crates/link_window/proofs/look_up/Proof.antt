@@ -1,38 +1,33 @@
+-- `link_window::look_up`: by what the text begins with.
+use mathlib.Core.Path.{_≡_, refl, sym, ap, ap₂, _∙_}
+use Rattle.laws.specs.Steps.{Reading}
+use Rattle.written.specs.Said.{QuestionPlace}
+use Rattle.tree_question.proofs.Filling.{begins-question, begins-tree}
+use Rattle.link_window.proofs.Laws.{heard-in, silent-none, silent-some}
 use borrow.Author.Needs.{needs}
 use Rattle.link_window.proofs.look_up.Statement.{statement}
 use Rattle.link_window.proofs.look_up.Tie as tie
-use Rattle.link_window.proofs.look_up.Reads as reads
-use Rattle.link_window.proofs.look_up.Lts as lts
-use Rattle.link_window.proofs.first_unheard.Reads as first-unheard-reads
-use Rattle.tree_question.proofs.first_item.Reads as first-item-reads
 
--- src/lib.rt:175:11
 first-item-requires : tie.Need-first-item-requires
 first-item-requires c κs = search needs
 
--- src/lib.rt:176:24
 enum-known-first : tie.Need-enum-known-first
 enum-known-first c = search needs
 
--- src/lib.rt:176:34
 first-unheard-requires : tie.Need-first-unheard-requires
-first-unheard-requires c κs = search needs
+first-unheard-requires c κs = c .before .before .before .before .before .before .pre
 
--- src/lib.rt:178:16
 enum-told : tie.Need-enum-told
 enum-told c = search needs
 
--- src/lib.rt:171:1
 returns : tie.Need-returns
-returns c = ?
+returns c = heard-in (c .before .before .before .before .before .before .before .args .s .now) (c .before .before .before .before .before .before .before .args .names .now) (ap (λ (q : Reading QuestionPlace). q .items) (begins-question _ _ (sym (c .before .before .first .given .1) ∙ c .before .before .before .before .first-item .ensures))) (c .first-unheard .ensures)
 
--- src/lib.rt:171:1
 returns-2 : tie.Need-returns-2
-returns-2 c = ?
+returns-2 c = silent-none (c .before .before .before .before .before .before .args .s .now) (c .before .before .before .before .before .before .args .names .now) (ap (λ (q : Reading QuestionPlace). q .items) (begins-tree _ _ (sym (c .before .enum-told .given .1) ∙ c .before .before .before .first-item .ensures))) (c .if1 .taken)
 
--- src/lib.rt:171:1
 returns-3 : tie.Need-returns-3
-returns-3 c = ?
+returns-3 c = silent-some (c .before .before .before .before .before .before .args .s .now) (c .before .before .before .before .before .before .args .names .now) (ap (λ (q : Reading QuestionPlace). q .items) (begins-tree _ _ (sym (c .before .enum-told .given .1) ∙ c .before .before .before .first-item .ensures))) (c .if1 .left)
 
 pub look-up-spec : {M : Type 1} → statement M
 look-up-spec =
