@@ -137,7 +137,7 @@ refusedAs r = refusedBy (numberOf r) (placeOf r) (lineOf r)
 
 abbrev pub meteredOf : Bare → Meter
 meteredOf (bare.Pdf n a r) = record { number = 0; place = 0; line = 0; pdf = n; asked = a; read = r }
-meteredOf (bare.Refused r) = refusedAs r
+meteredOf (bare.Refused r) = refusedBy (numberOf r) 0 0
 
 -- 21 to 23 of the tree alone, then the walk
 abbrev pub linkedAs : ℕ → Meter → Linking → Meter

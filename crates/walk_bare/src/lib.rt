@@ -285,7 +285,7 @@ fn metered(bare: Bare) -> Meter
             asked,
             read,
         },
-        Bare::Refused(refusal) => refused_as(refusal),
+        Bare::Refused(refusal) => refused_by(refusal.number(), 0, 0),
     }
 }
 
