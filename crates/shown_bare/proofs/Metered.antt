@@ -117,8 +117,8 @@ module _ (s bytes : List ℕ) {qs : List Question} {ps : List QuestionPlace} (as
           by-links : {t : Body} {rows : List Row} → Linked qs t rows → t ≡ braces ls → Goes-on qs bytes ls 0 m (walkFrom (meetsIn s ps bytes cs) m 0)
           by-links (Linked.single {n = n} u) z = absurd (o (pdf n) (subst (λ (t : Body). Single t (pdf n)) z u))
           by-links Linked.empty z = let y : [] ≡ ls = cc in absurd (omega (arith, ap length y, some))
-          by-links (Linked.lines {l = a} {ls = as} {rows = rows} {front = front} leaves o′ f g) z =
-              let y : a ∷ as ≡ ls = cc in
+          by-links (Linked.lines {l = a} {ls = bs} {rows = rows} {front = front} leaves o′ f g) z =
+              let y : a ∷ bs ≡ ls = cc in
               along-from s bytes asks lines (subst (λ (x : List said.Line). Forall₂ (LineRow qs (ToLeaf x rows)) x front) y f) m 0 first
 
   one-line : {l : said.Line} {c : code.Line} → LineSaid s l c → {own : List Row} → Records qs (braces (l ∷ [])) own
