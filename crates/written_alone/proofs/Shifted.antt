@@ -97,7 +97,7 @@ module _ (n : ℕ) (s : List ℕ) (inside : n ≤ length s) where
       record {
         b = k .b;
         is = k .is;
-        it = word (λ u x o. f (n + u) x (number-of o i e)) (subst (Run₁ t inWord a) q (v .it)) (omega arith) (ap digit (at c (c - n) z) ∙ d) (k .it) h;
+        it = word {k = c - n} (λ u x o. f (n + u) x (number-of o i e)) (subst (Run₁ t inWord a) q (v .it)) (omega arith) (ap digit (at c (c - n) z) ∙ d) (k .it) h;
       }
 
   reference-to : {i j : ℕ} {r : Ref} → Reference s i j r → (a : ℕ) → i ≡ n + a → To (λ b. Reference t a b r) j
@@ -133,13 +133,13 @@ module _ (n : ℕ) (s : List ℕ) (inside : n ≤ length s) where
     y : B
     it : X b y
 
-  parted-to : {A B : Type 0} {P P′ : ℕ → ℕ → Type 0} {I I′ : ℕ → ℕ → A → B → Type 0} → ({i j : ℕ} → P i j → (a : ℕ) → i ≡ n + a → To (P′ a) j)
-      → ({i j : ℕ} {x : A} {y : B} → I i j x y → (a : ℕ) → i ≡ n + a → Item-to (λ b z. I′ a b x z) j)
+  parted-to : {A B : Type 0} {P P′ : ℕ → ℕ → Type 0} {I I′ : ℕ → ℕ → A → B → Type 0} → ((i j : ℕ) → P i j → (a : ℕ) → i ≡ n + a → To (P′ a) j)
+      → ((i j : ℕ) (x : A) (y : B) → I i j x y → (a : ℕ) → i ≡ n + a → Item-to (λ b z. I′ a b x z) j)
       → {i j : ℕ} {xs : List A} {ys : List B} → Parted P I i j xs ys → (a : ℕ) → i ≡ n + a → Item-to (λ b zs. Parted P′ I′ a b xs zs) j
-  parted-to p f (last x) a e = let u = f x a e in record { b = u .b; is = u .is; y = u .y ∷ []; it = last (u .it) }
+  parted-to p f (last x) a e = let u = f _ _ _ _ x a e in record { b = u .b; is = u .is; y = u .y ∷ []; it = last (u .it) }
   parted-to p f (next x q r) a e =
-      let u = f x a e in
-      let v = p q (u .b) (u .is) in
+      let u = f _ _ _ _ x a e in
+      let v = p _ _ q (u .b) (u .is) in
       let w = parted-to p f r (v .b) (v .is) in record { b = w .b; is = w .is; y = u .y ∷ w .y; it = next (u .it) (v .it) (w .it) }
 
   pattern-to : {i j : ℕ} {x : List ℕ} {y : Span} → PatternAt s i j x y → (a : ℕ) → i ≡ n + a → Item-to (λ b z. PatternAt t a b x z) j
@@ -165,7 +165,7 @@ module _ (n : ℕ) (s : List ℕ) (inside : n ≤ length s) where
       let o′ = run₁-to o (m′ .b) (m′ .is) in
       let p′ = word-to p (o′ .b) (o′ .is) in
       let v′ = run-to v (p′ .b) (p′ .is) in
-      let ws′ = parted-to comma-to pattern-to ws (v′ .b) (v′ .is) in
+      let ws′ = parted-to (λ i j q. comma-to q) (λ i j x y q. pattern-to q) ws (v′ .b) (v′ .is) in
       let w′ = run-to w (ws′ .b) (ws′ .is) in
       let x′ = word-to x (w′ .b) (w′ .is) in
       record {
@@ -202,7 +202,7 @@ module _ (n : ℕ) (s : List ℕ) (inside : n ≤ length s) where
   body-to (lines p q ls c r) a e =
       let u = word-to p a e in
       let v = run-to q (u .b) (u .is) in
-      let k = parted-to line-parting-to line-to ls (v .b) (v .is) in
+      let k = parted-to (λ i j q. line-parting-to q) (λ i j x y q. line-to q) ls (v .b) (v .is) in
       let x = run-to c (k .b) (k .is) in
       let w = word-to r (x .b) (x .is) in record { b = w .b; is = w .is; y = k .y; it = lines (u .it) (v .it) (k .it) (x .it) (w .it) }
 
@@ -220,7 +220,7 @@ module _ (n : ℕ) (s : List ℕ) (inside : n ≤ length s) where
   trees-to : {i : ℕ} {ts : List Tree} {us : List TreePlace} → TreesAt s i ts us → (a : ℕ) → i ≡ n + a → (vs : List TreePlace) × TreesAt t a ts vs
   trees-to (trees p q r) a e =
       let u = run-to p a e in
-      let v = parted-to parting-to tree-to q (u .b) (u .is) in
+      let v = parted-to (λ i j q. parting-to q) (λ i j x y q. tree-to q) q (u .b) (u .is) in
       let w = run-to r (v .b) (v .is) in
       let z : w .b ≡ length (drop n s) = omega (arith, w .is, length-drop n s) in
       (v .y, trees (u .it) (v .it) (subst (Run t blank (v .b)) z (w .it)))
@@ -230,5 +230,5 @@ module _ (n : ℕ) (s : List ℕ) (inside : n ≤ length s) where
   says-alone (without q) e = let z : n ≡ n + 0 = omega arith in let r = trees-to q 0 (e ∙ z) in (record { questions = []; trees = r .0 }, without (r .1))
   says-alone (with-questions p q) e =
       let z : n ≡ n + 0 = omega arith in
-      let u = parted-to parting-to question-to p 0 (e ∙ z) in
+      let u = parted-to (λ i j q. parting-to q) (λ i j x y q. question-to q) p 0 (e ∙ z) in
       let r = trees-to q (u .b) (u .is) in (record { questions = u .y; trees = r .0 }, with-questions (u .it) (r .1))
