@@ -349,6 +349,8 @@ int depth(int n, char **words);     /* depth.c */
 int pair_up(char **words);          /* pair.c */
 int share(void);                    /* share.c */
 int accept_rows(char **words);      /* accept.c */
+void explain_text_refusal(FILE *to, const struct voice *v, uint64_t which, const uint64_t *out); /* accept.c */
+int bare(char **words);             /* bare.c */
 void show_depth(const struct larsavim_model *m); /* depth.c: of `inspect` */
 
 #endif

@@ -21,6 +21,7 @@ static const char usage[] =
     "       larsavim pair DAY NIGHT                        what the models of two voices need in the same tables, and whether each walks there as alone\n"
     "       larsavim share                                 two tasks in the same tables, call by call: a script on standard input, an answer a line\n"
     "       larsavim accept FILE MODEL TREE ROWS           whether record rows that somebody else linked belong to a tree; ROWS is a file, - standard input\n"
+    "       larsavim bare FILE MODEL TREE ANSWERS LIMIT    a walk straight over the tree text, without tables, and how many lines it read\n"
     "       larsavim dump FILE                             everything, one fact a line, for comparing\n"
     "       larsavim hex                                   the dump of each line of hex on standard input, then END\n"
     "       larsavim demo FILE                             a voice in which two lines bear one id, and which of them wins\n"
@@ -93,6 +94,8 @@ static int run(const char *verb, int n, char **words) {
         return n == 0 ? share() : wrong("share takes no word: its script stands on standard input", NULL);
     if (strcmp(verb, "accept") == 0)
         return n == 4 ? accept_rows(words) : wrong("accept takes FILE MODEL TREE ROWS", NULL);
+    if (strcmp(verb, "bare") == 0)
+        return n == 5 ? bare(words) : wrong("bare takes FILE MODEL TREE ANSWERS LIMIT", NULL);
     if (strcmp(verb, "dump") == 0)
         return n == 1 ? dump(words[0]) : wrong("dump takes one FILE", NULL);
     if (strcmp(verb, "hex") == 0)

@@ -93,6 +93,7 @@ extern "C" {
 #define LARSAVIM_WRITE_OUT 2    /* number, length */
 #define LARSAVIM_DEPTH_OUT 3    /* number, 1 or 0, questions */
 #define LARSAVIM_ACCEPTS_OUT 3  /* number, place, line */
+#define LARSAVIM_BARE_OUT 6     /* number, place, line, PDF number, questions asked, lines read */
 
 /* Where an answer has what: the number comes first in all of them. */
 #define LARSAVIM_OUT_NUMBER 0
@@ -127,6 +128,11 @@ extern "C" {
 #define LARSAVIM_DEPTH_QUESTIONS 2
 #define LARSAVIM_ACCEPTS_PLACE 1
 #define LARSAVIM_ACCEPTS_LINE 2
+#define LARSAVIM_BARE_PLACE 1
+#define LARSAVIM_BARE_LINE 2
+#define LARSAVIM_BARE_PDF 3
+#define LARSAVIM_BARE_ASKED 4
+#define LARSAVIM_BARE_READ 5
 
 /* ---- Opening -------------------------------------------------------------------------------------------------------------------
  * The header record crosses as words: LARSAVIM_WORDS numbers that an opening writes and later calls take back. Words that no
@@ -346,6 +352,14 @@ uint64_t larsavim_leaves(const uint64_t *questions, uint64_t questions_len, cons
  * every row after the lines is a leaf (1, number, 0, 0); a bare leaf is one leaf of its number, empty braces have no rows. out: number (0, 17, 18, 20 to 24, 37), place,
  * line. Order: 20 for `out`, 17 (place: from the text's first byte on), 18, 24 for no such tree, 21 to 23 of this tree alone (place and line: tree and line), 37. */
 uint64_t larsavim_accepts(const uint8_t *text, uint64_t text_len, uint64_t tree, const uint64_t *records, uint64_t records_len, uint64_t *out, uint64_t out_len);
+
+/* Walks one tree straight over a tree text, without tables or work: each line is found again by reading. For a text whose model loads, larsavim_walk over its tables
+ * gives the same number, PDF number and questions asked, for every tree number, all answers (also too few) and every limit. Answer byte i is that of the text's i-th
+ * question, counted from 0. out: number (0, 17, 18, 20 to 25), place, line, PDF number, questions asked, and the lines of that tree that the walk read, the checks
+ * before it left out: the first line, and all lines of the tree for each question but the last; 0 of a lone reference; at most the tree's lines times one more than
+ * the questions asked. Where it were more than 2^64 - 1 (no text below 4 GiB comes near), that number stands there. Refused: PDF number, questions and lines are 0.
+ * Order: 20 for `out`, 17 (place: from the text's first byte on), 18, 24 for no such tree, 21 to 23 of this tree alone (place and line: tree and line), 24 and 25. */
+uint64_t larsavim_bare_walk(const uint8_t *text, uint64_t text_len, uint64_t tree, const uint8_t *answers, uint64_t answers_len, uint64_t limit, uint64_t *out, uint64_t out_len);
 
 /* ---- Tables back to text ---------------------------------------------------------------------------------------------------------
  * The tree text that the rows of loaded tables say: questions in row order, trees in row order with the ids 0, -1, -2 and on, a bare leaf

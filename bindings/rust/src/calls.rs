@@ -18,6 +18,7 @@ pub const WRITE_NEEDS_OUT: usize = 2;
 pub const WRITE_OUT: usize = 2;
 pub const DEPTH_OUT: usize = 3;
 pub const ACCEPTS_OUT: usize = 3;
+pub const BARE_OUT: usize = 6;
 
 /// Rows of tables, and work.
 pub const QUESTION_ROW: usize = 4;
@@ -103,6 +104,7 @@ mod raw {
         pub fn larsavim_walk(trees: *const u64, trees_len: u64, records: *const u64, records_len: u64, tree: u64, answers: *const u8, answers_len: u64, limit: u64, out: *mut u64, out_len: u64) -> u64;
         pub fn larsavim_depth(trees: *const u64, trees_len: u64, records: *const u64, records_len: u64, tree: u64, work: *mut i64, work_len: u64, out: *mut u64, out_len: u64) -> u64;
         pub fn larsavim_accepts(text: *const u8, text_len: u64, tree: u64, records: *const u64, records_len: u64, out: *mut u64, out_len: u64) -> u64;
+        pub fn larsavim_bare_walk(text: *const u8, text_len: u64, tree: u64, answers: *const u8, answers_len: u64, limit: u64, out: *mut u64, out_len: u64) -> u64;
         pub fn larsavim_walk_jobs(trees: *const u64, trees_len: u64, records: *const u64, records_len: u64, answers: *const u8, answers_len: u64, jobs: *mut Job, jobs_len: u64);
         pub fn larsavim_leaves(questions: *const u64, questions_len: u64, trees: *const u64, trees_len: u64, records: *const u64, records_len: u64, values: *const u64, values_len: u64, width: u64) -> u64;
         pub fn larsavim_write_needs(data: *const u8, data_len: u64, questions: *const u64, questions_len: u64, patterns: *const u64, patterns_len: u64, trees: *const u64, trees_len: u64, records: *const u64, records_len: u64, out: *mut u64, out_len: u64) -> u64;
@@ -213,6 +215,12 @@ pub fn depth(rows: &Rows, tree: u64, work: &mut [i64]) -> [u64; DEPTH_OUT] {
 pub fn accepts(text: &[u8], tree: u64, records: &[u64]) -> [u64; ACCEPTS_OUT] {
     let mut out = [0; ACCEPTS_OUT];
     call!(larsavim_accepts; [text], tree, [records], [mut out]);
+    out
+}
+
+pub fn bare_walk(text: &[u8], tree: u64, answers: &[u8], limit: u64) -> [u64; BARE_OUT] {
+    let mut out = [0; BARE_OUT];
+    call!(larsavim_bare_walk; [text], tree, [answers], limit, [mut out]);
     out
 }
 

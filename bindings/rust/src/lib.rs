@@ -51,7 +51,7 @@ mod shared;
 mod voice;
 
 pub use calls::Job;
-pub use model::{accepts, Entry, Model, Needs, Question, Record, Records, Tables, Tree, Walk};
+pub use model::{accepts, bare_walk, BareWalk, Entry, Model, Needs, Question, Record, Records, Tables, Tree, Walk};
 pub use refusal::Refusal;
 pub use shared::{Shared, Side};
 pub use voice::{Position, Range, Stream, Voice, Which};

@@ -17,3 +17,4 @@ pub mod Demand
 pub mod Front
 pub mod Saving
 pub mod Accepting
+pub mod Metering

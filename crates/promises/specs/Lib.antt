@@ -5,3 +5,4 @@ pub mod Loading
 pub mod Sharing
 pub mod Walking
 pub mod Accepting
+pub mod Metering
