@@ -190,7 +190,7 @@ static void explain_rows(FILE *to, struct bytes text, uint64_t tree, const struc
 /* ---- the verb ------------------------------------------------------------------------------------------------------------------------ */
 
 /* Of a refusal of the text, the answer as a load would have it: 17's place counts from the first data byte there. */
-static void explain_text_refusal(FILE *to, const struct voice *v, uint64_t which, const uint64_t *out) {
+void explain_text_refusal(FILE *to, const struct voice *v, uint64_t which, const uint64_t *out) {
     uint64_t load[LARSAVIM_LOAD_OUT] = {0};
     struct pair range = {0, 0};
     tree_range(v, which, &range);

@@ -363,6 +363,8 @@ int accept_rows(char **words);      /* accept.c */
 int trail(char **words);            /* trail.c */
 int trailer(const char *path);      /* trail.c */
 int one_tree(char **words);         /* tree.c */
+void explain_text_refusal(FILE *to, const struct voice *v, uint64_t which, const uint64_t *out); /* accept.c */
+int bare(char **words);             /* bare.c */
 void show_depth(const struct larsavim_model *m); /* depth.c: of `inspect` */
 
 #endif

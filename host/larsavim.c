@@ -24,6 +24,7 @@ static const char usage[] =
     "       larsavim trail FILE OUT                        the voice with its trailer, one row a tree, in another file; a trailer that is there is replaced\n"
     "       larsavim trailer FILE                          whether the voice ends in its trailer, and the rows: model, where the tree stands, lines\n"
     "       larsavim tree FILE MODEL TREE                  one tree, loaded through the trailer behind the data: its rows and values, as dump has them\n"
+    "       larsavim bare FILE MODEL TREE ANSWERS LIMIT    a walk straight over the tree text, without tables, and how many lines it read\n"
     "       larsavim dump FILE                             everything, one fact a line, for comparing\n"
     "       larsavim hex                                   the dump of each line of hex on standard input, then END\n"
     "       larsavim demo FILE                             a voice in which two lines bear one id, and which of them wins\n"
@@ -102,6 +103,8 @@ static int run(const char *verb, int n, char **words) {
         return n == 1 ? trailer(words[0]) : wrong("trailer takes one FILE", NULL);
     if (strcmp(verb, "tree") == 0)
         return n == 3 ? one_tree(words) : wrong("tree takes FILE MODEL TREE", NULL);
+    if (strcmp(verb, "bare") == 0)
+        return n == 5 ? bare(words) : wrong("bare takes FILE MODEL TREE ANSWERS LIMIT", NULL);
     if (strcmp(verb, "dump") == 0)
         return n == 1 ? dump(words[0]) : wrong("dump takes one FILE", NULL);
     if (strcmp(verb, "hex") == 0)

@@ -95,6 +95,7 @@ extern "C" {
 #define LARSAVIM_ACCEPTS_OUT 3  /* number, place, line */
 #define LARSAVIM_TRAILER_OUT 3  /* number, place, bytes of the trailer */
 #define LARSAVIM_TRAILED_OUT 4  /* number, place, rows, file offset of the first row */
+#define LARSAVIM_BARE_OUT 6     /* number, place, line, PDF number, questions asked, lines read */
 
 /* Where an answer has what: the number comes first in all of them. */
 #define LARSAVIM_OUT_NUMBER 0
@@ -134,6 +135,11 @@ extern "C" {
 #define LARSAVIM_TRAILED_PLACE 1
 #define LARSAVIM_TRAILED_ROWS 2
 #define LARSAVIM_TRAILED_BEGIN 3
+#define LARSAVIM_BARE_PLACE 1
+#define LARSAVIM_BARE_LINE 2
+#define LARSAVIM_BARE_PDF 3
+#define LARSAVIM_BARE_ASKED 4
+#define LARSAVIM_BARE_READ 5
 
 /* ---- Opening -------------------------------------------------------------------------------------------------------------------
  * The header record crosses as words: LARSAVIM_WORDS numbers that an opening writes and later calls take back. Words that no
@@ -365,6 +371,14 @@ uint64_t larsavim_leaves(const uint64_t *questions, uint64_t questions_len, cons
  * every row after the lines is a leaf (1, number, 0, 0); a bare leaf is one leaf of its number, empty braces have no rows. out: number (0, 17, 18, 20 to 24, 37), place,
  * line. Order: 20 for `out`, 17 (place: from the text's first byte on), 18, 24 for no such tree, 21 to 23 of this tree alone (place and line: tree and line), 37. */
 uint64_t larsavim_accepts(const uint8_t *text, uint64_t text_len, uint64_t tree, const uint64_t *records, uint64_t records_len, uint64_t *out, uint64_t out_len);
+
+/* Walks one tree straight over a tree text, without tables or work: each line is found again by reading. For a text whose model loads, larsavim_walk over its tables
+ * gives the same number, PDF number and questions asked, for every tree number, all answers (also too few) and every limit. Answer byte i is that of the text's i-th
+ * question, counted from 0. out: number (0, 17, 18, 20 to 25), place, line, PDF number, questions asked, and the lines of that tree that the walk read, the checks
+ * before it left out: the first line, and all lines of the tree for each question but the last; 0 of a lone reference; at most the tree's lines times one more than
+ * the questions asked. Where it were more than 2^64 - 1 (no text below 4 GiB comes near), that number stands there. Refused: PDF number, questions and lines are 0.
+ * Order: 20 for `out`, 17 (place: from the text's first byte on), 18, 24 for no such tree, 21 to 23 of this tree alone (place and line: tree and line), 24 and 25. */
+uint64_t larsavim_bare_walk(const uint8_t *text, uint64_t text_len, uint64_t tree, const uint8_t *answers, uint64_t answers_len, uint64_t limit, uint64_t *out, uint64_t out_len);
 
 /* ---- A trailer behind the data ----------------------------------------------------------------------------------------------------
  * One row a tree, of three 32-bit little-endian numbers: the model (as `which` of larsavim_load; none where USE_GV is 0), the offset of the tree's {*} from the first

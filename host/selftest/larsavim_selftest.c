@@ -397,8 +397,21 @@ static int text_holds(int k) {
            mixed_bytes(UINT64_C(0xcbf29ce484222325), text, models[k].text_len) == models[k].text;
 }
 
+/* Each walk straight over the text that was just written. */
+static int bare_holds(int k) {
+    for (int i = models[k].first_walk; i < models[k].first_walk + models[k].walk_count; i++) {
+        uint64_t number[LARSAVIM_BARE_OUT];
+        if (!answer(k, walks[i].label))
+            return 0;
+        larsavim_bare_walk(text, models[k].text_len, walks[i].tree, answers, rows(k, 0), walks[i].limit, number, LARSAVIM_BARE_OUT);
+        if (number[0] != walks[i].number || number[LARSAVIM_BARE_PDF] != walks[i].pdf || number[LARSAVIM_BARE_ASKED] != walks[i].asked)
+            return 0;
+    }
+    return larsavim_bare_walk(text, models[k].text_len, rows(k, 2), answers, rows(k, 0), 99, out, LARSAVIM_BARE_OUT) == LARSAVIM_WALKTABLE;
+}
+
 static int model_holds(int k) {
-    return holds(needs_hold(k)) && holds(tables_hold(k)) && holds(answers_hold(k)) && holds(walks_hold(k)) && holds(depths_hold(k)) && holds(text_holds(k));
+    return holds(needs_hold(k)) && holds(tables_hold(k)) && holds(answers_hold(k)) && holds(walks_hold(k)) && holds(depths_hold(k)) && holds(text_holds(k)) && holds(bare_holds(k));
 }
 
 /* ---- two tasks in the same tables ---------------------------------------------------------------------------------------------------- */

@@ -292,7 +292,7 @@ def man_page(t):
 # ---- the binding for Rust
 
 # calls that landed beside the binding, and are to be bound
-LATER = {'larsavim_bare_walk'}
+LATER = set()
 RUST_TYPES = {'const uint8_t *': '*const u8', 'uint8_t *': '*mut u8', 'const uint64_t *': '*const u64', 'uint64_t *': '*mut u64', 'int64_t *': '*mut i64', 'struct larsavim_job *': '*mut Job', 'uint64_t ': 'u64'}
 
 

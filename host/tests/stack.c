@@ -12,7 +12,7 @@
 #define STACK (1024 * 1024)
 #define PAINT 0xa5
 
-enum { CALLS = 12 };
+enum { CALLS = 13 };
 
 static uint8_t *stack;
 static ucontext_t here, there;
@@ -42,6 +42,11 @@ static void call_accepts(void) {
     static const uint8_t text[] = "QS A { \"a*\" }\nQS B { \"b*\" }\n{*}[2]{ 0 A -1 p_3\n-1 B \"p_1\" p_3\n7 A 0 -1 }";
     static const uint64_t rows[] = {0, 0, 4, 1, 0, 1, 4, 3, 0, 0, 1, 0, 1, 1, 0, 0, 1, 3, 0, 0};
     larsavim_accepts(text, sizeof text - 1, 0, rows, sizeof rows / 8, out, LARSAVIM_ACCEPTS_OUT);
+}
+
+static void call_bare(void) {
+    static const uint8_t text[] = "QS A { \"a*\" }\nQS B { \"b*\" }\n{*}[2]{ 0 A -1 p_3\n-1 B \"p_1\" 7\n7 A 7 -1 }", given[2] = {0, 0};
+    larsavim_bare_walk(text, sizeof text - 1, 0, given, 2, 9, out, LARSAVIM_BARE_OUT);
 }
 
 static void call_write_needs(void) { larsavim_model_write_needs(&m, file + words[LARSAVIM_DATA_START], words[LARSAVIM_DATA_LEN], out, LARSAVIM_WRITE_NEEDS_OUT); }
@@ -104,8 +109,9 @@ static void measure_model(uint64_t most[CALLS]) {
         keep_most(&most[5], stack_of(call_answers));
         keep_most(&most[6], stack_of(call_depth));
         keep_most(&most[7], stack_of(call_accepts));
-        keep_most(&most[8], stack_of(call_write_needs));
-        keep_most(&most[9], stack_of(call_write));
+        keep_most(&most[8], stack_of(call_bare));
+        keep_most(&most[9], stack_of(call_write_needs));
+        keep_most(&most[10], stack_of(call_write));
     }
     for (int t = 0; t < LARSAVIM_TABLES; t++)
         free(m.table[t]);
@@ -123,12 +129,12 @@ static void measure_file(const char *path, uint64_t most[CALLS]) {
         return;
     for (m.which = 0; m.which <= 2 * words[LARSAVIM_STREAM_TYPE_COUNT]; m.which++)
         measure_model(most);
-    keep_most(&most[10], stack_of(call_trailer));
-    keep_most(&most[11], stack_of(call_trailed)); /* the words are those of the longer file from here on */
+    keep_most(&most[11], stack_of(call_trailer));
+    keep_most(&most[12], stack_of(call_trailed)); /* the words are those of the longer file from here on */
 }
 
 int main(int argc, char **argv) {
-    static const char *const name[CALLS] = {"open", "needs", "load", "walk", "leaves", "answers", "depth", "accepts", "write_needs", "write", "trailer", "trailed"};
+    static const char *const name[CALLS] = {"open", "needs", "load", "walk", "leaves", "answers", "depth", "accepts", "bare_walk", "write_needs", "write", "trailer", "trailed"};
     uint64_t most[CALLS] = {0};
     stack = malloc(STACK);
     if (stack == NULL)

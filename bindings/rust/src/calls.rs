@@ -22,6 +22,7 @@ pub const TRAILER_OUT: usize = 3;
 pub const TRAILED_OUT: usize = 4;
 pub const TRAILER_ROW: usize = 12;
 pub const FILE_LIMIT: usize = 16777216;
+pub const BARE_OUT: usize = 6;
 
 /// Rows of tables, and work.
 pub const QUESTION_ROW: usize = 4;
@@ -110,6 +111,7 @@ mod raw {
         pub fn larsavim_accepts(text: *const u8, text_len: u64, tree: u64, records: *const u64, records_len: u64, out: *mut u64, out_len: u64) -> u64;
         pub fn larsavim_trailer(file: *const u8, file_len: u64, words: *mut u64, words_len: u64, trailer: *mut u8, trailer_len: u64, out: *mut u64, out_len: u64) -> u64;
         pub fn larsavim_trailed(file: *const u8, file_len: u64, words: *mut u64, words_len: u64, out: *mut u64, out_len: u64) -> u64;
+        pub fn larsavim_bare_walk(text: *const u8, text_len: u64, tree: u64, answers: *const u8, answers_len: u64, limit: u64, out: *mut u64, out_len: u64) -> u64;
         pub fn larsavim_walk_jobs(trees: *const u64, trees_len: u64, records: *const u64, records_len: u64, answers: *const u8, answers_len: u64, jobs: *mut Job, jobs_len: u64);
         pub fn larsavim_leaves(questions: *const u64, questions_len: u64, trees: *const u64, trees_len: u64, records: *const u64, records_len: u64, values: *const u64, values_len: u64, width: u64) -> u64;
         pub fn larsavim_write_needs(data: *const u8, data_len: u64, questions: *const u64, questions_len: u64, patterns: *const u64, patterns_len: u64, trees: *const u64, trees_len: u64, records: *const u64, records_len: u64, out: *mut u64, out_len: u64) -> u64;
@@ -240,6 +242,12 @@ pub fn trailer(file: &[u8], words: &mut [u64; WORDS], trailer: &mut [u8]) -> [u6
 pub fn trailed(file: &[u8], words: &mut [u64; WORDS]) -> [u64; TRAILED_OUT] {
     let mut out = [0; TRAILED_OUT];
     call!(larsavim_trailed; [file], [mut words], [mut out]);
+    out
+}
+
+pub fn bare_walk(text: &[u8], tree: u64, answers: &[u8], limit: u64) -> [u64; BARE_OUT] {
+    let mut out = [0; BARE_OUT];
+    call!(larsavim_bare_walk; [text], tree, [answers], limit, [mut out]);
     out
 }
 

@@ -388,3 +388,21 @@ pub fn accepts(text: &[u8], tree: u64, records: &[u64]) -> Result<(), Refusal> {
     let [number, place, line] = calls::accepts(text, tree, records);
     Refusal::told(number, place, line)
 }
+
+/// How a walk straight over a tree text ends.
+#[derive(Clone, Copy, Debug, PartialEq, Eq)]
+pub struct BareWalk {
+    /// The PDF number, from 1 on.
+    pub pdf: u64,
+    /// The questions asked.
+    pub asked: u64,
+    /// The lines of the tree that the walk read, the checks before it left out.
+    pub read: u64,
+}
+
+/// Walks one tree straight over a tree text (the bytes of a STREAM_TREE, DURATION_TREE or GV_TREE range), without tables: a byte of `answers` for each question of the text, in its order. For a
+/// text whose model loads, the walk over its tables ends at the same PDF after as many questions, or is refused by the same number.
+pub fn bare_walk(text: &[u8], tree: u64, answers: &[u8], limit: u64) -> Result<BareWalk, Refusal> {
+    let [number, place, line, pdf, asked, read] = calls::bare_walk(text, tree, answers, limit);
+    Refusal::told(number, place, line).map(|()| BareWalk { pdf, asked, read })
+}

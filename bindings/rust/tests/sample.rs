@@ -175,3 +175,15 @@ fn trailers() {
     trailed[200] ^= 1;
     assert!(larsavim::Trailer::of(&trailed).is_err());
 }
+
+/// 02, Wish 12: a walk straight over the text.
+#[test]
+fn walks_straight_over_a_text() {
+    let text = b"QS A { a }\nQS B { b }\n{*}[2]{ 0 A -1 p_3\n-1 B p_1 p_3 }\n{*}[3]p_7\n{*}[4]{ 0 A 0 9 }";
+    assert_eq!(larsavim::bare_walk(text, 0, &[1, 1], 9), Ok(larsavim::BareWalk { pdf: 3, asked: 1, read: 1 }));
+    assert_eq!(larsavim::bare_walk(text, 0, &[0, 0], 9), Ok(larsavim::BareWalk { pdf: 1, asked: 2, read: 3 }));
+    assert_eq!(larsavim::bare_walk(text, 0, &[0, 0], 1), Err(Refusal::Steps));
+    assert_eq!(larsavim::bare_walk(text, 0, &[0], 9), Err(Refusal::WalkTable));
+    assert_eq!(larsavim::bare_walk(text, 1, &[], 0), Ok(larsavim::BareWalk { pdf: 7, asked: 0, read: 0 }));
+    assert_eq!(larsavim::bare_walk(text, 2, &[1, 1], 9), Err(Refusal::NodeRef { tree: 2, line: 0 }));
+}

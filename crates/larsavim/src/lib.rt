@@ -23,6 +23,7 @@ use load_shared::nobody;
 use table_put::put2;
 use table_put::put4;
 use walk_accepts::accepts_said;
+use walk_bare::bare_said;
 use walk_depth::depth_said;
 use walk_leaves::leaves_fit;
 ghost use mathlib.Core.Path.{_≡_};
@@ -39,6 +40,7 @@ ghost use Rattle.larsavim.specs.Depths.{DepthTells};
 ghost use Rattle.larsavim.specs.Sharing.{heldLeft, LoadShares, TreeShares, UnloadTells};
 ghost use Rattle.larsavim.specs.Accepts.{AcceptTells};
 ghost use Rattle.larsavim.specs.Trails.{TrailerTells, TrailedTells};
+ghost use Rattle.walk_bare.specs.Bare.{BareTells};
 
 // 20: a lent slice is too short.
 const ROOM: u64 = 20;
@@ -553,4 +555,12 @@ pub extern "C" fn larsavim_trailed(file: &[u8], words: &mut [u64], out: &mut [u6
     let said = trailed_said(file, words);
     put4(out, 0, said.number, said.place, said.rows, said.begin);
     said.number
+}
+
+// The walk of one tree straight over a tree text, without tables.
+#[no_mangle]
+pub extern "C" fn larsavim_bare_walk(text: &[u8], tree: u64, answers: &[u8], limit: u64, out: &mut [u64]) -> u64
+    ensures { λ r. ⌜ BareTells (now (text .entry)) tree (now (answers .entry)) limit (now (out .entry)) r (now (out .exit)) ⌝ }
+{
+    bare_said(text, tree, answers, limit, out)
 }

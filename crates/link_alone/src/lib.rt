@@ -59,7 +59,7 @@ pub enum Judged {
     LoneNode,
 }
 
-fn is_nowhere(target: Target) -> bool
+pub fn is_nowhere(target: Target) -> bool
     ensures { λ r. ⌜ r ≡ nowhere target ⌝ }
 {
     match target {
@@ -70,7 +70,7 @@ fn is_nowhere(target: Target) -> bool
 }
 
 // Where a reference of one of the n lines from `first` on leads.
-fn target_of(s: &[u8], first: usize, n: u64, in_order: bool, index: TreeIndex) -> Target
+pub fn target_of(s: &[u8], first: usize, n: u64, in_order: bool, index: TreeIndex) -> Target
     requires { ⌜ Lines (now s) first n «in_order» ⌝ }
     ensures { λ r. ⌜ r ≡ targetIn (linesAt (now (s .entry)) first .items) index ⌝ }
 {
@@ -289,7 +289,7 @@ fn one_of(line: Line) -> Single
 }
 
 // Whether the so many lines from `first` on are one reference.
-fn single_of(s: &[u8], first: usize, lines: usize) -> Single
+pub fn single_of(s: &[u8], first: usize, lines: usize) -> Single
     requires { ⌜ lines ≡ length (linesAt (now s) first .items) ⌝ }
     ensures { λ r. ⌜ r ≡ singleIn (linesAt (now (s .entry)) first .items) ⌝ }
 {

@@ -1,5 +1,5 @@
 -- The laws of the loops that look for a tree, a question or a line: a turn leaves the answer as it is, and goes up.
-use mathlib.Core.Path.{_≡_, refl, sym, ap, ap₂, _∙_}
+use mathlib.Core.Path.{_≡_, refl, sym, ap, ap₂, _∙_, subst}
 use mathlib.Core.Bool.{Bool, true, false, cond}
 use mathlib.Core.List.{List, [], _∷_}
 use Prim.Native.Nat.{ℕ, zero, suc, _+_, _-_, _≤_, _<_}
@@ -39,7 +39,9 @@ use Rattle.written.specs.Bytes.{same}
 use Rattle.link_order.specs.Keys.{idKey, partOr}
 use Rattle.link_search.specs.declared.Found.{Found}
 use Rattle.link_search.specs.declared.Found.the-variants.{At, Nothing}
-use Rattle.link_find.specs.Find.{starOf, lastFrom, nameStep, named, asked, bears, placed, ordered}
+use Rattle.link_find.specs.Find.{starOf, lastFrom, nameStep, named, asked, bears, bearer, bearingFrom, bearing, placed, ordered}
+use Rattle.link_find.specs.declared.Borne.{Borne}
+use Rattle.link_find.specs.declared.Borne.the-variants as borne
 use Rattle.link_find.specs.declared.NameStep.the-variants as name
 
 module _ (s : List ℕ) where
@@ -214,6 +216,45 @@ module _ {A : Type 0} (p : A → Bool) (k : ℕ) (f : Found) where
   pub last-over : {ys : List A} → ys ≡ [] → f ≡ lastFrom p k f ys
   unfolding lastFrom
   last-over e = sym (ap (lastFrom p k f) e)
+
+-- ---- the last line of an id, itself
+
+module _ (x : ℕ) (f : Borne) where
+  pub bearing-on : {l : Line} {ls ks : List Line} {b : Bool} {g : Borne} → ks ≡ l ∷ ls → b ≡ bears x l → g ≡ cond b (borne.Line l) f → bearingFrom x g ls ≡ bearingFrom x f ks
+  unfolding bearingFrom
+  bearing-on {l} {ls} e h q = ap (λ (g : Borne). bearingFrom x g ls) (q ∙ ap (λ (b : Bool). cond b (borne.Line l) f) h) ∙ sym (ap (bearingFrom x f) e)
+
+  pub bearing-end : {l : Line} {ks : List Line} {b : Bool} {g : Borne} → ks ≡ l ∷ [] → b ≡ bears x l → g ≡ cond b (borne.Line l) f → g ≡ bearingFrom x f ks
+  unfolding bearingFrom
+  bearing-end {l} e h q = q ∙ ap (λ (b : Bool). cond b (borne.Line l) f) h ∙ sym (ap (bearingFrom x f) e)
+
+  pub bearing-over : {ks : List Line} → ks ≡ [] → f ≡ bearingFrom x f ks
+  unfolding bearingFrom
+  bearing-over e = sym (ap (bearingFrom x f) e)
+
+-- the line that is kept is the one whose number is found
+pub data Stands (all : List Line) : Found → Borne → Type 0 where
+  nowhere : Stands all Nothing borne.Nothing
+  stands : {k : ℕ} {l : Line} → Nth all k l → Stands all (At k) (borne.Line l)
+
+module _ (x : ℕ) (all : List Line) where
+  kept-from : (k : ℕ) (ls : List Line) → ((m : ℕ) (l : Line) → Nth ls m l → Nth all (k + m) l) → {f : Found} {g : Borne} → Stands all f g → Stands all (lastFrom (bears x) k f ls) (bearingFrom x g ls)
+  unfolding lastFrom bearingFrom
+  kept-from k [] h w = w
+  kept-from k (l ∷ ls) h {f} {g} w = kept-from (suc k) ls (λ m e n. later m (h (suc m) e (there n))) (go (bears x l))
+    where
+      later : (m : ℕ) {e : Line} → Nth all (k + suc m) e → Nth all (suc k + m) e
+      later m {e} n = let z : k + suc m ≡ suc k + m = omega arith in subst (λ (i : ℕ). Nth all i e) z n
+
+      go : (b : Bool) → Stands all (cond b (At k) f) (cond b (borne.Line l) g)
+      go true = let z : k + 0 ≡ k = omega arith in stands (subst (λ (i : ℕ). Nth all i l) z (h 0 l here))
+      go false = w
+
+  pub kept : Stands all (bearer x all) (bearing x all)
+  kept = kept-from 0 all (λ m l n. first n) nowhere
+    where
+      first : {m : ℕ} {l : Line} → Nth all m l → Nth all (0 + m) l
+      first {m} {l} n = let z : m ≡ 0 + m = omega arith in subst (λ (i : ℕ). Nth all i l) z n
 
 -- ---- ids in order
 

@@ -16,6 +16,8 @@ use Rattle.tree_body.specs.Trees.{Tree}
 use Rattle.link_order.specs.Keys.{idKey, partOr}
 use Rattle.link_search.specs.declared.Found.{Found}
 use Rattle.link_search.specs.declared.Found.the-variants.{At, Nothing}
+use Rattle.link_find.specs.declared.Borne.{Borne}
+use Rattle.link_find.specs.declared.Borne.the-variants as borne
 use Rattle.link_find.specs.declared.NameStep.{NameStep}
 use Rattle.link_find.specs.declared.NameStep.the-variants as name
 
@@ -57,6 +59,14 @@ bears x l = eqb (idKey (l .id)) x
 -- the number of the last line that bears it
 abbrev pub bearer : ℕ → List Line → Found
 bearer x ls = lastFrom (bears x) 0 Nothing ls
+
+-- the line itself; g is what was kept before
+unfoldable pub bearingFrom : ℕ → Borne → List Line → Borne
+bearingFrom x g [] = g
+bearingFrom x g (l ∷ ls) = bearingFrom x (cond (bears x l) (borne.Line l) g) ls
+
+abbrev pub bearing : ℕ → List Line → Borne
+bearing x ls = bearingFrom x borne.Nothing ls
 
 -- line k bears the id -k: moved up, 2^63 - k
 abbrev pub placed : ℕ → Line → Bool

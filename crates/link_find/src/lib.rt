@@ -28,7 +28,8 @@ ghost use Rattle.tree_line.specs.Lines.{linesAt};
 ghost use Rattle.tree_question.specs.Questions.{questionStepAt, questionsAt};
 ghost use Rattle.tree_body.specs.Trees.{treesAt};
 ghost use Rattle.link_search.specs.declared.Found.the-variants.{At};
-ghost use Rattle.link_find.specs.Find.{starOf, nameStep, asked, bears, bearer, placed, ordered, Lines};
+ghost use Rattle.link_find.specs.declared.Borne.the-variants as borne;
+ghost use Rattle.link_find.specs.Find.{starOf, nameStep, asked, bears, bearer, bearing, placed, ordered, Lines};
 
 // A question's name, and where the next question stands; or the last one's; or no question.
 pub enum NameStep {
@@ -82,7 +83,7 @@ pub fn find_tree(s: &[u8], first: usize, n: u64) -> Place
 }
 
 // Whether two names are the same.
-fn same_name(a: &[u8], b: &[u8]) -> bool
+pub fn same_name(a: &[u8], b: &[u8]) -> bool
     ensures { λ r. ⌜ r ≡ same (now (a .entry)) (now (b .entry)) ⌝ }
 {
     match compare_names(a, b) {
@@ -93,7 +94,7 @@ fn same_name(a: &[u8], b: &[u8]) -> bool
 }
 
 // The name of the question at `at`, and whether another question follows it.
-fn next_name(s: &[u8], at: usize) -> NameStep
+pub fn next_name(s: &[u8], at: usize) -> NameStep
     ensures { λ r. ⌜ r ≡ nameStep (questionStepAt (now (s .entry)) at) ⌝ }
 {
     match question_head(s, at) {
@@ -184,6 +185,41 @@ pub fn last_line(s: &[u8], first: usize, key: u64) -> Found
             }
             LineStep::Last { line, next: _ } => {
                 return found_after(last, bears_id(line, key), number);
+            }
+            LineStep::Broken => {
+                return last;
+            }
+        }
+    }
+}
+
+// A line of a tree, or none.
+pub enum Borne {
+    Line(Line),
+    Nothing,
+}
+
+// What is kept once a line was looked at.
+fn kept_after(before: Borne, hit: bool, line: Line) -> Borne
+    ensures { λ r. ⌜ r ≡ cond hit (borne.Line line) before ⌝ }
+{
+    if hit { Borne::Line(line) } else { before }
+}
+
+// The last of a tree's lines, from the first one's place on, that bears the id of a key: the line itself, so that none is read twice.
+pub fn last_bearing(s: &[u8], first: usize, key: u64) -> Borne
+    ensures { λ r. ⌜ r ≡ bearing key (linesAt (now (s .entry)) first .items) ⌝ }
+{
+    let mut i = first;
+    let mut last = Borne::Nothing;
+    loop {
+        match next_line(s, i) {
+            LineStep::Next { line, next } => {
+                last = kept_after(last, bears_id(line, key), line);
+                i = next;
+            }
+            LineStep::Last { line, next: _ } => {
+                return kept_after(last, bears_id(line, key), line);
             }
             LineStep::Broken => {
                 return last;

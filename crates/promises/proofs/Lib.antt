@@ -20,3 +20,4 @@ pub mod Saving
 pub mod Accepting
 pub mod Trailing
 pub mod Longer
+pub mod Metering

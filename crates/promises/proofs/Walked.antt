@@ -59,7 +59,7 @@ as-ending limit = refl
 as-ending nothing = refl
 
 -- the records of a tree among those of its model
-tree-linked : {qs : List Question} {f : ℕ} {ts : List Tree} {trees records : List Row} {i : ℕ} {t : Tree} → TreeRows qs f ts trees records → Nth ts i t → (rows : List Row) × Records qs (t .body) rows
+pub tree-linked : {qs : List Question} {f : ℕ} {ts : List Tree} {trees records : List Row} {i : ℕ} {t : Tree} → TreeRows qs f ts trees records → Nth ts i t → (rows : List Row) × Records qs (t .body) rows
 tree-linked (TreeRows.more {rows = rows} s r l m) here = (rows, r)
 tree-linked (TreeRows.more s r l m) (there n) = tree-linked m n
 

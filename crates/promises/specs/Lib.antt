@@ -6,3 +6,4 @@ pub mod Sharing
 pub mod Walking
 pub mod Accepting
 pub mod Trailing
+pub mod Metering

@@ -2,7 +2,7 @@
 use mathlib.Core.Path.{_≡_, refl, sym, ap, _∙_, subst}
 use mathlib.Core.Bool.{Bool, true, false, cond}
 use mathlib.Core.Logic.{_⊎_, inl, inr}
-use mathlib.Core.List.{List, [], _∷_}
+use mathlib.Core.List.{List, [], _∷_, Forall₂}
 use Prim.Native.Nat.{ℕ, zero, suc}
 use native.Mathlib.Omega.{arith}
 use lib.ListN.{length}
@@ -38,7 +38,8 @@ use Rattle.walk_accepts.specs.declared.Accepted.{Accepted}
 use Rattle.shown_breaks.proofs.Place.{broken-breaks}
 use Rattle.shown_text.proofs.Text.{says-begins}
 use Rattle.shown_accepts.proofs.Verdicts.{Verdict, fits, other, node-ref, question-ref, lone-node}
-use Rattle.shown_accepts.proofs.Texts.{tree-judged, tree-missing}
+use Rattle.shown_accepts.proofs.Texts.{Reads, tree-judged, tree-missing}
+use Rattle.shown_accepts.proofs.Lines.{QuestionSaid}
 
 -- a tree of that number, or none
 tree? : (ts : List said.Tree) (k : ℕ) → ((e : said.Tree) × Nth ts k e) ⊎ ((e : said.Tree) → ¬ Nth ts k e)
@@ -61,7 +62,8 @@ pub data Chosen (s : List ℕ) (t : ℕ) : Choice → Type 0 where
   negative : {x : Text} {u : Layout} → Says s 0 x u → Negative (x .trees) → Chosen s t (choice.Refused refusal.State)
   missing : {x : Text} {u : Layout} → Says s 0 x u → ¬ Negative (x .trees) → ((e : said.Tree) → ¬ Nth (x .trees) t e) → Chosen s t (choice.Refused refusal.WalkTable)
   tree : {x : Text} {u : Layout} {e : said.Tree} {i : ℕ} → Says s 0 x u → ¬ Negative (x .trees) → Nth (x .trees) t e
-      → ((R : List ℕ) → Verdict (x .questions) R (e .body) (judgedHead s (questionsAt s 0 .items) R (headAt s i))) → Chosen s t (choice.Tree i)
+      → ((R : List ℕ) → Verdict (x .questions) R (e .body) (judgedHead s (questionsAt s 0 .items) R (headAt s i)))
+      → Forall₂ (QuestionSaid s) (x .questions) (questionsAt s 0 .items) → Reads s (e .body) (headAt s i) → Chosen s t (choice.Tree i)
 
 pub chosen : (s : List ℕ) (t : ℕ) → Chosen s t (chosenTree s t)
 unfolding chosenTree
@@ -77,7 +79,7 @@ chosen s t = go (surveyAt s 0) refl
         found : {x : Text} {u : Layout} → Says s 0 x u → ¬ Negative (x .trees) → (f : ℕ) → questionsAt s 0 .ending ≡ doneAt f → ((e : said.Tree) × Nth (x .trees) t e) ⊎ ((e : said.Tree) → ¬ Nth (x .trees) t e)
             → Chosen s t (foundTree (starOf (treesAt s f .items) t))
         found h w f d (inl r) =
-            subst (λ (a : Place). Chosen s t (foundTree a)) (sym (tree-judged s h d (r .1) .1)) (tree h w (r .1) (tree-judged s h d (r .1) .2))
+            subst (λ (a : Place). Chosen s t (foundTree a)) (sym (tree-judged s h d (r .1) .1)) (let j = tree-judged s h d (r .1) in tree h w (r .1) (j .2) (j .3) (j .4))
         found h w f d (inr n) = subst (λ (a : Place). Chosen s t (foundTree a)) (sym (tree-missing s h d n)) (missing h w n)
 
     go : (a : Survey) → surveyAt s 0 ≡ a → Chosen s t (surveyed s t a)
@@ -104,4 +106,4 @@ accepts-said s t R = go (chosen s t)
     go (breaks-at b) = breaks b
     go (negative h n) = says h (Accepts.negative n)
     go (missing h w n) = says h (Accepts.missing w n)
-    go (tree h w n v) = says h (told-in s t R w n (v R))
+    go (tree h w n v q g) = says h (told-in s t R w n (v R))

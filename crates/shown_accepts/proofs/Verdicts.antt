@@ -99,7 +99,7 @@ of-map f [] h = absurd (no-row h)
 of-map f (n ∷ ns) here = (n, refl)
 of-map f (n ∷ ns) (there h) = of-map f ns h
 
-pair-lengths : {A B : Type 0} {S : A → B → Type 0} {xs : List A} {ys : List B} → Forall₂ S xs ys → length xs ≡ length ys
+pub pair-lengths : {A B : Type 0} {S : A → B → Type 0} {xs : List A} {ys : List B} → Forall₂ S xs ys → length xs ≡ length ys
 pair-lengths Forall₂·nil = refl
 pair-lengths (Forall₂·cons h t) = ap suc (pair-lengths t)
 
@@ -231,12 +231,12 @@ module _ (R s : List ℕ) {qs : List Question} {ps : List QuestionPlace} (asks :
 
 -- ---- a tree's body, as it is read
 
-not-alike : {l : said.Line} → sameIndex (indexOf (l .no)) (indexOf (l .yes)) ≡ false → NotSingle (l ∷ [])
+pub not-alike : {l : said.Line} → sameIndex (indexOf (l .no)) (indexOf (l .yes)) ≡ false → NotSingle (l ∷ [])
 not-alike {l} e r (alike a b) =
     let u : _≡_ {A = Bool} true false = sym (same-index (l .yes)) ∙ ap (λ (q : Ref). sameIndex (indexOf q) (indexOf (l .yes))) (b ∙ sym a) ∙ e in
     let t : _≡_ {A = ℕ} 0 1 = cc in omega arith
 
-not-two : {l k : said.Line} {ls : List said.Line} → NotSingle (l ∷ k ∷ ls)
+pub not-two : {l k : said.Line} {ls : List said.Line} → NotSingle (l ∷ k ∷ ls)
 not-two r h = elim h [ ]
 
 -- what is judged of a body

@@ -1,0 +1,453 @@
+-- The laws of windows: the first of a list, marks in a slice, names in a slice, and what a window says of its lines.
+use mathlib.Core.Path.{_≡_, refl, sym, ap, ap₂, _∙_, subst}
+use mathlib.Core.Bool.{Bool, true, false, cond, _||_}
+use mathlib.Core.List.{List, [], _∷_}
+use Prim.Native.Nat.{ℕ, zero, suc, _+_, _-_, _*_, _≤_, _<_}
+use native.Mathlib.Decide.{decLt, ℕ-discrete}
+use native.Mathlib.Numerals.{add-one}
+use native.Mathlib.Omega.{arith}
+use borrow.Author.Tests.{lt-ltb, le-ltb}
+use lib.ListN.{length, getD, set, drop, length-set, replicate}
+use lib.Seq.{getD-set-same, getD-set-other}
+use Rattle.written.specs.Bytes.{same}
+use Rattle.written.specs.Said.{QuestionPlace}
+use Rattle.written.specs.Linking.{Nth, here, there}
+use Rattle.written.specs.Walks.{isYes}
+use Rattle.written.proofs.Walk.{nth-once, no-row}
+use Rattle.laws.proofs.Nth.{nth-inside, nth-of}
+use Rattle.laws.specs.Steps.{doneAt}
+use Rattle.tree_question.proofs.Filling.{questions-from}
+use Rattle.tree_line.specs.Lines.{lineStepAt, linesAt}
+use Rattle.tree_line.specs.declared.Line.{Line}
+use Rattle.tree_line.specs.declared.LineStep.the-variants as answer
+use Rattle.tree_survey_lines.specs.Counts.{linesCounted}
+use Rattle.tree_survey_lines.specs.declared.LineCount.the-variants as count
+use Rattle.tree_survey_lines.proofs.Counting.{items-next, items-last, items-broken, next-in, counted, not-counted}
+use Rattle.link_order.specs.Keys.{partOr}
+use Rattle.link_search.specs.declared.Found.{Found}
+use Rattle.link_search.specs.declared.Found.the-variants.{At, Nothing}
+use Rattle.link_find.specs.Find.{lastFrom, named, asked}
+use Rattle.link_find.proofs.Finding.{Named, hit}
+use Rattle.link_alone.specs.Alone.{singleIn}
+use Rattle.link_alone.specs.declared.Single.{Single}
+use Rattle.link_window.specs.Windows.{firstFrom, FirstOf, off, none, nameIn, heard, Marked, Holds, Taken, more, all, Filling, noRow, unheard, Windowed, missing, next, clean, faultLines, faultSingle, faultEnding, faultBraces}
+use Rattle.link_window.specs.declared.Linking.{Linking}
+use Rattle.link_window.specs.declared.Linking.the-variants.{Whole, NodeRef, QuestionRef}
+use Rattle.link_window.specs.declared.Filled.the-variants.{More, All}
+use Rattle.link_window.specs.declared.Window.the-variants.{Missing, Next, Clean}
+
+-- ---- tests joined by or
+
+pub or-first : {a : Bool} (b : Bool) → a ≡ true → true ≡ (a || b)
+or-first b e = sym (ap (λ (x : Bool). x || b) e)
+
+pub or-second : {a b r : Bool} → a ≡ false → r ≡ b → r ≡ (a || b)
+or-second {a} {b} e q = q ∙ sym (ap (λ (x : Bool). x || b) e)
+
+pub or-either : (a : Bool) {b : Bool} → b ≡ true → true ≡ (a || b)
+or-either true e = refl
+or-either false e = sym e
+
+or-none : (a : Bool) → (a || false) ≡ a
+or-none true = refl
+or-none false = refl
+
+pub or-not : (a : Bool) {b : Bool} → b ≡ false → a ≡ (a || b)
+or-not a e = sym (or-none a) ∙ sym (ap (λ (x : Bool). a || x) e)
+
+or-assoc : (a b c : Bool) → ((a || b) || c) ≡ (a || (b || c))
+or-assoc true b c = refl
+or-assoc false b c = refl
+
+pub yes-of : (n : ℕ) → ¬ (n ≡ 0) → isYes n ≡ true
+yes-of zero h = absurd (h refl)
+yes-of (suc n) h = refl
+
+-- ---- the first of a list
+
+module _ {A : Type 0} (p : A → Bool) where
+  module _ (k : ℕ) where
+    pub first-here : {x : A} {xs ys : List A} {b : Bool} → ys ≡ x ∷ xs → b ≡ p x → b ≡ true → At k ≡ firstFrom p k ys
+    unfolding firstFrom
+    first-here {x} {xs} e h t = sym (ap (firstFrom p k) e ∙ ap (λ (b : Bool). cond b (At k) (firstFrom p (suc k) xs)) (sym h ∙ t))
+
+    pub first-on : {x : A} {xs ys : List A} {b : Bool} → ys ≡ x ∷ xs → b ≡ p x → b ≡ false → firstFrom p (k + 1) xs ≡ firstFrom p k ys
+    unfolding firstFrom
+    first-on {x} {xs} e h t = ap (λ (i : ℕ). firstFrom p i xs) (add-one k) ∙ sym (ap (firstFrom p k) e ∙ ap (λ (b : Bool). cond b (At k) (firstFrom p (suc k) xs)) (sym h ∙ t))
+
+    pub first-end : {x : A} {ys : List A} {b : Bool} → ys ≡ x ∷ [] → b ≡ p x → b ≡ false → Nothing ≡ firstFrom p k ys
+    unfolding firstFrom
+    first-end {x} e h t = sym (ap (firstFrom p k) e ∙ ap (λ (b : Bool). cond b (At k) Nothing) (sym h ∙ t))
+
+    pub first-none : {ys : List A} → ys ≡ [] → Nothing ≡ firstFrom p k ys
+    unfolding firstFrom
+    first-none e = sym (ap (firstFrom p k) e)
+
+  pub first-is : (k : ℕ) {xs : List A} {m : ℕ} {x : A} → Nth xs m x → p x ≡ true → ((j : ℕ) (y : A) → j < m → Nth xs j y → p y ≡ false) → firstFrom p k xs ≡ At (k + m)
+  unfolding firstFrom
+  first-is k (here {x = x} {xs = xs}) t h = let z : k ≡ k + 0 = omega arith in ap (λ (b : Bool). cond b (At k) (firstFrom p (suc k) xs)) t ∙ ap At z
+  first-is k (there {y = y} {xs = xs} {k = m} n) t h =
+      let z : suc k + m ≡ k + suc m = omega arith in
+      ap (λ (b : Bool). cond b (At k) (firstFrom p (suc k) xs)) (h 0 y (omega arith) here) ∙ first-is (suc k) n t (λ j w l o. h (suc j) w (omega arith) (there o)) ∙ ap At z
+
+  pub first-off : (k : ℕ) (xs : List A) → ((m : ℕ) (x : A) → Nth xs m x → p x ≡ false) → firstFrom p k xs ≡ Nothing
+  unfolding firstFrom
+  first-off k [] h = refl
+  first-off k (x ∷ xs) h = ap (λ (b : Bool). cond b (At k) (firstFrom p (suc k) xs)) (h 0 x here) ∙ first-off (suc k) xs (λ m y n. h (suc m) y (there n))
+
+  pub first-drop : (k n : ℕ) (xs : List A) → n ≤ length xs → ((m : ℕ) (x : A) → m < n → Nth xs m x → p x ≡ false) → firstFrom p k xs ≡ firstFrom p (k + n) (drop n xs)
+  unfolding firstFrom
+  first-drop k zero xs l h = let z : k ≡ k + 0 = omega arith in ap (λ (i : ℕ). firstFrom p i xs) z
+  first-drop k (suc n) [] l h = absurd (omega arith)
+  first-drop k (suc n) (x ∷ xs) l h =
+      let z : suc k + n ≡ k + suc n = omega arith in
+      ap (λ (b : Bool). cond b (At k) (firstFrom p (suc k) xs)) (h 0 x (omega arith) here)
+      ∙ first-drop (suc k) n xs (omega arith) (λ m y o g. h (suc m) y (omega arith) (there g)) ∙ ap (λ (i : ℕ). firstFrom p i (drop n xs)) z
+
+-- ---- the first number of which a test is false
+
+module _ {p : ℕ → Bool} where
+  pub first-more : {j : ℕ} → ((i : ℕ) → i < j → p i ≡ true) → p j ≡ true → (i : ℕ) → i < j + 1 → p i ≡ true
+  first-more {j} f e i h = go (decLt i j)
+    where
+      go : Dec (i < j) → p i ≡ true
+      go (yes l) = f i l
+      go (no l) = let z : i ≡ j = omega arith in ap p z ∙ e
+
+  pub first-as : {q : ℕ → Bool} {n : ℕ} {r : Found} → ((j : ℕ) → j < n → p j ≡ q j) → FirstOf p n r → FirstOf q n r
+  first-as f (off {j = j} h e g) = off h (sym (f j h) ∙ e) (λ i l. sym (f i (omega arith)) ∙ g i l)
+  first-as f (none g) = none (λ i h. sym (f i h) ∙ g i h)
+
+-- ---- marks
+
+-- those below j are marked as they have to be, the others are as they were
+pub record Marking (m : List ℕ) (p : ℕ → Bool) (e : List ℕ) (j : ℕ) : Type 0 where
+  pub long : length e ≡ length m
+  pub done : (i : ℕ) → i < j → isYes (getD e i 0) ≡ (isYes (getD m i 0) || p i)
+  pub left : (i : ℕ) → j ≤ i → getD e i 0 ≡ getD m i 0
+
+pub marking-none : (m : List ℕ) (p : ℕ → Bool) → Marking m p m 0
+marking-none m p = record { long = refl; done = λ i h. absurd (omega arith); left = λ i h. refl }
+
+pub marking-on : {m : List ℕ} {p : ℕ → Bool} {e : List ℕ} {j : ℕ} (v : ℕ) {b : Bool} → Marking m p e j → j < length e → isYes v ≡ (isYes (getD e j 0) || b) → b ≡ p j → Marking m p (set e j v) (j + 1)
+marking-on {m} {p} {e} {j} v {b} w h u q =
+    record { long = length-set e j v ∙ w .long; done = λ i l. go i l (decLt i j); left = λ i l. getD-set-other e j i v 0 (λ z. omega (arith, z)) ∙ w .left i (omega arith) }
+  where
+    go : (i : ℕ) → i < j + 1 → Dec (i < j) → isYes (getD (set e j v) i 0) ≡ (isYes (getD m i 0) || p i)
+    go i l (yes g) = ap isYes (getD-set-other e j i v 0 (λ z. omega (arith, z))) ∙ w .done i g
+    go i l (no g) =
+        let z : j ≡ i = omega arith in
+        subst (λ (k : ℕ). isYes (getD (set e j v) k 0) ≡ (isYes (getD m k 0) || p k)) z
+        (ap isYes (getD-set-same e j v 0 h) ∙ u ∙ ap₂ (λ (x : ℕ) (y : Bool). isYes x || y) (w .left j (omega arith)) q)
+
+pub marking-end : {m : List ℕ} {p : ℕ → Bool} {e : List ℕ} {n j : ℕ} → Marking m p e j → n ≤ j → Marked m n p e
+marking-end w h = record { long = w .long; each = λ i l. w .done i (omega arith) }
+
+-- all questions: what is marked and what is still heard come to the same
+pub record Hearing (s names m : List ℕ) (n : ℕ) (first : ℕ) (e : List ℕ) (i : ℕ) : Type 0 where
+  pub long : length e ≡ length m
+  pub each : (j : ℕ) → j < n → (isYes (getD e j 0) || heard s (nameIn s names j) (questions-from s i .items)) ≡ (isYes (getD m j 0) || heard s (nameIn s names j) (questions-from s first .items))
+
+module _ {s names m : List ℕ} {n first : ℕ} {e : List ℕ} {i : ℕ} (w : Hearing s names m n first e i) where
+  module _ {b k : ℕ} {rest : List QuestionPlace} (q : Named s i b k rest) {name : List ℕ} (a : name ≡ partOr s b k) {e′ : List ℕ} (h : Marked e n (λ (j : ℕ). same name (nameIn s names j)) e′) where
+    heard-step : (j : ℕ) → j < n → (isYes (getD e′ j 0) || heard s (nameIn s names j) rest) ≡ (isYes (getD m j 0) || heard s (nameIn s names j) (questions-from s first .items))
+    unfolding heard
+    heard-step j l =
+        ap (λ (x : Bool). x || heard s (nameIn s names j) rest) (h .each j l)
+        ∙ or-assoc (isYes (getD e j 0)) (same name (nameIn s names j)) (heard s (nameIn s names j) rest)
+        ∙ ap (λ (x : Bool). isYes (getD e j 0) || (x || heard s (nameIn s names j) rest)) (hit s (nameIn s names j) q a refl)
+        ∙ sym (ap (λ (x : List QuestionPlace). isYes (getD e j 0) || heard s (nameIn s names j) x) (q .items)) ∙ w .each j l
+
+    pub hearing-last : rest ≡ [] → Marked m n (λ (j : ℕ). heard s (nameIn s names j) (questions-from s first .items)) e′
+    unfolding heard
+    hearing-last z =
+        record {
+          long = h .long ∙ w .long;
+          each = λ j l. sym (or-none (isYes (getD e′ j 0))) ∙ sym (ap (λ (x : List QuestionPlace). isYes (getD e′ j 0) || heard s (nameIn s names j) x) z) ∙ heard-step j l;
+        }
+
+  pub hearing-on : {b k i′ : ℕ} → Named s i b k (questions-from s i′ .items) → {name : List ℕ} → name ≡ partOr s b k → {e′ : List ℕ} → Marked e n (λ (j : ℕ). same name (nameIn s names j)) e′ → Hearing s names m n first e′ i′
+  hearing-on q a h = record { long = h .long ∙ w .long; each = heard-step q a h }
+
+  pub hearing-none : questions-from s i .items ≡ [] → Marked m n (λ (j : ℕ). heard s (nameIn s names j) (questions-from s first .items)) e
+  unfolding heard
+  hearing-none z =
+      record {
+        long = w .long;
+        each = λ j l. sym (or-none (isYes (getD e j 0))) ∙ sym (ap (λ (x : List QuestionPlace). isYes (getD e j 0) || heard s (nameIn s names j) x) z) ∙ w .each j l;
+      }
+
+zeros : (n j : ℕ) → _≡_ {A = ℕ} (getD (replicate n 0) j 0) 0
+zeros zero j = refl
+zeros (suc n) zero = refl
+zeros (suc n) (suc j) = zeros n j
+
+-- from no mark on
+pub from-none : {n : ℕ} (k : ℕ) {p : ℕ → Bool} {e : List ℕ} {r : Found} → Marked (replicate k 0) n p e → FirstOf (λ (j : ℕ). isYes (getD e j 0)) n r → FirstOf p n r
+from-none {n} k {p} {e} w f = first-as (λ j l. w .each j l ∙ ap (λ (x : ℕ). isYes x || p j) (zeros k j)) f
+
+pub heard-in : (s names : List ℕ) {n : ℕ} {qs ps : List QuestionPlace} {r : Found} → ps ≡ qs → FirstOf (λ (j : ℕ). heard s (nameIn s names j) qs) n r → FirstOf (λ (j : ℕ). heard s (nameIn s names j) ps) n r
+heard-in s names {n} {r = r} e f = subst (λ (x : List QuestionPlace). FirstOf (λ (j : ℕ). heard s (nameIn s names j) x) n r) (sym e) f
+
+-- where there is no question
+pub silent-none : (s names : List ℕ) {n : ℕ} {qs : List QuestionPlace} → qs ≡ [] → n ≡ 0 → FirstOf (λ (j : ℕ). heard s (nameIn s names j) qs) n Nothing
+silent-none s names e z = none (λ i h. absurd (omega arith))
+
+pub silent-some : (s names : List ℕ) {n : ℕ} {qs : List QuestionPlace} → qs ≡ [] → ¬ (n ≡ 0) → FirstOf (λ (j : ℕ). heard s (nameIn s names j) qs) n (At 0)
+unfolding heard
+silent-some s names e z = off {j = 0} (omega (arith, z)) (ap (heard s (nameIn s names 0)) e) (λ i h. absurd (omega arith))
+
+-- ---- names taken
+
+drop-nth : {A : Type 0} (k : ℕ) (ls : List A) {x : A} {xs : List A} → drop k ls ≡ x ∷ xs → Nth ls k x × (drop (suc k) ls ≡ xs)
+drop-nth zero [] e = let z : _≡_ {A = ℕ} 0 1 = ap length e ∙ absurd (omega (arith, ap length e)) in absurd (omega arith)
+drop-nth zero (y ∷ ls) {x} {xs} e = let a : y ≡ x = cc in let b : ls ≡ xs = cc in (subst (λ z. Nth (y ∷ ls) zero z) a here, b)
+drop-nth (suc k) [] e = absurd (omega (arith, ap length e))
+drop-nth (suc k) (y ∷ ls) e = let r = drop-nth k ls e in (there (r .0), r .1)
+
+drop-nil : {A : Type 0} (k : ℕ) (ls : List A) → drop k ls ≡ [] → length ls ≤ k
+drop-nil zero [] e = omega arith
+drop-nil zero (y ∷ ls) e = absurd (omega (arith, ap length e))
+drop-nil (suc k) [] e = omega arith
+drop-nil (suc k) (y ∷ ls) e = omega (arith, drop-nil k ls e)
+
+module _ (s : List ℕ) (first : ℕ) (names₀ : List ℕ) where
+  -- k names are taken, and the next line stands at i
+  pub record Taking (names : List ℕ) (i k : ℕ) : Type 0 where
+    pub long : length names ≡ length names₀
+    pub holds : Holds names k (linesAt s first .items)
+    pub rest : drop k (linesAt s first .items) ≡ linesAt s i .items
+    pub inside : k ≤ length (linesAt s first .items)
+    pub up : k + first ≤ i
+    pub within : 0 < k → i ≤ length s
+    pub most : k ≤ 32
+
+  pub taking-none : Taking names₀ first 0
+  taking-none = record { long = refl; holds = λ m l n h. absurd (omega arith); rest = refl; inside = omega arith; up = omega arith; within = λ h. absurd (omega arith); most = omega arith }
+
+  module _ {names : List ℕ} {i k : ℕ} (w : Taking names i k) {l : Line} {ls : List Line} (e : linesAt s i .items ≡ l ∷ ls) (room : 2 * k + 1 < length names) where
+    put : List ℕ
+    put = set (set names (2 * k) (l .start)) (2 * k + 1) (l .len)
+
+    put-long : length put ≡ length names₀
+    unfolding put
+    put-long = length-set (set names (2 * k) (l .start)) (2 * k + 1) (l .len) ∙ length-set names (2 * k) (l .start) ∙ w .long
+
+    put-other : (j : ℕ) → ¬ (j ≡ 2 * k) → ¬ (j ≡ 2 * k + 1) → getD put j 0 ≡ getD names j 0
+    unfolding put
+    put-other j a b =
+        getD-set-other (set names (2 * k) (l .start)) (2 * k + 1) j (l .len) 0 (λ z. b (omega (arith, z))) ∙ getD-set-other names (2 * k) j (l .start) 0 (λ z. a (omega (arith, z)))
+
+    put-holds : Holds put (k + 1) (linesAt s first .items)
+    unfolding put
+    put-holds m x n h = go (decLt m k)
+      where
+        go : Dec (m < k) → (getD put (2 * m) 0 ≡ x .start) × (getD put (2 * m + 1) 0 ≡ x .len)
+        go (yes g) = let r = w .holds m x n g in (put-other (2 * m) (λ z. omega (arith, z)) (λ z. omega (arith, z)) ∙ r .0, put-other (2 * m + 1) (λ z. omega (arith, z)) (λ z. omega (arith, z)) ∙ r .1)
+        go (no g) =
+            let z : m ≡ k = omega arith in
+            let q : x ≡ l = nth-once (subst (λ (j : ℕ). Nth (linesAt s first .items) j x) z n) (drop-nth k (linesAt s first .items) (w .rest ∙ e) .0) in
+            let a : getD put (2 * k) 0 ≡ l .start = getD-set-other (set names (2 * k) (l .start)) (2 * k + 1) (2 * k) (l .len) 0 (λ z. omega (arith, z)) ∙ getD-set-same names (2 * k) (l .start) 0 (omega arith) in
+            let b : getD put (2 * k + 1) 0 ≡ l .len = getD-set-same (set names (2 * k) (l .start)) (2 * k + 1) (l .len) 0 (omega (arith, length-set names (2 * k) (l .start), room)) in
+            (ap (λ (j : ℕ). getD put (2 * j) 0) z ∙ a ∙ ap (λ (y : Line). y .start) (sym q), ap (λ (j : ℕ). getD put (2 * j + 1) 0) z ∙ b ∙ ap (λ (y : Line). y .len) (sym q))
+
+    pub taking-on : {names′ : List ℕ} {j : ℕ} → names′ ≡ set (set names (2 * k) (l .start)) (2 * k + 1) (l .len) → ls ≡ linesAt s j .items → 3 + i ≤ j → j ≤ length s → k < 32 → Taking names′ j (k + 1)
+    unfolding put
+    taking-on {names′} {j} q z a b f =
+        subst (λ (t : List ℕ). Taking t j (k + 1)) (sym q)
+        (record {
+          long = put-long;
+          holds = put-holds;
+          rest = ap (λ (n : ℕ). drop n (linesAt s first .items)) (add-one k) ∙ drop-nth k (linesAt s first .items) (w .rest ∙ e) .1 ∙ z;
+          most = omega arith;
+          inside = omega (arith, nth-inside (drop-nth k (linesAt s first .items) (w .rest ∙ e) .0));
+          up = omega (arith, w .up);
+          within = λ h. b;
+        })
+
+    pub taking-last : {names′ : List ℕ} → names′ ≡ set (set names (2 * k) (l .start)) (2 * k + 1) (l .len) → ls ≡ [] → k < 32 → Filling s first names₀ (All (k + 1)) names′
+    unfolding put
+    taking-last {names′} q z h =
+        subst (λ (t : List ℕ). Filling s first names₀ (All (k + 1)) t) (sym q)
+        (record {
+          long = put-long;
+          taken = all put-holds
+              (let r = drop-nth k (linesAt s first .items) (w .rest ∙ e) in let g = nth-inside (r .0) in let f = drop-nil (suc k) (linesAt s first .items) (r .1 ∙ z) in omega (arith, g, f))
+              (omega arith);
+        })
+
+  module _ {names : List ℕ} {i k : ℕ} (w : Taking names i k) where
+    pub taking-broken : linesAt s i .items ≡ [] → k < 32 → Filling s first names₀ (All k) names
+    taking-broken z h = record { long = w .long; taken = all (w .holds) (let f = drop-nil k (linesAt s first .items) (w .rest ∙ z) in omega (arith, f, w .inside)) (omega arith) }
+
+    pub taking-end : 32 ≤ k → Filling s first names₀ (More i) names
+    taking-end h =
+        let z : k ≡ 32 = omega (arith, w .most) in
+        record {
+          long = w .long;
+          taken = more (subst (λ (n : ℕ). Holds names n (linesAt s first .items)) z (w .holds)) (sym (ap (λ (n : ℕ). drop n (linesAt s first .items)) z) ∙ w .rest) (omega (arith, w .inside)) (omega (arith, w .up)) (w .within (omega arith));
+        }
+
+-- ---- a name is heard where a question of it is found
+
+module _ (s w : List ℕ) where
+  found-stays : (k : ℕ) (f : Found) (qs : List QuestionPlace) → noRow f ≡ false → noRow (lastFrom (named s w) k f qs) ≡ false
+  unfolding lastFrom
+  found-stays k f [] h = h
+  found-stays k f (q ∷ qs) h = found-stays (suc k) (cond (named s w q) (At k) f) qs (go (named s w q))
+    where
+      go : (b : Bool) → noRow (cond b (At k) f) ≡ false
+      go true = refl
+      go false = h
+
+  heard-found : (k : ℕ) (f : Found) (qs : List QuestionPlace) → heard s w qs ≡ true → noRow (lastFrom (named s w) k f qs) ≡ false
+  unfolding lastFrom heard
+  heard-found k f [] h = let z : _≡_ {A = ℕ} 0 1 = cc in absurd (omega arith)
+  heard-found k f (q ∷ qs) h = go (named s w q) refl h (λ g. heard-found (suc k) (cond (named s w q) (At k) f) qs g)
+    where
+      go : (b : Bool) → named s w q ≡ b → (b || heard s w qs) ≡ true → (heard s w qs ≡ true → noRow (lastFrom (named s w) (suc k) (cond (named s w q) (At k) f) qs) ≡ false)
+          → noRow (lastFrom (named s w) (suc k) (cond (named s w q) (At k) f) qs) ≡ false
+      go true e g r = found-stays (suc k) (cond (named s w q) (At k) f) qs (ap (λ (b : Bool). noRow (cond b (At k) f)) e)
+      go false e g r = r g
+
+  unheard-kept : (k : ℕ) (f : Found) (qs : List QuestionPlace) → heard s w qs ≡ false → noRow (lastFrom (named s w) k f qs) ≡ noRow f
+  unfolding lastFrom heard
+  unheard-kept k f [] h = refl
+  unheard-kept k f (q ∷ qs) h = go (named s w q) refl h (λ g. unheard-kept (suc k) (cond (named s w q) (At k) f) qs g)
+    where
+      go : (b : Bool) → named s w q ≡ b → (b || heard s w qs) ≡ false → (heard s w qs ≡ false → noRow (lastFrom (named s w) (suc k) (cond (named s w q) (At k) f) qs) ≡ noRow (cond (named s w q) (At k) f))
+          → noRow (lastFrom (named s w) (suc k) (cond (named s w q) (At k) f) qs) ≡ noRow f
+      go true e g r = let z : _≡_ {A = ℕ} 0 1 = cc in absurd (omega arith)
+      go false e g r = r g ∙ ap (λ (b : Bool). noRow (cond b (At k) f)) e
+
+module _ (s names : List ℕ) (qs : List QuestionPlace) {n : ℕ} {ls : List Line} (h : Holds names n ls) where
+  name-is : {j : ℕ} {l : Line} → Nth ls j l → j < n → nameIn s names j ≡ partOr s (l .start) (l .len)
+  name-is {j} {l} w g = let r = h j l w g in ap₂ (partOr s) (r .0) (r .1)
+
+  pub is-heard : {j : ℕ} {l : Line} → Nth ls j l → j < n → heard s (nameIn s names j) qs ≡ true → unheard s qs l ≡ false
+  is-heard {j} {l} w g e = heard-found s (partOr s (l .start) (l .len)) 0 Nothing qs (sym (ap (λ (x : List ℕ). heard s x qs) (name-is w g)) ∙ e)
+
+  pub is-unheard : {j : ℕ} {l : Line} → Nth ls j l → j < n → heard s (nameIn s names j) qs ≡ false → unheard s qs l ≡ true
+  is-unheard {j} {l} w g e = unheard-kept s (partOr s (l .start) (l .len)) 0 Nothing qs (sym (ap (λ (x : List ℕ). heard s x qs) (name-is w g)) ∙ e)
+
+-- ---- a window
+
+module _ (s names : List ℕ) (qs : List QuestionPlace) (i : ℕ) where
+  of-missing : {n j : ℕ} → Holds names n (linesAt s i .items) → n ≤ length (linesAt s i .items) → n ≤ 32 → {r : Found} → FirstOf (λ (m : ℕ). heard s (nameIn s names m) qs) n r → r ≡ At j → Windowed s qs i (Missing j)
+  of-missing {n} {j} h a b (off {j = k} l e f) z =
+      let q : k ≡ j = cc in
+      let w = nth-of (linesAt s i .items) k (omega arith) in
+      subst (λ (x : ℕ). Windowed s qs i (Missing x)) q (missing (w .1) (is-unheard s names qs h (w .1) l e) (omega arith) (λ m x g o. is-heard s names qs h o (omega arith) (f m g)))
+  of-missing h a b (none f) z = let y : _≡_ {A = ℕ} 0 1 = cc in absurd (omega arith)
+
+  all-heard : {n : ℕ} → Holds names n (linesAt s i .items) → {r : Found} → FirstOf (λ (m : ℕ). heard s (nameIn s names m) qs) n r → r ≡ Nothing → (m : ℕ) (e : Line) → m < n → Nth (linesAt s i .items) m e → unheard s qs e ≡ false
+  all-heard h (off l e f) z m x g o = let y : _≡_ {A = ℕ} 0 1 = cc in absurd (omega arith)
+  all-heard h (none f) z m x g o = is-heard s names qs h o g (f m g)
+
+  pub window-missing : {f : _} {r : Found} {n j : ℕ} → Taken s i names f → f ≡ All n → FirstOf (λ (m : ℕ). heard s (nameIn s names m) qs) n r → r ≡ At j → Windowed s qs i (Missing j)
+  window-missing {n = n} (more {j = k} h d a b c) e g z = let y : _≡_ {A = ℕ} 0 1 = cc in absurd (omega arith)
+  window-missing {r = r} {n = n} (all {n = k} h a b) e g z =
+      let q : k ≡ n = cc in
+      of-missing (subst (λ (x : ℕ). Holds names x (linesAt s i .items)) q h) (omega arith) (omega arith) g z
+
+  pub window-clean : {f : _} {r : Found} {n : ℕ} → Taken s i names f → f ≡ All n → FirstOf (λ (m : ℕ). heard s (nameIn s names m) qs) n r → r ≡ Nothing → Windowed s qs i Clean
+  window-clean (more {j = k} h d a b c) e g z = let y : _≡_ {A = ℕ} 0 1 = cc in absurd (omega arith)
+  window-clean {n = n} (all {n = k} h a b) e g z =
+      let q : k ≡ n = cc in
+      clean (λ m x o. all-heard (subst (λ (y : ℕ). Holds names y (linesAt s i .items)) q h) g z m x (omega (arith, nth-inside o)) o)
+
+  pub window-first : {f : _} {r : Found} {k j : ℕ} → Taken s i names f → f ≡ More k → FirstOf (λ (m : ℕ). heard s (nameIn s names m) qs) 32 r → r ≡ At j → Windowed s qs i (Missing j)
+  window-first (more h d a b c) e g z = of-missing h a (omega arith) g z
+  window-first (all h a b) e g z = let y : _≡_ {A = ℕ} 0 1 = cc in absurd (omega arith)
+
+  pub window-next : {f : _} {r : Found} {k : ℕ} → Taken s i names f → f ≡ More k → FirstOf (λ (m : ℕ). heard s (nameIn s names m) qs) 32 r → r ≡ Nothing → Windowed s qs i (Next k)
+  window-next {k = k} (more {j = j} h d a b c) e g z =
+      let q : j ≡ k = cc in
+      subst (λ (x : ℕ). Windowed s qs i (Next x)) q (next (λ m x l o. all-heard h g z m x l o) d a b c)
+  window-next (all h a b) e g z = let y : _≡_ {A = ℕ} 0 1 = cc in absurd (omega arith)
+
+pub taken-few : {s names : List ℕ} {i n : ℕ} {f : _} → Taken s i names f → f ≡ All n → n ≤ 32
+taken-few (more {j = k} h d a b c) e = let y : _≡_ {A = ℕ} 0 1 = cc in absurd (omega arith)
+taken-few {n = n} (all {n = k} h a b) e = let q : k ≡ n = cc in omega arith
+
+-- ---- window by window
+
+module _ (s : List ℕ) (qs : List QuestionPlace) (first : ℕ) where
+  pub record Going (i k : ℕ) : Type 0 where
+    pub same : firstFrom (unheard s qs) k (linesAt s i .items) ≡ firstFrom (unheard s qs) 0 (linesAt s first .items)
+    pub few : k ≤ i
+    pub within : 0 < k → i ≤ length s
+
+  pub going-none : Going first 0
+  going-none = record { same = refl; few = omega arith; within = λ h. absurd (omega arith) }
+
+  module _ {i k : ℕ} (g : Going i k) {w : _} (h : Windowed s qs i w) where
+    pub going-small : {j : ℕ} → w ≡ Missing j → (j < 32) × (k ≤ length s)
+    going-small {j} e = go h e
+      where
+        few : Dec (0 < k) → k ≤ length s
+        few (yes p) = omega (arith, g .few, g .within p)
+        few (no p) = omega arith
+
+        go : {w : _} → Windowed s qs i w → w ≡ Missing j → (j < 32) × (k ≤ length s)
+        go (missing {j = m} a b c d) e = let q : m ≡ j = cc in (omega arith, few (decLt 0 k))
+        go (next {j = m} a b c d f) e = let y : _≡_ {A = ℕ} 0 1 = cc in absurd (omega arith)
+        go (clean a) e = let y : _≡_ {A = ℕ} 0 1 = cc in absurd (omega arith)
+
+    pub going-missing : {j : ℕ} → w ≡ Missing j → At (k + j) ≡ firstFrom (unheard s qs) 0 (linesAt s first .items)
+    going-missing {j} e = go h e
+      where
+        go : {w : _} → Windowed s qs i w → w ≡ Missing j → At (k + j) ≡ firstFrom (unheard s qs) 0 (linesAt s first .items)
+        go (missing {j = m} a b c d) e = let q : k + j ≡ k + m = ap (λ (x : ℕ). k + x) cc in ap At q ∙ sym (first-is (unheard s qs) k a b d) ∙ g .same
+        go (next {j = m} a b c d f) e = let y : _≡_ {A = ℕ} 0 1 = cc in absurd (omega arith)
+        go (clean a) e = let y : _≡_ {A = ℕ} 0 1 = cc in absurd (omega arith)
+
+    pub going-up : {j : ℕ} → w ≡ Next j → (32 + i ≤ j) × (j ≤ length s)
+    going-up {j} e = go h e
+      where
+        go : {w : _} → Windowed s qs i w → w ≡ Next j → (32 + i ≤ j) × (j ≤ length s)
+        go (missing a b c d) e = let y : _≡_ {A = ℕ} 0 1 = cc in absurd (omega arith)
+        go (next {j = m} a b c d f) e = let q : m ≡ j = cc in (omega arith, omega arith)
+        go (clean a) e = let y : _≡_ {A = ℕ} 0 1 = cc in absurd (omega arith)
+
+    pub going-next : {j : ℕ} → w ≡ Next j → Going j (k + 32)
+    going-next {j} e = go h e
+      where
+        go : {w : _} → Windowed s qs i w → w ≡ Next j → Going j (k + 32)
+        go (missing a b c d) e = let y : _≡_ {A = ℕ} 0 1 = cc in absurd (omega arith)
+        go (next {j = m} a b c d f) e =
+            let q : m ≡ j = cc in
+            subst (λ (x : ℕ). Going x (k + 32)) q
+            (record { same = sym (ap (firstFrom (unheard s qs) (k + 32)) b) ∙ sym (first-drop (unheard s qs) k 32 (linesAt s i .items) c a) ∙ g .same; few = omega (arith, g .few); within = λ p. f })
+        go (clean a) e = let y : _≡_ {A = ℕ} 0 1 = cc in absurd (omega arith)
+
+    pub going-clean : w ≡ Clean → Nothing ≡ firstFrom (unheard s qs) 0 (linesAt s first .items)
+    going-clean e = go h e
+      where
+        go : {w : _} → Windowed s qs i w → w ≡ Clean → Nothing ≡ firstFrom (unheard s qs) 0 (linesAt s first .items)
+        go (missing a b c d) e = let y : _≡_ {A = ℕ} 0 1 = cc in absurd (omega arith)
+        go (next {j = m} a b c d f) e = let y : _≡_ {A = ℕ} 0 1 = cc in absurd (omega arith)
+        go (clean a) e = sym (first-off (unheard s qs) k (linesAt s i .items) a) ∙ g .same
+
+-- ---- the lower line
+
+pub lower-question : {a b : ℕ} → b < a → QuestionRef b ≡ faultLines (At a) (At b)
+lower-question {a} {b} h = sym (ap (λ (x : Bool). cond x (QuestionRef b) (NodeRef a)) (lt-ltb b a h))
+
+pub lower-node : {a b : ℕ} → a ≤ b → NodeRef a ≡ faultLines (At a) (At b)
+lower-node {a} {b} h = sym (ap (λ (x : Bool). cond x (QuestionRef b) (NodeRef a)) (le-ltb b a h))
+
+-- ---- a tree in braces
+
+module _ (s : List ℕ) (qs : List QuestionPlace) (i : ℕ) where
+  module _ {n m e : ℕ} (h : count.Counted n m e ≡ linesCounted 0 0 (linesAt s i)) where
+    pub counted-many : n ≡ length (linesAt s i .items)
+    counted-many = sym (counted s i n m e h .lines)
+
+    pub braces-are : {r : Linking} (t : Single) → t ≡ singleIn (linesAt s i .items) → r ≡ faultSingle s qs (linesAt s i .items) t → r ≡ faultBraces s qs (linesAt s i)
+    unfolding faultBraces
+    braces-are t p q = q ∙ ap (faultSingle s qs (linesAt s i .items)) p ∙ sym (ap (faultEnding s qs (linesAt s i .items)) (counted s i n m e h .done))
+
+  pub braces-broken : count.Broken ≡ linesCounted 0 0 (linesAt s i) → Whole ≡ faultBraces s qs (linesAt s i)
+  unfolding faultBraces
+  braces-broken h = sym (ap (faultEnding s qs (linesAt s i .items)) (not-counted s i h .1))

@@ -1,0 +1,57 @@
+-- `link_window::lower`: by both.
+use mathlib.Core.Path.{_≡_, refl, sym, ap, ap₂, _∙_}
+use native.Mathlib.Omega.{arith}
+use Rattle.link_window.specs.Windows.{faultLines}
+use Rattle.link_window.proofs.Laws.{lower-question, lower-node}
+use borrow.Author.Needs.{needs}
+use Rattle.link_window.proofs.lower.Statement.{statement}
+use Rattle.link_window.proofs.lower.Tie as tie
+
+enum-known-astray : tie.Need-enum-known-astray
+enum-known-astray c = search needs
+
+enum-known-unasked : tie.Need-enum-known-unasked
+enum-known-unasked c = search needs
+
+enum-told : tie.Need-enum-told
+enum-told c = search needs
+
+enum-told-2 : tie.Need-enum-told-2
+enum-told-2 c = search needs
+
+enum-known-unasked-2 : tie.Need-enum-known-unasked-2
+enum-known-unasked-2 c = search needs
+
+enum-told-3 : tie.Need-enum-told-3
+enum-told-3 c = search needs
+
+returns : tie.Need-returns
+returns c = lower-question (c .if1 .taken) ∙ sym (ap₂ faultLines (c .before .before .before .before .before .astray .given .1) (c .before .before .unasked .given .1))
+
+returns-2 : tie.Need-returns-2
+returns-2 c = lower-node (c .if1 .left) ∙ sym (ap₂ faultLines (c .before .before .before .before .before .astray .given .1) (c .before .before .unasked .given .1))
+
+returns-3 : tie.Need-returns-3
+returns-3 c = sym (ap₂ faultLines (c .before .before .before .astray .given .1) (c .enum-told .given .1))
+
+returns-4 : tie.Need-returns-4
+returns-4 c = sym (ap₂ faultLines (c .before .before .before .enum-told2 .given .1) (c .before .unasked2 .given .1))
+
+returns-5 : tie.Need-returns-5
+returns-5 c = sym (ap₂ faultLines (c .before .before .enum-told2 .given .1) (c .enum-told3 .given .1))
+
+pub lower-spec : {M : Type 1} → statement M
+lower-spec =
+    tie.close
+    (tie.spec
+    enum-known-astray
+    enum-known-unasked
+    enum-told
+    enum-told-2
+    enum-known-unasked-2
+    enum-told-3
+    returns
+    returns-2
+    returns-3
+    returns-4
+    returns-5)

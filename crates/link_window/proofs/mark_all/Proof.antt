@@ -1,0 +1,83 @@
+-- `link_window::mark_all`: question by question.
+use mathlib.Core.Path.{_≡_, refl, sym, ap, ap₂, _∙_}
+use native.Mathlib.Omega.{arith}
+use Prim.Native.Nat.{_-_}
+use lib.ListN.{length}
+use Rattle.link_find.proofs.Finding.{named-next, named-last, named-none}
+use Rattle.link_window.proofs.Laws.{Hearing, hearing-on, hearing-last, hearing-none}
+use borrow.Author.Needs.{needs}
+use Rattle.link_window.proofs.mark_all.Statement.{statement}
+use Rattle.link_window.proofs.mark_all.Tie as tie
+
+abbrev Inv-loop : tie.InvT-loop
+Inv-loop s first names met₀ n i₀ met i = Hearing s names met₀ n first met i
+
+abbrev μ-loop : tie.MeasureT-loop
+μ-loop s first names met₀ n i₀ met i = length s - i
+
+loop-holds : tie.Need-loop-holds Inv-loop μ-loop
+loop-holds c = record { long = refl; each = λ j h. refl }
+
+next-name-requires : tie.Need-next-name-requires Inv-loop μ-loop
+next-name-requires c κs = search needs
+
+enum-known-start : tie.Need-enum-known-start Inv-loop μ-loop
+enum-known-start c = search needs
+
+part-or-requires : tie.Need-part-or-requires Inv-loop μ-loop
+part-or-requires c κs = search needs
+
+mark-requires : tie.Need-mark-requires Inv-loop μ-loop
+mark-requires c κs = (omega (arith, c .before .before .before .before .before .before .before .before .before .before .pre .0, c .before .before .before .before .before .before .loop .inv .long), c .before .before .before .before .before .before .before .before .before .before .pre .1)
+
+loop-less : tie.Need-loop-less Inv-loop μ-loop
+loop-less c = omega (arith, named-next _ _ (sym (c .before .before .before .before .before .before .start .given .1) ∙ c .before .before .before .before .before .before .before .before .next-name .ensures))
+
+loop-again : tie.Need-loop-again Inv-loop μ-loop
+loop-again c = hearing-on (c .before .before .before .before .before .before .before .before .before .loop .inv) (named-next _ _ (sym (c .before .before .before .before .before .before .start .given .1) ∙ c .before .before .before .before .before .before .before .before .next-name .ensures) .2) (c .before .before .before .part-or .ensures) (c .before .before .mark .ensures)
+
+enum-known-start-2 : tie.Need-enum-known-start-2 Inv-loop μ-loop
+enum-known-start-2 c = search needs
+
+part-or-requires-2 : tie.Need-part-or-requires-2 Inv-loop μ-loop
+part-or-requires-2 c κs = search needs
+
+mark-requires-2 : tie.Need-mark-requires-2 Inv-loop μ-loop
+mark-requires-2 c κs = (omega (arith, c .before .before .before .before .before .before .before .before .before .before .pre .0, c .before .before .before .before .before .before .loop .inv .long), c .before .before .before .before .before .before .before .before .before .before .pre .1)
+
+same-length : tie.Need-same-length Inv-loop μ-loop
+same-length c = c .before .before .mark2 .ensures .long ∙ c .before .before .before .before .before .before .before .before .before .loop .inv .long
+
+returns : tie.Need-returns Inv-loop μ-loop
+returns c = hearing-last (c .before .before .before .before .before .before .before .before .before .loop .inv) (named-last _ _ (sym (c .before .before .before .before .before .before .start2 .given .1) ∙ c .before .before .before .before .before .before .before .before .next-name .ensures)) (c .before .before .before .part-or2 .ensures) (c .before .before .mark2 .ensures) refl
+
+enum-told : tie.Need-enum-told Inv-loop μ-loop
+enum-told c = search needs
+
+same-length-2 : tie.Need-same-length-2 Inv-loop μ-loop
+same-length-2 c = c .before .before .before .loop .inv .long
+
+returns-2 : tie.Need-returns-2 Inv-loop μ-loop
+returns-2 c = hearing-none (c .before .before .before .loop .inv) (named-none _ _ (sym (c .enum-told .given .1) ∙ c .before .before .next-name .ensures))
+
+pub mark-all-spec : {M : Type 1} → statement M
+mark-all-spec =
+    tie.close
+    (tie.spec
+    Inv-loop
+    μ-loop
+    loop-holds
+    next-name-requires
+    enum-known-start
+    part-or-requires
+    mark-requires
+    loop-less
+    loop-again
+    enum-known-start-2
+    part-or-requires-2
+    mark-requires-2
+    same-length
+    returns
+    enum-told
+    same-length-2
+    returns-2)

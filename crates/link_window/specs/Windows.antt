@@ -1,0 +1,124 @@
+-- What the functions of this crate answer: names in a slice, two numbers each; which of them questions bear; the first line with a fault.
+use mathlib.Core.Path.{_≡_}
+use mathlib.Core.Bool.{Bool, true, false, cond, not, _||_}
+use mathlib.Core.List.{List, [], _∷_}
+use Prim.Native.Nat.{ℕ, zero, suc, _+_, _*_, _≤_, _<_}
+use lib.Dec.{ltb}
+use lib.ListN.{length, getD, drop}
+use Rattle.written.specs.Said.{QuestionPlace}
+use Rattle.written.specs.Linking.{Nth}
+use Rattle.written.specs.Walks.{isYes}
+use Rattle.laws.specs.Steps.{Ending, doneAt, brokenAt, Reading}
+use Rattle.tree_reference.specs.declared.TreeIndex.{TreeIndex}
+use Rattle.tree_reference.specs.declared.TreeIndex.the-variants.{Node, Pdf}
+use Rattle.tree_line.specs.Lines.{linesAt}
+use Rattle.tree_line.specs.declared.Line.{Line}
+use Rattle.tree_body.specs.declared.TreeHead.{TreeHead}
+use Rattle.tree_body.specs.declared.TreeHead.the-variants as head
+use Rattle.link_order.specs.Keys.{partOr}
+use Rattle.link_search.specs.declared.Found.{Found}
+use Rattle.link_search.specs.declared.Found.the-variants.{At, Nothing}
+use Rattle.link_find.specs.Find.{named, asked}
+use Rattle.link_alone.specs.Alone.{nowhere, targetIn, singleIn}
+use Rattle.link_alone.specs.declared.Single.{Single}
+use Rattle.link_alone.specs.declared.Single.the-variants.{One, Several}
+use Rattle.link_window.specs.declared.Linking.{Linking}
+use Rattle.link_window.specs.declared.Linking.the-variants.{Whole, NodeRef, QuestionRef, LoneNode}
+use Rattle.link_window.specs.declared.Filled.{Filled}
+use Rattle.link_window.specs.declared.Filled.the-variants.{More, All}
+use Rattle.link_window.specs.declared.Window.{Window}
+use Rattle.link_window.specs.declared.Window.the-variants.{Missing, Next, Clean}
+
+-- ---- the first of which a test is true
+
+-- of a list, counted from k
+module _ {A : Type 0} (p : A → Bool) where
+  unfoldable pub firstFrom : ℕ → List A → Found
+  firstFrom k [] = Nothing
+  firstFrom k (x ∷ xs) = cond (p x) (At k) (firstFrom (suc k) xs)
+
+-- of the numbers below n, the first of which a test is false
+pub data FirstOf (p : ℕ → Bool) (n : ℕ) : Found → Type 0 where
+  off : {j : ℕ} → j < n → p j ≡ false → ((i : ℕ) → i < j → p i ≡ true) → FirstOf p n (At j)
+  none : ((i : ℕ) → i < n → p i ≡ true) → FirstOf p n Nothing
+
+-- ---- names in a slice
+
+-- name j: where it begins, and how long it is
+abbrev pub nameIn : List ℕ → List ℕ → ℕ → List ℕ
+nameIn s names j = partOr s (getD names (2 * j) 0) (getD names (2 * j + 1) 0)
+
+-- some question bears a name
+unfoldable pub heard : List ℕ → List ℕ → List QuestionPlace → Bool
+heard s w [] = false
+heard s w (q ∷ qs) = named s w q || heard s w qs
+
+-- m became e: of the first n, those of which p is true are marked
+pub record Marked (m : List ℕ) (n : ℕ) (p : ℕ → Bool) (e : List ℕ) : Type 0 where
+  pub long : length e ≡ length m
+  pub each : (j : ℕ) → j < n → isYes (getD e j 0) ≡ (isYes (getD m j 0) || p j)
+
+-- the first n names are those of the first n lines
+abbrev pub Holds : List ℕ → ℕ → List Line → Type 0
+Holds names n ls = (m : ℕ) (l : Line) → Nth ls m l → m < n → (getD names (2 * m) 0 ≡ l .start) × (getD names (2 * m + 1) 0 ≡ l .len)
+
+-- names of the lines from i on: 32 and where the next stands, or all
+pub data Taken (s : List ℕ) (i : ℕ) (names : List ℕ) : Filled → Type 0 where
+  more : {j : ℕ} → Holds names 32 (linesAt s i .items) → drop 32 (linesAt s i .items) ≡ linesAt s j .items → 32 ≤ length (linesAt s i .items) → 32 + i ≤ j → j ≤ length s → Taken s i names (More j)
+  all : {n : ℕ} → Holds names n (linesAt s i .items) → length (linesAt s i .items) ≡ n → n ≤ 32 → Taken s i names (All n)
+
+pub record Filling (s : List ℕ) (i : ℕ) (names : List ℕ) (r : Filled) (e : List ℕ) : Type 0 where
+  pub long : length e ≡ length names
+  pub taken : Taken s i e r
+
+-- ---- lines
+
+abbrev pub noRow : Found → Bool
+noRow (At k) = false
+noRow Nothing = true
+
+-- its question isn't there
+abbrev pub unheard : List ℕ → List QuestionPlace → Line → Bool
+unheard s qs l = noRow (asked s (partOr s (l .start) (l .len)) qs)
+
+-- its yes or its no leads nowhere
+abbrev pub strays : List Line → Line → Bool
+strays ls l = nowhere (targetIn ls (l .yes)) || nowhere (targetIn ls (l .no))
+
+-- the lines from i on, at most 32 of them
+pub data Windowed (s : List ℕ) (qs : List QuestionPlace) (i : ℕ) : Window → Type 0 where
+  missing : {j : ℕ} {l : Line} → Nth (linesAt s i .items) j l → unheard s qs l ≡ true → j < 32
+      → ((m : ℕ) (e : Line) → m < j → Nth (linesAt s i .items) m e → unheard s qs e ≡ false) → Windowed s qs i (Missing j)
+  next : {j : ℕ} → ((m : ℕ) (e : Line) → m < 32 → Nth (linesAt s i .items) m e → unheard s qs e ≡ false)
+      → drop 32 (linesAt s i .items) ≡ linesAt s j .items → 32 ≤ length (linesAt s i .items) → 32 + i ≤ j → j ≤ length s → Windowed s qs i (Next j)
+  clean : ((m : ℕ) (e : Line) → Nth (linesAt s i .items) m e → unheard s qs e ≡ false) → Windowed s qs i Clean
+
+-- ---- a tree
+
+-- the fault of the lower line; on one line a reference comes before the question
+abbrev pub faultLines : Found → Found → Linking
+faultLines (At a) (At b) = cond (ltb b a) (QuestionRef b) (NodeRef a)
+faultLines (At a) Nothing = NodeRef a
+faultLines Nothing (At b) = QuestionRef b
+faultLines Nothing Nothing = Whole
+
+abbrev pub faultAlone : TreeIndex → Linking
+faultAlone (Pdf x) = Whole
+faultAlone (Node x) = LoneNode
+
+abbrev pub faultSingle : List ℕ → List QuestionPlace → List Line → Single → Linking
+faultSingle s qs ls (One x) = faultAlone x
+faultSingle s qs ls Several = faultLines (firstFrom (strays ls) 0 ls) (firstFrom (unheard s qs) 0 ls)
+
+abbrev pub faultEnding : List ℕ → List QuestionPlace → List Line → Ending → Linking
+faultEnding s qs ls (doneAt e) = faultSingle s qs ls (singleIn ls)
+faultEnding s qs ls (brokenAt e) = Whole
+
+unfoldable pub faultBraces : List ℕ → List QuestionPlace → Reading Line → Linking
+faultBraces s qs r = faultEnding s qs (r .items) (r .ending)
+
+abbrev pub faultHead : List ℕ → List QuestionPlace → TreeHead → Linking
+faultHead s qs (head.Lone x r e) = faultAlone r
+faultHead s qs (head.Empty x e) = Whole
+faultHead s qs (head.Lines x f) = faultBraces s qs (linesAt s f)
+faultHead s qs head.NoTree = Whole

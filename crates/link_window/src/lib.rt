@@ -1,0 +1,340 @@
+// The linking of one tree by reading its text, without tables or work, and quickly: the first line with a fault (01, 'Linking and tables'; 02, Wish 12).
+// A question is looked for in the text for 32 lines at a time, their names' places on the stack: reading the questions once for each line would take lines times
+// questions. Every function takes any bytes and any place, also one past the end. A place is an index into the slice; the questions are those of the text that begins at `at`.
+use link_alone::Single;
+use link_alone::is_nowhere;
+use link_alone::single_of;
+use link_alone::target_of;
+use link_find::NameStep;
+use link_find::ids_in_order;
+use link_find::next_name;
+use link_find::same_name;
+use link_order::part_or;
+use link_search::Found;
+use tree_body::TreeHead;
+use tree_body::tree_head;
+use tree_line::Line;
+use tree_line::LineStep;
+use tree_line::next_line;
+use tree_question::Item;
+use tree_question::first_item;
+use tree_reference::TreeIndex;
+use tree_survey_lines::LineCount;
+use tree_survey_lines::count_lines;
+ghost use mathlib.Core.Path.{_≡_};
+ghost use mathlib.Core.Bool.{Bool, _||_};
+ghost use Prim.Native.Nat.{ℕ, _+_, _*_, _<_, _≤_};
+ghost use lib.ListN.{length, getD, set};
+ghost use Rattle.written.specs.Bytes.{same};
+ghost use Rattle.written.specs.Walks.{isYes};
+ghost use Rattle.laws.specs.Steps.{read};
+ghost use Rattle.tree_line.specs.Lines.{linesAt};
+ghost use Rattle.tree_question.specs.Questions.{questionStepAt, questionsAt};
+ghost use Rattle.tree_body.specs.Trees.{headAt};
+ghost use Rattle.link_order.specs.Keys.{partOr};
+ghost use Rattle.link_find.specs.Find.{Lines};
+ghost use Rattle.link_window.specs.Windows.{nameIn, heard, Marked, FirstOf, Filling, Windowed, unheard, strays, firstFrom, faultAlone, faultLines, faultBraces, faultHead};
+
+// How many lines are looked up at a time.
+const WINDOW: usize = 32;
+
+// Whether a tree links, or at which line it doesn't.
+pub enum Linking {
+    Whole,
+    NodeRef(usize),
+    QuestionRef(usize),
+    LoneNode,
+}
+
+// Whether more lines follow those whose names were taken, or how many were taken in all.
+pub enum Filled {
+    More(usize),
+    All(usize),
+}
+
+// A window of lines: one that asks for a question that isn't there, or where the next window begins, or that there is none.
+pub enum Window {
+    Missing(u64),
+    Next(usize),
+    Clean,
+}
+
+// ---- the names of a window
+
+// Name k: where it begins, and how long it is.
+fn put_name(names: &mut [u64], k: usize, start: usize, len: usize)
+    requires { ⌜ 2 * k + 1 < length (now names) ⌝ }
+    ensures { λ _. ⌜ now (names .exit) ≡ set (set (now (names .entry)) (2 * k) start) (2 * k + 1) len ⌝ }
+{
+    names[2 * k] = start as u64;
+    names[2 * k + 1] = len as u64;
+}
+
+// The names of the lines from `first` on, as many as there is room for.
+fn fill(s: &[u8], first: usize, names: &mut [u64]) -> Filled
+    requires { ⌜ length (now names) ≡ 64 ⌝ }
+    ensures { λ r. ⌜ Filling (now (s .entry)) first (now (names .entry)) r (now (names .exit)) ⌝ }
+{
+    let mut i = first;
+    let mut k = 0;
+    while k < WINDOW {
+        match next_line(s, i) {
+            LineStep::Next { line, next } => {
+                put_name(names, k, line.start, line.len);
+                k = k + 1;
+                i = next;
+            }
+            LineStep::Last { line, next: _ } => {
+                put_name(names, k, line.start, line.len);
+                return Filled::All(k + 1);
+            }
+            LineStep::Broken => {
+                return Filled::All(k);
+            }
+        }
+    }
+    Filled::More(i)
+}
+
+// ---- which of them were met among the questions
+
+fn met_after(before: u8, hit: bool) -> u8
+    ensures { λ r. ⌜ isYes r ≡ isYes before || hit ⌝ }
+{
+    if hit { 1 } else { before }
+}
+
+// Those of the first n names that are this one.
+fn mark(s: &[u8], names: &[u64], met: &mut [u8], n: usize, name: &[u8])
+    requires { ⌜ (n ≤ length (now met)) × (2 * n ≤ length (now names)) ⌝ }
+    ensures { λ _. ⌜ Marked (now (met .entry)) n (λ (j : ℕ). same (now (name .entry)) (nameIn (now (s .entry)) (now (names .entry)) j)) (now (met .exit)) ⌝ }
+{
+    let mut j = 0;
+    while j < n {
+        met[j] = met_after(
+            met[j],
+            same_name(name, part_or(s, names[2 * j], names[2 * j + 1])),
+        );
+        j = j + 1;
+    }
+}
+
+// Those that a question from `first` on bears.
+fn mark_all(s: &[u8], first: usize, names: &[u64], met: &mut [u8], n: usize)
+    requires { ⌜ (n ≤ length (now met)) × (2 * n ≤ length (now names)) ⌝ }
+    ensures { λ _. ⌜ Marked (now (met .entry)) n (λ (j : ℕ). heard (now (s .entry)) (nameIn (now (s .entry)) (now (names .entry)) j) (read (questionStepAt (now (s .entry))) (length (now (s .entry))) first .items)) (now (met .exit)) ⌝ }
+{
+    let mut i = first;
+    loop {
+        match next_name(s, i) {
+            NameStep::Next { start, len, next } => {
+                mark(s, names, met, n, part_or(s, start as u64, len as u64));
+                i = next;
+            }
+            NameStep::Last { start, len } => {
+                mark(s, names, met, n, part_or(s, start as u64, len as u64));
+                return;
+            }
+            NameStep::Broken => {
+                return;
+            }
+        }
+    }
+}
+
+// The first of n that wasn't met.
+fn first_unmet(met: &[u8], n: usize) -> Found
+    requires { ⌜ n ≤ length (now met) ⌝ }
+    ensures { λ r. ⌜ FirstOf (λ (j : ℕ). isYes (getD (now (met .entry)) j 0)) n r ⌝ }
+{
+    let mut j = 0;
+    while j < n {
+        if met[j] == 0 {
+            return Found::At(j as u64);
+        }
+        j = j + 1;
+    }
+    Found::Nothing
+}
+
+// The first of n names that no question bears, where the questions begin at `first`.
+fn first_unheard(s: &[u8], first: usize, names: &[u64], n: usize) -> Found
+    requires { ⌜ (n ≤ 32) × (2 * n ≤ length (now names)) ⌝ }
+    ensures { λ r. ⌜ FirstOf (λ (j : ℕ). heard (now (s .entry)) (nameIn (now (s .entry)) (now (names .entry)) j) (read (questionStepAt (now (s .entry))) (length (now (s .entry))) first .items)) n r ⌝ }
+{
+    let mut met = [0u8; 32];
+    mark_all(s, first, names, &mut met, n);
+    first_unmet(&met, n)
+}
+
+// The first of n names that no question bears; where the text has no question, the first of them.
+fn look_up(s: &[u8], at: usize, names: &[u64], n: usize) -> Found
+    requires { ⌜ (n ≤ 32) × (2 * n ≤ length (now names)) ⌝ }
+    ensures { λ r. ⌜ FirstOf (λ (j : ℕ). heard (now (s .entry)) (nameIn (now (s .entry)) (now (names .entry)) j) (questionsAt (now (s .entry)) at .items)) n r ⌝ }
+{
+    match first_item(s, at) {
+        Item::Question(first) => first_unheard(s, first, names, n),
+        Item::Tree(_) => {
+            if n == 0 {
+                Found::Nothing
+            } else {
+                Found::At(0)
+            }
+        }
+    }
+}
+
+// ---- the lines of a tree, window by window
+
+// The lines from `first` on, as many as are looked up at a time.
+fn read_window(s: &[u8], at: usize, first: usize) -> Window
+    ensures { λ r. ⌜ Windowed (now (s .entry)) (questionsAt (now (s .entry)) at .items) first r ⌝ }
+{
+    let mut names = [0u64; 64];
+    match fill(s, first, &mut names) {
+        Filled::More(next) => match look_up(s, at, &names, WINDOW) {
+            Found::At(j) => Window::Missing(j),
+            Found::Nothing => Window::Next(next),
+        },
+        Filled::All(n) => match look_up(s, at, &names, n) {
+            Found::At(j) => Window::Missing(j),
+            Found::Nothing => Window::Clean,
+        },
+    }
+}
+
+// The first of the lines from `first` on whose question isn't there.
+pub fn first_unasked(s: &[u8], at: usize, first: usize) -> Found
+    ensures { λ r. ⌜ r ≡ firstFrom (unheard (now (s .entry)) (questionsAt (now (s .entry)) at .items)) 0 (linesAt (now (s .entry)) first .items) ⌝ }
+{
+    let mut i = first;
+    let mut k: u64 = 0;
+    loop {
+        match read_window(s, at, i) {
+            Window::Missing(j) => {
+                return Found::At(k + j);
+            }
+            Window::Next(next) => {
+                k = k + 32;
+                i = next;
+            }
+            Window::Clean => {
+                return Found::Nothing;
+            }
+        }
+    }
+}
+
+// Whether a line's yes or no leads nowhere.
+fn is_astray(s: &[u8], first: usize, n: u64, in_order: bool, line: Line) -> bool
+    requires { ⌜ Lines (now s) first n «in_order» ⌝ }
+    ensures { λ r. ⌜ r ≡ strays (linesAt (now (s .entry)) first .items) line ⌝ }
+{
+    let to_yes = line.yes;
+    let to_no = line.no;
+    if is_nowhere(target_of(s, first, n, in_order, to_yes)) {
+        return true;
+    }
+    is_nowhere(target_of(s, first, n, in_order, to_no))
+}
+
+// The first of the n lines from `first` on of which yes or no leads nowhere.
+pub fn first_astray(s: &[u8], first: usize, n: u64, in_order: bool) -> Found
+    requires { ⌜ Lines (now s) first n «in_order» ⌝ }
+    ensures { λ r. ⌜ r ≡ firstFrom (strays (linesAt (now (s .entry)) first .items)) 0 (linesAt (now (s .entry)) first .items) ⌝ }
+{
+    let mut i = first;
+    let mut k: u64 = 0;
+    loop {
+        match next_line(s, i) {
+            LineStep::Next { line, next } => {
+                if is_astray(s, first, n, in_order, line) {
+                    return Found::At(k);
+                }
+                k = k + 1;
+                i = next;
+            }
+            LineStep::Last { line, next: _ } => {
+                if is_astray(s, first, n, in_order, line) {
+                    return Found::At(k);
+                }
+                return Found::Nothing;
+            }
+            LineStep::Broken => {
+                return Found::Nothing;
+            }
+        }
+    }
+}
+
+// The fault of the lower line; on one line a reference comes before the question.
+fn lower(astray: Found, unasked: Found) -> Linking
+    ensures { λ r. ⌜ r ≡ faultLines astray unasked ⌝ }
+{
+    match astray {
+        Found::At(a) => match unasked {
+            Found::At(b) => {
+                if b < a {
+                    Linking::QuestionRef(b as usize)
+                } else {
+                    Linking::NodeRef(a as usize)
+                }
+            }
+            Found::Nothing => Linking::NodeRef(a as usize),
+        },
+        Found::Nothing => match unasked {
+            Found::At(b) => Linking::QuestionRef(b as usize),
+            Found::Nothing => Linking::Whole,
+        },
+    }
+}
+
+// ---- a tree
+
+// A tree that is one reference.
+fn link_alone(index: TreeIndex) -> Linking
+    ensures { λ r. ⌜ r ≡ faultAlone index ⌝ }
+{
+    match index {
+        TreeIndex::Pdf(_) => Linking::Whole,
+        TreeIndex::Node(_) => Linking::LoneNode,
+    }
+}
+
+// The tree in braces whose first line stands at `first`.
+fn link_braces(s: &[u8], at: usize, first: usize) -> Linking
+    ensures { λ r. ⌜ r ≡ faultBraces (now (s .entry)) (questionsAt (now (s .entry)) at .items) (linesAt (now (s .entry)) first) ⌝ }
+{
+    match count_lines(s, first) {
+        LineCount::Counted {
+            lines,
+            pdfs: _,
+            next: _,
+        } => match single_of(s, first, lines) {
+            Single::One(index) => link_alone(index),
+            Single::Several => lower(
+                first_astray(s, first, lines as u64, ids_in_order(s, first)),
+                first_unasked(s, at, first),
+            ),
+        },
+        // never, of a tree that can be read
+        LineCount::Broken => Linking::Whole,
+    }
+}
+
+// The tree that stands at `star`.
+pub fn link_tree(s: &[u8], at: usize, star: usize) -> Linking
+    ensures { λ r. ⌜ r ≡ faultHead (now (s .entry)) (questionsAt (now (s .entry)) at .items) (headAt (now (s .entry)) star) ⌝ }
+{
+    match tree_head(s, star) {
+        TreeHead::Lone {
+            state: _,
+            index,
+            next: _,
+        } => link_alone(index),
+        TreeHead::Empty { state: _, next: _ } => Linking::Whole,
+        TreeHead::Lines { state: _, first } => link_braces(s, at, first),
+        // never, of a tree that can be read
+        TreeHead::NoTree => Linking::Whole,
+    }
+}

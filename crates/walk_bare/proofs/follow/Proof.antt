@@ -1,0 +1,87 @@
+-- `walk_bare::follow`: what is left of the walk, with so many questions more, is the answer.
+use mathlib.Core.Path.{_≡_, refl, sym, ap, ap₂, _∙_}
+use native.Mathlib.Omega.{arith}
+use Prim.Native.Nat.{_-_}
+use Rattle.tree_question.specs.Questions.{questionsAt}
+use Rattle.tree_line.specs.Lines.{linesAt}
+use Rattle.walk_bare.proofs.Laws.{Walking, walking-none, walking-missing, walking-limit, walking-reach, walking-leaf, walking-wrong, walking-on}
+use borrow.Author.Needs.{needs}
+use Rattle.walk_bare.proofs.follow.Statement.{statement}
+use Rattle.walk_bare.proofs.follow.Tie as tie
+
+abbrev Inv-loop : tie.InvT-loop
+Inv-loop s at first n answers limit line₀ asked₀ line asked = Walking s (questionsAt s at .items) answers (linesAt s first .items) limit n line asked
+
+abbrev μ-loop : tie.MeasureT-loop
+μ-loop s at first n answers limit line₀ asked₀ line asked = n - asked
+
+loop-holds : tie.Need-loop-holds Inv-loop μ-loop
+loop-holds c = walking-none _ _ _ _ _ _ (c .before .before .pre .0) (c .before .before .pre .1)
+
+ask-requires : tie.Need-ask-requires Inv-loop μ-loop
+ask-requires c κs = search needs
+
+enum-known-index : tie.Need-enum-known-index Inv-loop μ-loop
+enum-known-index c = search needs
+
+returns : tie.Need-returns Inv-loop μ-loop
+returns c = walking-limit _ _ _ _ (c .before .before .before .before .before .loop .inv) (sym (c .before .before .index .given .1) ∙ c .before .before .before .before .ask .ensures) (c .if1 .taken)
+
+returns-2 : tie.Need-returns-2 Inv-loop μ-loop
+returns-2 c = walking-reach _ _ _ _ (c .before .before .before .before .before .before .loop .inv) (sym (c .before .before .before .index .given .1) ∙ c .before .before .before .before .before .ask .ensures) (c .if2 .taken)
+
+add-asked : tie.Need-add-asked Inv-loop μ-loop
+add-asked c = omega (arith, c .before .before .before .before .before .before .loop .inv .follows .bounded, c .before .before .before .before .before .before .loop .inv .follows .limited, c .if2 .left, c .before .if1 .left)
+
+go-to-requires : tie.Need-go-to-requires Inv-loop μ-loop
+go-to-requires c κs = search needs
+
+enum-known-number : tie.Need-enum-known-number Inv-loop μ-loop
+enum-known-number c = search needs
+
+returns-3 : tie.Need-returns-3 Inv-loop μ-loop
+returns-3 c = walking-leaf _ _ _ _ (c .before .before .before .before .before .before .before .before .before .before .loop .inv) (sym (c .before .before .before .before .before .before .before .index .given .1) ∙ c .before .before .before .before .before .before .before .before .before .ask .ensures) (c .before .before .before .before .before .if1 .left) (c .before .before .before .before .if2 .left) (sym (c .before .number .given .1) ∙ c .before .before .before .go-to .ensures)
+
+enum-known-next : tie.Need-enum-known-next Inv-loop μ-loop
+enum-known-next c = search needs
+
+loop-less : tie.Need-loop-less Inv-loop μ-loop
+loop-less c = omega (arith, c .before .before .before .before .before .before .before .before .before .before .loop .inv .follows .bounded, c .before .before .before .before .if2 .left)
+
+loop-again : tie.Need-loop-again Inv-loop μ-loop
+loop-again c = walking-on _ _ _ _ (c .before .before .before .before .before .before .before .before .before .before .loop .inv) (sym (c .before .before .before .before .before .before .before .index .given .1) ∙ c .before .before .before .before .before .before .before .before .before .ask .ensures) (c .before .before .before .before .before .if1 .left) (c .before .before .before .before .if2 .left) (sym (c .before .next .given .1) ∙ c .before .before .before .go-to .ensures)
+
+enum-told : tie.Need-enum-told Inv-loop μ-loop
+enum-told c = search needs
+
+returns-4 : tie.Need-returns-4 Inv-loop μ-loop
+returns-4 c = walking-wrong _ _ _ _ (c .before .before .before .before .before .before .before .before .before .loop .inv) (sym (c .before .before .before .before .before .before .index .given .1) ∙ c .before .before .before .before .before .before .before .before .ask .ensures) (c .before .before .before .before .if1 .left) (c .before .before .before .if2 .left) (sym (c .enum-told .given .1) ∙ c .before .before .go-to .ensures)
+
+enum-told-2 : tie.Need-enum-told-2 Inv-loop μ-loop
+enum-told-2 c = search needs
+
+returns-5 : tie.Need-returns-5 Inv-loop μ-loop
+returns-5 c = walking-missing _ _ _ _ (c .before .before .before .loop .inv) (sym (c .enum-told2 .given .1) ∙ c .before .before .ask .ensures)
+
+pub follow-spec : {M : Type 1} → statement M
+follow-spec =
+    tie.close
+    (tie.spec
+    Inv-loop
+    μ-loop
+    loop-holds
+    ask-requires
+    enum-known-index
+    returns
+    returns-2
+    add-asked
+    go-to-requires
+    enum-known-number
+    returns-3
+    enum-known-next
+    loop-less
+    loop-again
+    enum-told
+    returns-4
+    enum-told-2
+    returns-5)
