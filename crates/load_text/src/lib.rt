@@ -17,7 +17,7 @@ ghost use lib.Seq.{sets};
 ghost use Rattle.load_text.specs.Text.{Fits, nameIndex, TextLinked, TextFilled};
 
 // The rows of n questions, by name and then by row, in front of the table.
-fn index_names(s: &[u8], questions: &[u64], n: usize, patterns: &mut [u64])
+pub fn index_names(s: &[u8], questions: &[u64], n: usize, patterns: &mut [u64])
     requires { ⌜ n ≤ length (now patterns) ⌝ }
     ensures { λ r. ⌜ now (patterns .exit) ≡ sets (now (patterns .entry)) 0 (nameIndex (now (s .entry)) (now (questions .entry)) n) ⌝ }
 {
