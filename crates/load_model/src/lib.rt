@@ -42,7 +42,7 @@ fn fill_block(s: &[u8], p: Plan, trees: &mut [u64], values: &mut [u64])
 }
 
 // The rows of a plan whose trees are linked, or the refusal.
-fn answer(p: Plan, linked: Linked) -> Loaded
+pub fn answer(p: Plan, linked: Linked) -> Loaded
     requires { ⌜ p .entries * p .width < 2 ^ 63 ⌝ }
     ensures { λ r. ⌜ r ≡ answerFor p linked ⌝ }
 {

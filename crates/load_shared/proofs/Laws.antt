@@ -119,14 +119,15 @@ module _ (x : Side) (d : List ℕ) (p : Plan) (q a t c v : List ℕ) (w : List �
       same-lent (cut-own x 4 q (p .questions) i i′ cq) (cut-own x 2 a (p .patterns) j j′ ca) (cut-own x 6 t (p .trees) k k′ ct) (cut-own x 4 c (p .records) l l′ cc′)
       (cut-own x 1 v (p .entries * p .width) m m′ cv) refl
 
-  pub own-filled : {r : Loaded} {q₁ a₁ t₁ c₁ v₁ : List ℕ} {w₁ : List ℤ}
-      → Is (filled d p (lent (take (i′ - i) (drop i q)) (take (j′ - j) (drop j a)) (take (k′ - k) (drop k t)) (take (l′ - l) (drop l c)) (take (m′ - m) (drop m v)) w)) r (lent q₁ a₁ t₁ c₁ v₁ w₁)
+  -- what any filling makes of them comes back to where they stand
+  pub own-put : (fill : Lent → FillAfter) {r : Loaded} {q₁ a₁ t₁ c₁ v₁ : List ℕ} {w₁ : List ℤ}
+      → Is (fill (lent (take (i′ - i) (drop i q)) (take (j′ - j) (drop j a)) (take (k′ - k) (drop k t)) (take (l′ - l) (drop l c)) (take (m′ - m) (drop m v)) w)) r (lent q₁ a₁ t₁ c₁ v₁ w₁)
       → length q₁ ≡ length (take (i′ - i) (drop i q)) → length a₁ ≡ length (take (j′ - j) (drop j a)) → length t₁ ≡ length (take (k′ - k) (drop k t)) → length c₁ ≡ length (take (l′ - l) (drop l c))
       → length v₁ ≡ length (take (m′ - m) (drop m v))
-      → FillsOwn x d p (lent q a t c v w) r (lent (putMid i (i′ - i) q q₁) (putMid j (j′ - j) a a₁) (putMid k (k′ - k) t t₁) (putMid l (l′ - l) c c₁) (putMid m (m′ - m) v v₁) w₁)
-  unfolding placedIn
-  own-filled {q₁ = q₁} {a₁} {t₁} {c₁} {v₁} f lq la lt lc lv =
-      let e = ap (filled d p) parts-own in
+      → Is (putBack x p (lent q a t c v w) (fill (withWork (seen x (needOf p) (tablesOf q a t c v)) w))) r
+      (lent (putMid i (i′ - i) q q₁) (putMid j (j′ - j) a a₁) (putMid k (k′ - k) t t₁) (putMid l (l′ - l) c c₁) (putMid m (m′ - m) v v₁) w₁)
+  own-put fill {q₁ = q₁} {a₁} {t₁} {c₁} {v₁} f lq la lt lc lv =
+      let e = ap fill parts-own in
       let g = f .1 ∙ ap (λ (o : FillAfter). o .tables) e in (
         f .0 ∙ ap (λ (o : FillAfter). o .answer) e,
         same-lent
@@ -137,6 +138,14 @@ module _ (x : Side) (d : List ℕ) (p : Plan) (q a t c v : List ℕ) (w : List �
             (cut-back x 1 v (p .entries * p .width) m m′ cv v₁ lv ∙ ap (λ (T : Lent). putRows x 1 v (p .entries * p .width) (T .values)) g)
             (ap (λ (T : Lent). T .work) g),
       )
+
+  pub own-filled : {r : Loaded} {q₁ a₁ t₁ c₁ v₁ : List ℕ} {w₁ : List ℤ}
+      → Is (filled d p (lent (take (i′ - i) (drop i q)) (take (j′ - j) (drop j a)) (take (k′ - k) (drop k t)) (take (l′ - l) (drop l c)) (take (m′ - m) (drop m v)) w)) r (lent q₁ a₁ t₁ c₁ v₁ w₁)
+      → length q₁ ≡ length (take (i′ - i) (drop i q)) → length a₁ ≡ length (take (j′ - j) (drop j a)) → length t₁ ≡ length (take (k′ - k) (drop k t)) → length c₁ ≡ length (take (l′ - l) (drop l c))
+      → length v₁ ≡ length (take (m′ - m) (drop m v))
+      → FillsOwn x d p (lent q a t c v w) r (lent (putMid i (i′ - i) q q₁) (putMid j (j′ - j) a a₁) (putMid k (k′ - k) t t₁) (putMid l (l′ - l) c c₁) (putMid m (m′ - m) v v₁) w₁)
+  unfolding placedIn
+  own-filled f lq la lt lc lv = own-put (filled d p) f lq la lt lc lv
 
 -- ---- each way through a load
 

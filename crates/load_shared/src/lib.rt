@@ -45,7 +45,7 @@ pub fn nobody() -> Held
 }
 
 // The first of a task's n rows in a table of so many.
-fn first_row(top: bool, rows: usize, n: usize) -> usize
+pub fn first_row(top: bool, rows: usize, n: usize) -> usize
     requires { ⌜ n ≤ rows ⌝ }
     ensures { λ r. ⌜ (r ≡ firstRow (sideOf top) rows n) × (r + n ≤ rows) ⌝ }
 {
@@ -109,7 +109,7 @@ pub fn holding(h: Held) -> bool
 }
 
 // The rows that a plan needs.
-fn need(p: Plan) -> Held
+pub fn need(p: Plan) -> Held
     requires { ⌜ p .entries * p .width < 2 ^ 63 ⌝ }
     ensures { λ r. ⌜ heldOf r ≡ needOf p ⌝ }
 {

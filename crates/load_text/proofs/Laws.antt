@@ -34,7 +34,16 @@ front t₀ t₁ xs m e l h =
 index-length : (s x : List ℕ) (n : ℕ) → length (nameIndex s x n) ≡ n
 index-length s x n = length-sorted (keyOf (λ e. nameKey (nameAt s x e))) (countFrom 0 n) ∙ length-count 0 n
 
-module _ (s : List ℕ) (i f n : ℕ) {q p t r w : ℕ} (h : Fits s i f n q p t r w) where
+-- n questions from i on, and room for their rows in tables of so many words
+pub record Asked (s : List ℕ) (i n q p : ℕ) : Type 0 where
+  pub asked : n ≡ length (questionsAt s i .items)
+  pub question-room : 4 * n ≤ q
+  pub pattern-room : 2 * total patternCount (questionsAt s i .items) ≤ p
+
+pub asked-of : {s : List ℕ} {i f n q p t r w : ℕ} → Fits s i f n q p t r w → Asked s i n q p
+asked-of h = record { asked = h .asked; question-room = h .question-room; pattern-room = h .pattern-room }
+
+module _ (s : List ℕ) (i n : ℕ) {q p : ℕ} (h : Asked s i n q p) where
   -- the index has room where the patterns have
   pub index-room : n ≤ p
   index-room = omega (arith, h .pattern-room, h .asked, each-asked s i)
@@ -53,18 +62,18 @@ module _ (s : List ℕ) (i f n : ℕ) {q p t r w : ℕ} (h : Fits s i f n q p t 
     is-index = record { is = name-index ∙ ap (λ (m : ℕ). sorted (keyOf (λ e. nameKey (nameAt s x e))) (countFrom 0 m)) (sym index-count) }
 
     -- what was linked by these was linked by the text's own
-    module _ (y : x ≡ wordsAt s i) where
-      c : length (take (n - 0) (drop 0 p₁)) ≡ length (questionsAt s i .items)
-      c = index-count ∙ h .asked
+    module _ (f : ℕ) (y : x ≡ wordsAt s i) where
+      pub index-asked : length (take (n - 0) (drop 0 p₁)) ≡ length (questionsAt s i .items)
+      index-asked = index-count ∙ h .asked
 
       pub linked-as : {o : Linked} → o ≡ treesEnd s x (length (take (n - 0) (drop 0 p₁))) 0 (treesAt s f .items) → o ≡ endAt s i f
-      linked-as u = u ∙ ap₂ (λ (a : List ℕ) (m : ℕ). treesEnd s a m 0 (treesAt s f .items)) y c
+      linked-as u = u ∙ ap₂ (λ (a : List ℕ) (m : ℕ). treesEnd s a m 0 (treesAt s f .items)) y index-asked
 
       pub rows-as : {t₁ : List ℕ} (t₀ : List ℕ) → t₁ ≡ sets t₀ 0 (treeWords s x (length (take (n - 0) (drop 0 p₁))) 0 (treesAt s f .items)) → t₁ ≡ sets t₀ 0 (treesStored s i f)
-      rows-as t₀ u = u ∙ ap₂ (λ (a : List ℕ) (m : ℕ). sets t₀ 0 (treeWords s a m 0 (treesAt s f .items))) y c
+      rows-as t₀ u = u ∙ ap₂ (λ (a : List ℕ) (m : ℕ). sets t₀ 0 (treeWords s a m 0 (treesAt s f .items))) y index-asked
 
       pub records-as : {t₁ : List ℕ} (t₀ : List ℕ) → t₁ ≡ sets t₀ 0 (recordWords s x (length (take (n - 0) (drop 0 p₁))) (treesAt s f .items)) → t₁ ≡ sets t₀ 0 (recordsStored s i f)
-      records-as t₀ u = u ∙ ap₂ (λ (a : List ℕ) (m : ℕ). sets t₀ 0 (recordWords s a m (treesAt s f .items))) y c
+      records-as t₀ u = u ∙ ap₂ (λ (a : List ℕ) (m : ℕ). sets t₀ 0 (recordWords s a m (treesAt s f .items))) y index-asked
 
       pub work-as : {w₁ : List ℤ} (w₀ : List ℤ) → w₁ ≡ workAfter s x (length (take (n - 0) (drop 0 p₁))) w₀ (treesAt s f .items) → w₁ ≡ workAfter s (wordsAt s i) n w₀ (treesAt s f .items)
       work-as w₀ u = u ∙ ap₂ (λ (a : List ℕ) (m : ℕ). workAfter s a m w₀ (treesAt s f .items)) y index-count
@@ -98,7 +107,7 @@ module _ (s : List ℕ) (i f n : ℕ) (q p t r : List ℕ) (w : List ℤ) (fits 
   text-kept d e = (
     l .0,
     kept-done o q (wordsAt s i) told d (l .1),
-    kept-done o p (patternWords (questionsAt s i .items)) told d (patterns-over s i f n fits p (wordsAt s i) (l .2) e),
+    kept-done o p (patternWords (questionsAt s i .items)) told d (patterns-over s i n (asked-of fits) p (wordsAt s i) (l .2) e),
     kept-done o t (treesStored s i f) told d (l .3),
     kept-done o r (recordsStored s i f) told d (l .4),
     work-zero,

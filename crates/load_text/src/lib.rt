@@ -55,7 +55,12 @@ fn link_text(
 }
 
 // What a refused link leaves.
-fn zero_text(questions: &mut [u64], patterns: &mut [u64], trees: &mut [u64], records: &mut [u64])
+pub fn zero_text(
+    questions: &mut [u64],
+    patterns: &mut [u64],
+    trees: &mut [u64],
+    records: &mut [u64],
+)
     ensures { λ r. ⌜ (now (questions .exit) ≡ replicate (length (now (questions .entry))) 0) × (now (patterns .exit) ≡ replicate (length (now (patterns .entry))) 0) × (now (trees .exit) ≡ replicate (length (now (trees .entry))) 0) × (now (records .exit) ≡ replicate (length (now (records .entry))) 0) ⌝ }
 {
     zero(questions);

@@ -98,7 +98,8 @@ module _ (s : List ℕ) where
       let v : brokenAt j ≡ doneAt (z .end) = sym (ap (λ (r : Reading Tree). r .ending) (trees-are s i ∙ ap (readOf (treesAt s)) e)) ∙ z .done in
       let u : _≡_ {A = ℕ} 0 1 = cc in absurd (omega arith)
 
-  stands : (i : ℕ) → Through s i → (t : Tree) × Facts i t
+  -- a tree whose step is not broken
+  pub stands : (i : ℕ) → ((j : ℕ) → ¬ (treeStepAt s i ≡ broken j)) → (t : Tree) × Facts i t
   unfolding treeStepAt
   stands i z = go (headAt s i) refl
     where
@@ -125,8 +126,8 @@ module _ (s : List ℕ) where
                 made t q refl refl (lines (h ∙ ap doneAt (sym u)))
                     (ap (treeHeaded s i) q ∙ ap (treeRead s i x (linesAt s f .items)) h ∙ ap (λ (k : ℕ). treeFollowed s t (afterTree s k)) (sym u)),
               )
-          read (brokenAt e) h = never i z (ap (treeHeaded s i) q ∙ ap (treeRead s i x (linesAt s f .items)) h)
-      go head.NoTree q = never i z (ap (treeHeaded s i) q)
+          read (brokenAt e) h = absurd (z i (ap (treeHeaded s i) q ∙ ap (treeRead s i x (linesAt s f .items)) h))
+      go head.NoTree q = absurd (z i (ap (treeHeaded s i) q))
 
   -- the tree at i, and those behind it
   pub record Went (i : ℕ) : Type 0 where
@@ -142,10 +143,10 @@ module _ (s : List ℕ) where
   went i z = go (afterTree s (headEnd s (headAt s i))) refl
     where
       t : Tree
-      t = stands i z .0
+      t = stands i (λ j e. never i z e) .0
 
       f : Facts i t
-      f = stands i z .1
+      f = stands i (λ j e. never i z e) .1
 
       all-are : {a : TreeStep} → a ≡ afterTree s (headEnd s (headAt s i)) → items i ≡ readOf (treesAt s) (treeFollowed s t a) .items
       all-are e = ap (λ (r : Reading Tree). r .items) (steps-are f e)

@@ -132,7 +132,7 @@ fn put_row(trees: &mut [u64], row: usize, state: u64, first: usize, filled: Fill
 }
 
 // The tree at `at`: its records from record `first` on, and its row.
-fn fill_tree(
+pub fn fill_tree(
     s: &[u8],
     at: usize,
     questions: &[u64],
@@ -157,7 +157,7 @@ fn fill_tree(
 }
 
 // How linking ends where tree `row` is the last.
-fn ended(row: usize, filled: Filled) -> Linked
+pub fn ended(row: usize, filled: Filled) -> Linked
     ensures { λ r. ⌜ r ≡ endedAt row filled ⌝ }
 {
     match filled {

@@ -4,7 +4,7 @@ use native.Mathlib.Omega.{arith}
 use lib.Seq.{sets}
 use lib.ListN.{length}
 use Rattle.load_text.specs.Text.{nameIndex}
-use Rattle.load_text.proofs.Laws.{index-room, asked-words, name-index, index-count, is-index, linked-as, rows-as, records-as, work-as}
+use Rattle.load_text.proofs.Laws.{asked-of, index-room, asked-words, name-index, index-count, is-index, linked-as, rows-as, records-as, work-as}
 use borrow.Author.Needs.{needs}
 use Rattle.load_text.proofs.link_text.Statement.{statement}
 use Rattle.load_text.proofs.link_text.Tie as tie
@@ -30,7 +30,7 @@ part-index-names-end : tie.Need-part-index-names-end
 part-index-names-end c = search needs
 
 index-names-requires : tie.Need-index-names-requires
-index-names-requires c κs = index-room _ _ _ _ (c .before .before .before .before .before .before .before .before .before .before .before .before .pre)
+index-names-requires c κs = index-room _ _ _ (asked-of (c .before .before .before .before .before .before .before .before .before .before .before .before .pre))
 
 sub-fill-trees : tie.Need-sub-fill-trees
 sub-fill-trees c = search needs
@@ -48,7 +48,7 @@ part-fill-trees-start-2 : tie.Need-part-fill-trees-start-2
 part-fill-trees-start-2 c = search needs
 
 part-fill-trees-end-2 : tie.Need-part-fill-trees-end-2
-part-fill-trees-end-2 c = omega (arith, index-room _ _ _ _ (c .before .before .before .before .before .before .before .before .before .before .before .before .before .before .before .before .before .before .pre), c .before .before .before .before .before .index-names .kept .1 .1 .1 .0)
+part-fill-trees-end-2 c = omega (arith, index-room _ _ _ (asked-of (c .before .before .before .before .before .before .before .before .before .before .before .before .before .before .before .before .before .before .pre)), c .before .before .before .before .before .index-names .kept .1 .1 .1 .0)
 
 fill-trees-requires : tie.Need-fill-trees-requires
 fill-trees-requires c κs =
@@ -56,7 +56,7 @@ fill-trees-requires c κs =
     let h = c .before .before .before .before .before .before .before .before .before .before .before .before .before .before .before .before .before .before .before .before .before .before .pre in
     let q = c .before .before .before .before .before .before .before .before .before .before .before .before .before .before .before .fill-questions .ensures in
     let p = c .before .before .before .before .before .before .before .before .before .index-names .ensures in
-    ((is-index (a .s .now) (a .at) (a .first) (a .n) h _ _ _ refl p, omega (arith, index-count (a .s .now) (a .at) (a .first) (a .n) h _ _ _ refl p, h .question-room, c .before .before .before .before .before .before .before .before .before .before .before .before .before .before .before .before .before .before .before .before .before .before .good)), (h .through, (h .tree-room, h .record-room, h .work-room)))
+    ((is-index (a .s .now) (a .at) (a .n) (asked-of h) _ _ _ refl p, omega (arith, index-count (a .s .now) (a .at) (a .n) (asked-of h) _ _ _ refl p, h .question-room, c .before .before .before .before .before .before .before .before .before .before .before .before .before .before .before .before .before .before .before .before .before .before .good)), (h .through, (h .tree-room, h .record-room, h .work-room)))
 
 same-length : tie.Need-same-length
 same-length c = search needs
@@ -79,9 +79,9 @@ returns c =
     let h = c .before .before .before .before .before .before .before .before .before .before .before .before .before .before .before .before .before .before .before .before .before .before .before .before .before .before .before .before .pre in
     let q = c .before .before .before .before .before .before .before .before .before .before .before .before .before .before .before .before .before .before .before .before .before .fill-questions .ensures in
     let p = c .before .before .before .before .before .before .before .before .before .before .before .before .before .before .before .index-names .ensures in
-    let y = asked-words (a .s .now) (a .at) (a .first) (a .n) h _ _ refl q in
+    let y = asked-words (a .s .now) (a .at) (a .n) (asked-of h) _ _ refl q in
     let e = c .before .before .before .before .before .fill-trees .ensures in
-    (linked-as (a .s .now) (a .at) (a .first) (a .n) h _ _ _ refl p y (e .0), q, p ∙ ap (λ x. sets (a .patterns .now) 0 (nameIndex (a .s .now) x (a .n))) y, rows-as (a .s .now) (a .at) (a .first) (a .n) h _ _ _ refl p y _ (e .1), records-as (a .s .now) (a .at) (a .first) (a .n) h _ _ _ refl p y _ (e .2), work-as (a .s .now) (a .at) (a .first) (a .n) h _ _ _ refl p y _ (e .3))
+    (linked-as (a .s .now) (a .at) (a .n) (asked-of h) _ _ _ refl p (a .first) y (e .0), q, p ∙ ap (λ x. sets (a .patterns .now) 0 (nameIndex (a .s .now) x (a .n))) y, rows-as (a .s .now) (a .at) (a .n) (asked-of h) _ _ _ refl p (a .first) y _ (e .1), records-as (a .s .now) (a .at) (a .n) (asked-of h) _ _ _ refl p (a .first) y _ (e .2), work-as (a .s .now) (a .at) (a .n) (asked-of h) _ _ _ refl p (a .first) y _ (e .3))
 
 pub link-text-spec : {M : Type 1} → statement M
 link-text-spec =
