@@ -1,42 +1,42 @@
+-- `house_names::all_last` meets its contract.
+use mathlib.Core.Path.{sym, _∙_}
+use Prim.Native.Nat.{_-_}
+use lib.ListN.{length}
+use borrow.Author.Needs.{needs}
+use borrow.Author.Tests.{not-true, not-false}
+use Rattle.laws.proofs.Every.{Passing, passing-none, passing-on, passing-off, passing-end}
+use Rattle.house_names.specs.Names.{isLast, allLast}
 use Rattle.house_names.proofs.all_last.Statement.{statement}
 use Rattle.house_names.proofs.all_last.Tie as tie
-use Rattle.house_names.proofs.all_last.Reads as reads
-use Rattle.house_names.proofs.all_last.Lts as lts
-use Rattle.house_names.proofs.is_last.Reads as is-last-reads
 
 abbrev Inv-loop : tie.InvT-loop
-Inv-loop s questions index n k₀ k = ?
+Inv-loop s questions index n k₀ k = Passing (isLast s questions (length index)) (length index) k
 
 abbrev μ-loop : tie.MeasureT-loop
-μ-loop s questions index n k₀ k = ?
+μ-loop s questions index n k₀ k = length index - k
 
--- src/lib.rt:37:5
 loop-holds : tie.Need-loop-holds Inv-loop μ-loop
-loop-holds c = ?
+loop-holds c = passing-none _ _
 
--- src/lib.rt:38:13
 is-last-requires : tie.Need-is-last-requires Inv-loop μ-loop
-is-last-requires c κs = ?
+is-last-requires c κs = c .before .before .before .before .before .pre
 
--- src/lib.rt:39:13
 returns : tie.Need-returns Inv-loop μ-loop
-returns c = ?
+unfolding allLast
+returns c = passing-off _ _ _ (c .before .before .before .loop .inv) (c .before .before .loop-test .taken) (sym (c .before .is-last .ensures) ∙ not-true _ (c .if1 .taken))
 
--- src/lib.rt:41:13
 add-k : tie.Need-add-k Inv-loop μ-loop
-add-k c = ?
+add-k c = search needs
 
--- src/lib.rt:37:5
 loop-less : tie.Need-loop-less Inv-loop μ-loop
-loop-less c = ?
+loop-less c = search needs
 
--- src/lib.rt:37:5
 loop-again : tie.Need-loop-again Inv-loop μ-loop
-loop-again c = ?
+loop-again c = passing-on _ _ _ (c .before .before .before .loop .inv) (c .before .before .loop-test .taken) (sym (c .before .is-last .ensures) ∙ not-false _ (c .if1 .left))
 
--- src/lib.rt:31:1
 returns-2 : tie.Need-returns-2 Inv-loop μ-loop
-returns-2 c = ?
+unfolding allLast
+returns-2 c = passing-end _ _ _ (c .before .loop .inv) (c .loop-test .left)
 
 pub all-last-spec : {M : Type 1} → statement M
 all-last-spec =
