@@ -1,12 +1,12 @@
--- `house_ids::tree_ids` meets its contract.
+-- `house_text::tree_ids` meets its contract.
 use mathlib.Core.Path.{sym, ap, _∙_}
 use Rattle.tree_body.specs.declared.TreeHead.{TreeHead}
 use Rattle.link_find.specs.Find.{ordered}
 use Rattle.load_trees.specs.Trees.{headBody}
-use Rattle.house_ids.specs.Ids.{bodyIds}
+use Rattle.house_text.specs.Text.{bodyIds}
 use borrow.Author.Needs.{needs}
-use Rattle.house_ids.proofs.tree_ids.Statement.{statement}
-use Rattle.house_ids.proofs.tree_ids.Tie as tie
+use Rattle.house_text.proofs.tree_ids.Statement.{statement}
+use Rattle.house_text.proofs.tree_ids.Tie as tie
 
 tree-head-requires : tie.Need-tree-head-requires
 tree-head-requires c κs = search needs
