@@ -27,6 +27,7 @@ use Rattle.walk.specs.declared.Walked.{Walked}
 use Rattle.walk.proofs.Demand.{walk-demand₃}
 use Rattle.larsavim.specs.Accepts.{acceptsSaid, AcceptTells, no-room, told}
 use Rattle.shown_accepts.proofs.Accepts.{accepts-said}
+use Rattle.written_models.proofs.Numbers.{refused-number}
 use Rattle.promises.proofs.Moved.{moved₂}
 use Rattle.promises.specs.Accepting.{AfterAccepts, short-out, judged, Retargeted, stays, moves, Rechosen, rechosen}
 
@@ -40,16 +41,6 @@ accepts-kept {s} {t} {R} {out} (told h a b) = moved₂ (AfterAccepts s t R out) 
 
 clash : {A : Type 0} → _≡_ {A = ℕ} 0 1 → A
 clash e = absurd (omega arith)
-
--- a number that linking gives
-refused-number : {qs : List Question} {b : Body} {c k : ℕ} → Refused qs b c k → (20 < c) × (c < 24)
-refused-number (Refused.single s) = (omega arith, omega arith)
-refused-number (Refused.lines o h f g) = fault-number f
-  where
-    fault-number : {qs : List Question} {ls : List Line} {l : Line} {c : ℕ} → Fault qs ls l c → (20 < c) × (c < 24)
-    fault-number (L.Fault.yes-undeclared u) = (omega arith, omega arith)
-    fault-number (L.Fault.no-undeclared u w) = (omega arith, omega arith)
-    fault-number (L.Fault.not-asked u w z) = (omega arith, omega arith)
 
 record Same (c p k c′ p′ k′ : ℕ) : Type 0 where
   number : c ≡ c′

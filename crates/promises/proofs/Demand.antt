@@ -21,21 +21,7 @@ use Rattle.load_shared.specs.Beside.{rowsOf}
 use Rattle.face_shared.specs.Answers.{heldAt, sideAt}
 use Rattle.promises.specs.Loading.{zeroed, refusedNumbers, LoadEnds, AfterLoad}
 use Rattle.promises.specs.Sharing.{needed, zeroWork, boundsAfter, BesideEnds, SharedEnds, AfterShared, AfterUnload}
-use Rattle.promises.proofs.Walked.{no-model-number}
-
--- linking's numbers
-fault-number : {qs : List Question} {ls : List Line} {l : Line} {c : ℕ} → Fault qs ls l c → (20 < c) × (c ≤ 23)
-fault-number (Fault.yes-undeclared a) = (omega arith, omega arith)
-fault-number (Fault.no-undeclared a b) = (omega arith, omega arith)
-fault-number (Fault.not-asked a b c) = (omega arith, omega arith)
-
-refused-number : {qs : List Question} {t : Body} {c k : ℕ} → Refused qs t c k → (20 < c) × (c ≤ 23)
-refused-number (Refused.single a) = (omega arith, omega arith)
-refused-number (Refused.lines o n f g) = fault-number f
-
-linking-number : {qs : List Question} {ts : List Tree} {c i k : ℕ} → ModelRefused qs ts c i k → (20 < c) × (c ≤ 23)
-linking-number (ModelRefused.here r) = refused-number r
-linking-number (ModelRefused.later x r) = linking-number r
+use Rattle.written_models.proofs.Numbers.{linking-number, no-model-number}
 
 -- ---- larsavim_load
 
@@ -51,7 +37,7 @@ load-by-number {s} {h} {m} {t} (AfterLoad.ended a x) = go x
   where
     go : {l : List ℕ} {u : Tables} → LoadEnds s h m t l u → ByNumber t (getD l 0 0) u
     go (LoadEnds.loaded a b c) = ByNumber.done
-    go (LoadEnds.no-model {n = c} n l) = ByNumber.as-before {r = c} (no-model-number n) (omega arith)
+    go (LoadEnds.no-model {n = c} n l) = ByNumber.as-before {r = c} (omega (arith, no-model-number n .0)) (omega arith)
     go (LoadEnds.no-room a b) = ByNumber.as-before {r = 20} (omega arith) (omega arith)
     go (LoadEnds.unlinked {x = x} a b c) = let k = linking-number c in ByNumber.zero x (k .0) (k .1)
 
@@ -76,7 +62,7 @@ shared-by-number {s} {h} {m} {d} {held} {other} {t} (AfterShared.ended a b c x) 
     loaded-so : {l : List ℕ} {u : Tables} → BesideEnds (sideAt d) s h m (heldAt other) t l u → SharedByNumber d held t (getD l 0 0) (boundsAfter l held) u
     loaded-so (BesideEnds.loaded a b c) = SharedByNumber.done
     loaded-so (BesideEnds.no-model {n = n} {p = p} {k = k} x l) =
-        let z = no-model-number x in kept-bounds (refusedNumbers n p k) z (SharedByNumber.as-before {r = n} z (inl (omega arith)))
+        let z : 0 < n = omega (arith, no-model-number x .0) in kept-bounds (refusedNumbers n p k) z (SharedByNumber.as-before {r = n} z (inl (omega arith)))
     loaded-so (BesideEnds.no-room a b) = kept-bounds (refusedNumbers 20 0 0) (omega arith) (SharedByNumber.as-before {r = 20} (omega arith) (inl (omega arith)))
     loaded-so (BesideEnds.unlinked {y = y} {n = n} {i = i} {k = k} a b c) =
         let z = linking-number c in kept-bounds (refusedNumbers n i k) (omega (arith, z .0)) (SharedByNumber.zero y (z .0) (z .1))

@@ -8,3 +8,7 @@ module _ {A B : Type 0} (P : A → B → Type 0) where
 module _ {A B C : Type 0} (P : A → B → C → Type 0) where
   pub moved₃ : {a a′ : A} {b b′ : B} {c c′ : C} → a ≡ a′ → b ≡ b′ → c ≡ c′ → P a′ b′ c′ → P a b c
   moved₃ {a} {a′} {b} {b′} {c} {c′} p q r x = subst (λ (y : A). P y b c) (sym p) (moved₂ (P a′) q r x)
+
+module _ {A B C D : Type 0} (P : A → B → C → D → Type 0) where
+  pub moved₄ : {a a′ : A} {b b′ : B} {c c′ : C} {d d′ : D} → a ≡ a′ → b ≡ b′ → c ≡ c′ → d ≡ d′ → P a′ b′ c′ d′ → P a b c d
+  moved₄ {a} {a′} {b} {b′} {c} {c′} {d} {d′} p q r s x = subst (λ (y : A). P y b c d) (sym p) (moved₃ (P a′) q r s x)

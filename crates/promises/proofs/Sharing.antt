@@ -23,13 +23,8 @@ use Rattle.larsavim.specs.Face.{rowsNumbers}
 use Rattle.larsavim.specs.Sharing.{heldLeft, LoadShares, UnloadTells}
 use Rattle.promises.specs.Opening.{recordWords}
 use Rattle.promises.specs.Sharing.{Standing, BesideEnds, SharedEnds, AfterShared, AfterUnload}
-use Rattle.promises.proofs.Moved.{moved₃}
+use Rattle.promises.proofs.Moved.{moved₃, moved₄}
 use Rattle.promises.proofs.Beside.{beside-ends, words-said}
-
-module _ {A B C D : Type 0} (P : A → B → C → D → Type 0) where
-  moved₄ : {a a′ : A} {b b′ : B} {c c′ : C} {d d′ : D} → a ≡ a′ → b ≡ b′ → c ≡ c′ → d ≡ d′ → P a′ b′ c′ d′ → P a b c d
-  moved₄ {a} {a′} {b} {b′} {c} {c′} {d} {d′} p q r s x =
-      subst (λ (y : A). P y b c d) (sym p) (subst (λ (y : B). P a′ y c d) (sym q) (subst (λ (y : C). P a′ b′ y d) (sym r) (subst (P a′ b′ c′) (sym s) x)))
 
 -- the test of the side and of the bounds
 standing-is : (d : ℕ) (mine other : Held) (t : Tables) → standing d mine other t ≡ true → Standing d mine other t

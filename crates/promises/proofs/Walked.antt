@@ -10,11 +10,11 @@ use Rattle.written.specs.Record as record-of
 use Rattle.written.specs.HeaderText.{Range}
 use Rattle.written.specs.Said as said
 use Rattle.written.specs.Said.{Layout, Question, Tree}
-use Rattle.written.specs.Linking.{Nth, here, there, Row, Records, Refused, Fault}
+use Rattle.written.specs.Linking.{Nth, here, there, Row, Records}
 use Rattle.written.specs.Tables.{TreeRows, ModelRefused, folded}
 use Rattle.written.specs.Models as models
-use Rattle.written.specs.Models.{Unplaced}
-use Rattle.written.specs.Loading.{ModelSaid, ReadsModel, NoModel, Unread, Unloaded}
+use Rattle.written.specs.Loading.{ModelSaid, ReadsModel}
+use Rattle.written_models.proofs.Numbers.{linking-number, no-model-number}
 use Rattle.written.specs.Walks.{Ending, limit, nothing, Written, isYes}
 use Rattle.written.proofs.Link.{records-linked}
 use Rattle.written.proofs.Walk.{written-once}
@@ -113,43 +113,6 @@ module _ {s : List ℕ} {h : record-of.Header} {m : models.Model} {t : Tables} {
           says = u .1 ∙ ap (sets out 0) e;
         }
 
--- ---- the numbers of refusals
-
-fault-number : {qs : List Question} {ls : List said.Line} {l : said.Line} {c : ℕ} → Fault qs ls l c → 20 < c
-fault-number (Fault.yes-undeclared a) = omega arith
-fault-number (Fault.no-undeclared a b) = omega arith
-fault-number (Fault.not-asked a b c) = omega arith
-
-refused-number : {qs : List Question} {t : said.Body} {c k : ℕ} → Refused qs t c k → 20 < c
-refused-number (Refused.single a) = omega arith
-refused-number (Refused.lines o n f g) = fault-number f
-
-pub unlinked-number : {qs : List Question} {ts : List Tree} {c i k : ℕ} → ModelRefused qs ts c i k → 20 < c
-unlinked-number (ModelRefused.here r) = refused-number r
-unlinked-number (ModelRefused.later x r) = unlinked-number r
-
-unplaced-number : {s : List ℕ} {h : record-of.Header} {m : models.Model} {n : ℕ} → Unplaced s h m n → 0 < n
-unplaced-number (Unplaced.no-name o n) = omega arith
-unplaced-number (Unplaced.no-position o n u) = omega arith
-unplaced-number (Unplaced.no-stream o n p u) = omega arith
-unplaced-number (Unplaced.no-gv e g) = omega arith
-
-unloaded-number : {s : List ℕ} {h : record-of.Header} {x : said.Text} {r : Range} {w n p k : ℕ} → Unloaded widening s h x r w n p k → 0 < n
-unloaded-number (Unloaded.negative a) = omega arith
-unloaded-number (Unloaded.block-outside a b) = omega arith
-unloaded-number (Unloaded.no-block a b c) = omega arith
-unloaded-number (Unloaded.unlinked a b c d) = let u = unlinked-number d in omega (arith, u)
-
-unread-number : {s : List ℕ} {h : record-of.Header} {a b : Range} {w n p k : ℕ} → Unread widening s h a b w n p k → 0 < n
-unread-number (Unread.wide a) = omega arith
-unread-number (Unread.text-outside a b) = omega arith
-unread-number (Unread.breaks a b c) = omega arith
-unread-number (Unread.said a b c d) = unloaded-number d
-
-pub no-model-number : {s : List ℕ} {h : record-of.Header} {m : models.Model} {n p k : ℕ} → NoModel widening s h m n p k → 0 < n
-no-model-number (NoModel.unplaced u) = unplaced-number u
-no-model-number (NoModel.placed p u) = unread-number u
-
 -- ---- an opening and a load that answered 0
 
 pub opened-zero : {s w out w′ o : List ℕ} → Bytes s → {r : ℕ} → AfterOpen s w out r w′ o → r ≡ 0 → (h : record-of.Header) × record-of.Says s h × (647 ≤ length w) × (w′ ≡ sets w 0 (recordWords h))
@@ -176,9 +139,9 @@ loaded-zero {s} {h} {m} {t} {out = out} (ended a x) e = go x e
     go : {l : List ℕ} {u : Tables} → LoadEnds s h m t l u → getD l 0 0 ≡ 0 → LoadedZero s h m t out u (sets out 0 l)
     go (loaded {x = x} {l = l} {trees = trees} {records = records} a b c) e =
         record { x = x; l = l; trees = trees; records = records; read = a; room = b; rows = c; tables = refl; says = refl }
-    go (LoadEnds.no-model n l) e = absurd (let k = no-model-number n in omega (arith, k, e))
+    go (LoadEnds.no-model n l) e = absurd (omega (arith, no-model-number n .0, e))
     go (no-room a b) e = absurd (omega (arith, e))
-    go (unlinked a b c) e = absurd (let k = unlinked-number c in omega (arith, k, e))
+    go (unlinked a b c) e = absurd (omega (arith, linking-number c .0, e))
 
 -- ---- the three calls
 

@@ -13,45 +13,11 @@ use Rattle.written.specs.Models.{Model, Models, Unplaced}
 use Rattle.written.specs.Loading.{ModelSaid, Unloaded, Unread, NoModel}
 use Rattle.written.specs.House.{ModelBreaks, FirstBreaks, HouseVoice, VoiceBreaks, SaysModel, FirstRefused, Judges, JudgesFile}
 use Rattle.written_models.proofs.Openings.{refused-low}
+use Rattle.written_models.proofs.Numbers.{no-model-number}
 
 -- ---- a load's numbers
 
-fault-number : {qs : List Question} {ls : List Line} {l : Line} {c : ℕ} → Fault qs ls l c → (12 ≤ c) × (c ≤ 23)
-fault-number (yes-undeclared a) = (omega arith, omega arith)
-fault-number (no-undeclared a b) = (omega arith, omega arith)
-fault-number (not-asked a b c) = (omega arith, omega arith)
-
-refused-number : {qs : List Question} {t : Body} {c k : ℕ} → Refused qs t c k → (12 ≤ c) × (c ≤ 23)
-refused-number (Refused.single a) = (omega arith, omega arith)
-refused-number (Refused.lines n h f b) = fault-number f
-
-linking-number : {qs : List Question} {ts : List Tree} {c i k : ℕ} → ModelRefused qs ts c i k → (12 ≤ c) × (c ≤ 23)
-linking-number (ModelRefused.here r) = refused-number r
-linking-number (ModelRefused.later w r) = linking-number r
-
-unplaced-number : {s : List ℕ} {h : Header} {m : Model} {n : ℕ} → Unplaced s h m n → (12 ≤ n) × (n ≤ 23)
-unplaced-number (Unplaced.no-name o n) = (omega arith, omega arith)
-unplaced-number (Unplaced.no-position o n u) = (omega arith, omega arith)
-unplaced-number (Unplaced.no-stream o n p u) = (omega arith, omega arith)
-unplaced-number (Unplaced.no-gv e g) = (omega arith, omega arith)
-
 module _ {widen : ℕ → ℕ} {s : List ℕ} {h : Header} where
-  unloaded-number : {x : Text} {r : Range} {w n p k : ℕ} → Unloaded widen s h x r w n p k → (12 ≤ n) × (n ≤ 23)
-  unloaded-number (Unloaded.negative a) = (omega arith, omega arith)
-  unloaded-number (Unloaded.block-outside a o) = (omega arith, omega arith)
-  unloaded-number (Unloaded.no-block a o b) = (omega arith, omega arith)
-  unloaded-number (Unloaded.unlinked a o b r) = linking-number r
-
-  unread-number : {t b : Range} {w n p k : ℕ} → Unread widen s h t b w n p k → (12 ≤ n) × (n ≤ 23)
-  unread-number (Unread.wide a) = (omega arith, omega arith)
-  unread-number (Unread.text-outside a o) = (omega arith, omega arith)
-  unread-number (Unread.breaks a i b) = (omega arith, omega arith)
-  unread-number (Unread.said a i y u) = unloaded-number u
-
-  pub no-model-number : {m : Model} {n p k : ℕ} → NoModel widen s h m n p k → (12 ≤ n) × (n ≤ 23)
-  no-model-number (NoModel.unplaced u) = unplaced-number u
-  no-model-number (NoModel.placed p u) = unread-number u
-
   first-number : {ms : List Model} {n p l k : ℕ} → FirstRefused (SaysModel widen s h) (NoModel widen s h) ms n p l k → (12 ≤ n) × (n ≤ 23)
   first-number (FirstRefused.here r) = no-model-number r
   first-number (FirstRefused.later a r) = first-number r

@@ -15,22 +15,11 @@ use Rattle.written.proofs.Once.{says-once}
 use Rattle.written.proofs.OneFile.{says-one}
 use Rattle.written.proofs.ApartFile.{says-never, refused-one}
 use Rattle.written.proofs.Link.{refused-no-records, refused-once}
+use Rattle.written.proofs.ModelOnce.{model-refused-once, model-never-both}
 use Rattle.written_total.proofs.Broken.{breaks-once, breaks-silent}
 use Rattle.written_models.proofs.OneModel.{placed-one, placed-never, unplaced-one, models-one}
 use Rattle.written_house.proofs.Housed.{judges-one}
 use Rattle.written_house.proofs.HouseModels.{says-model-one, model-text}
-
--- ---- linking
-
-pub model-refused-once : {qs : List Question} {ts : List Tree} {c i k d j l : ℕ} → ModelRefused qs ts c i k → ModelRefused qs ts d j l → (c ≡ d) × (i ≡ j) × (k ≡ l)
-model-refused-once (ModelRefused.here a) (ModelRefused.here b) = let e = refused-once a b in (e .0, refl, e .1)
-model-refused-once (ModelRefused.here a) (ModelRefused.later r b) = absurd (refused-no-records a r)
-model-refused-once (ModelRefused.later r a) (ModelRefused.here b) = absurd (refused-no-records b r)
-model-refused-once (ModelRefused.later r a) (ModelRefused.later q b) = let e = model-refused-once a b in (e .0, ap suc (e .1), e .2)
-
-pub model-linked-never : {qs : List Question} {f c i k : ℕ} {ts : List Tree} {trees records : List Row} → TreeRows qs f ts trees records → ModelRefused qs ts c i k → ⊥
-model-linked-never (TreeRows.more s r l w) (ModelRefused.here a) = refused-no-records a r
-model-linked-never (TreeRows.more s r l w) (ModelRefused.later q a) = model-linked-never w a
 
 -- ---- a load is refused in one way, or done
 
@@ -95,7 +84,7 @@ module _ {widen : ℕ → ℕ} {s : List ℕ} {h : Header} where
       go (Unloaded.negative n) = model-text a .natural n
       go (Unloaded.block-outside n o) = o (a .reads .block-inside)
       go (Unloaded.no-block n i f) = f (x .rows) (x .values) (a .reads .block-says)
-      go (Unloaded.unlinked n i f l) = model-linked-never (a .linked) l
+      go (Unloaded.unlinked n i f l) = model-never-both (a .linked) l
 
   pub model-never : {m : Model} {x : ModelSaid} {n p k : ℕ} → SaysModel widen s h m x → NoModel widen s h m n p k → ⊥
   model-never a (NoModel.unplaced u) = placed-never (a .reads .placed) u

@@ -3,3 +3,4 @@ pub mod Named
 pub mod LongerModels
 pub mod OneModel
 pub mod Openings
+pub mod Numbers
