@@ -1,15 +1,16 @@
 -- The laws of windows: the first of a list, marks in a slice, names in a slice, and what a window says of its lines.
 use mathlib.Core.Path.{_≡_, refl, sym, ap, ap₂, _∙_, subst}
-use mathlib.Core.Bool.{Bool, true, false, cond, _||_}
+use mathlib.Core.Bool.{Bool, true, false, cond, _&&_, _||_}
 use mathlib.Core.List.{List, [], _∷_}
 use Prim.Native.Nat.{ℕ, zero, suc, _+_, _-_, _*_, _≤_, _<_}
 use native.Mathlib.Decide.{decLt, ℕ-discrete}
 use native.Mathlib.Numerals.{add-one}
 use native.Mathlib.Omega.{arith}
-use borrow.Author.Tests.{lt-ltb, le-ltb}
-use lib.ListN.{length, getD, set, drop, length-set, replicate}
-use lib.Seq.{getD-set-same, getD-set-other}
-use Rattle.written.specs.Bytes.{same}
+use borrow.Author.Tests.{lt-ltb, le-ltb, leb-true}
+use lib.Dec.{leb}
+use lib.ListN.{length, getD, set, drop, length-set, length-drop, replicate}
+use lib.Seq.{getD-set-same, getD-set-other, length-take-le}
+use Rattle.written.specs.Bytes.{same, part}
 use Rattle.written.specs.Said.{QuestionPlace}
 use Rattle.written.specs.Linking.{Nth, here, there}
 use Rattle.written.specs.Walks.{isYes}
@@ -25,6 +26,7 @@ use Rattle.tree_survey_lines.specs.declared.LineCount.the-variants as count
 use Rattle.tree_survey_lines.proofs.Counting.{items-next, items-last, items-broken, next-in, counted, not-counted}
 use Rattle.link_order.specs.Keys.{partOr}
 use Rattle.link_search.specs.declared.Found.{Found}
+use Rattle.link_search.proofs.Ids.{true-same}
 use Rattle.link_search.specs.declared.Found.the-variants.{At, Nothing}
 use Rattle.link_find.specs.Find.{lastFrom, named, asked}
 use Rattle.link_find.proofs.Finding.{Named, hit}
@@ -34,6 +36,7 @@ use Rattle.link_window.specs.Windows.{firstFrom, FirstOf, off, none, nam
 use Rattle.link_window.specs.declared.Linking.{Linking}
 use Rattle.link_window.specs.declared.Linking.the-variants.{Whole, NodeRef, QuestionRef}
 use Rattle.link_window.specs.declared.Filled.the-variants.{More, All}
+use Rattle.link_window.specs.declared.Window.{Window}
 use Rattle.link_window.specs.declared.Window.the-variants.{Missing, Next, Clean}
 
 -- ---- tests joined by or
@@ -451,3 +454,32 @@ module _ (s : List ℕ) (qs : List QuestionPlace) (i : ℕ) where
   pub braces-broken : count.Broken ≡ linesCounted 0 0 (linesAt s i) → Whole ≡ faultBraces s qs (linesAt s i)
   unfolding faultBraces
   braces-broken h = sym (ap (faultEnding s qs (linesAt s i .items)) (not-counted s i h .1))
+
+-- ---- how far the windows still have to go
+
+abbrev pub roomBehind : ℕ → Window → ℕ
+roomBehind n (Next j) = suc (n - j)
+roomBehind n (Missing j) = 0
+roomBehind n Clean = 0
+
+pub window-less : {s : List ℕ} {qs : List QuestionPlace} {i : ℕ} {w : Window} → Windowed s qs i w → i ≤ length s → roomBehind (length s) w < suc (length s - i)
+window-less (missing a b c d) h = omega arith
+window-less (next a b c d e) h = omega arith
+window-less (clean a) h = omega arith
+
+-- ---- a name of another length
+
+pub other-length : (s w : List ℕ) (b n : ℕ) → 0 < length w → ¬ (length w ≡ n) → false ≡ same w (partOr s b n)
+unfolding partOr
+other-length s w b n p h = go (same w (cond (leb b (length s) && leb n (length s - b)) (part s b n) [])) refl
+  where
+    never : (c d : Bool) → leb b (length s) ≡ c → leb n (length s - b) ≡ d → w ≡ cond (c && d) (part s b n) [] → ⊥
+    never true true f g e =
+        let l : length (part s b n) ≡ n = length-take-le n (drop b s) (omega (arith, leb-true b (length s) f, leb-true n (length s - b) g, length-drop b s)) in
+        h (ap length e ∙ l)
+    never true false f g e = let z : length w ≡ 0 = ap length e in omega arith
+    never false d f g e = let z : length w ≡ 0 = ap length e in omega arith
+
+    go : (c : Bool) → same w (cond (leb b (length s) && leb n (length s - b)) (part s b n) []) ≡ c → false ≡ c
+    go false e = refl
+    go true e = absurd (never (leb b (length s)) (leb n (length s - b)) refl refl (true-same w _ e))

@@ -104,6 +104,20 @@ fn met_after(before: u8, hit: bool) -> u8
     if hit { 1 } else { before }
 }
 
+// Whether name j is this one. Most names are of another length, and need not be cut out of the text.
+fn is_name(s: &[u8], names: &[u64], j: usize, name: &[u8]) -> bool
+    requires { ⌜ 2 * j + 1 < length (now names) ⌝ }
+    ensures { λ r. ⌜ r ≡ same (now (name .entry)) (nameIn (now (s .entry)) (now (names .entry)) j) ⌝ }
+{
+    let len = names[2 * j + 1];
+    if 0 < name.len() {
+        if name.len() as u64 != len {
+            return false;
+        }
+    }
+    same_name(name, part_or(s, names[2 * j], len))
+}
+
 // Those of the first n names that are this one.
 fn mark(s: &[u8], names: &[u64], met: &mut [u8], n: usize, name: &[u8])
     requires { ⌜ (n ≤ length (now met)) × (2 * n ≤ length (now names)) ⌝ }
@@ -111,10 +125,7 @@ fn mark(s: &[u8], names: &[u64], met: &mut [u8], n: usize, name: &[u8])
 {
     let mut j = 0;
     while j < n {
-        met[j] = met_after(
-            met[j],
-            same_name(name, part_or(s, names[2 * j], names[2 * j + 1])),
-        );
+        met[j] = met_after(met[j], is_name(s, names, j, name));
         j = j + 1;
     }
 }
@@ -203,20 +214,21 @@ fn read_window(s: &[u8], at: usize, first: usize) -> Window
     }
 }
 
-// The first of the lines from `first` on whose question isn't there.
+// The first of the lines from `first` on whose question isn't there. The window is read in two places, so that its names have a frame of their own, and the text's
+// survey doesn't stand on top of them.
 pub fn first_unasked(s: &[u8], at: usize, first: usize) -> Found
     ensures { λ r. ⌜ r ≡ firstFrom (unheard (now (s .entry)) (questionsAt (now (s .entry)) at .items)) 0 (linesAt (now (s .entry)) first .items) ⌝ }
 {
-    let mut i = first;
     let mut k: u64 = 0;
+    let mut window = read_window(s, at, first);
     loop {
-        match read_window(s, at, i) {
+        match window {
             Window::Missing(j) => {
                 return Found::At(k + j);
             }
             Window::Next(next) => {
                 k = k + 32;
-                i = next;
+                window = read_window(s, at, next);
             }
             Window::Clean => {
                 return Found::Nothing;

@@ -1,7 +1,6 @@
--- `link_window::mark`: name by name.
-use mathlib.Core.Path.{_≡_, refl, sym, ap, ap₂, _∙_}
+-- `link_window::mark` : name by name.
+use mathlib.Core.Path.{_≡_, refl, sym, ap, _∙_}
 use native.Mathlib.Omega.{arith}
-use mathlib.Core.List.{List}
 use Prim.Native.Nat.{ℕ, _-_}
 use Rattle.written.specs.Bytes.{same}
 use Rattle.link_window.specs.Windows.{nameIn}
@@ -22,38 +21,14 @@ loop-holds c = marking-none _ _
 slice-read-met-after : tie.Need-slice-read-met-after Inv-loop μ-loop
 slice-read-met-after c = omega (arith, c .before .before .before .before .before .before .before .pre .0, c .before .loop-test .taken, c .before .before .loop .inv .long)
 
-mul-part-or : tie.Need-mul-part-or Inv-loop μ-loop
-mul-part-or c = search needs
-
-mul-part-or-2 : tie.Need-mul-part-or-2 Inv-loop μ-loop
-mul-part-or-2 c = search needs
-
-shared-slice-read-part-or : tie.Need-shared-slice-read-part-or Inv-loop μ-loop
-shared-slice-read-part-or c = omega (arith, c .before .before .before .before .before .before .before .before .pre .1, c .before .before .loop-test .taken)
-
-mul-part-or-3 : tie.Need-mul-part-or-3 Inv-loop μ-loop
-mul-part-or-3 c = search needs
-
-add-part-or : tie.Need-add-part-or Inv-loop μ-loop
-add-part-or c = search needs
-
-mul-part-or-4 : tie.Need-mul-part-or-4 Inv-loop μ-loop
-mul-part-or-4 c = search needs
-
-shared-slice-read-part-or-2 : tie.Need-shared-slice-read-part-or-2 Inv-loop μ-loop
-shared-slice-read-part-or-2 c = omega (arith, c .before .before .before .before .before .before .before .before .before .pre .1, c .before .before .before .loop-test .taken)
-
-part-or-requires : tie.Need-part-or-requires Inv-loop μ-loop
-part-or-requires c κs = search needs
-
-same-name-requires : tie.Need-same-name-requires Inv-loop μ-loop
-same-name-requires c κs = search needs
+is-name-requires : tie.Need-is-name-requires Inv-loop μ-loop
+is-name-requires c κs = omega (arith, c .before .before .before .before .before .before .before .pre .1, c .before .loop-test .taken)
 
 met-after-requires : tie.Need-met-after-requires Inv-loop μ-loop
 met-after-requires c κs = search needs
 
 slice-write-met : tie.Need-slice-write-met Inv-loop μ-loop
-slice-write-met c = omega (arith, c .before .before .before .before .before .before .before .before .before .before .before .before .pre .0, c .before .before .before .before .before .before .loop-test .taken, c .before .before .before .before .before .before .before .loop .inv .long)
+slice-write-met c = omega (arith, c .before .before .before .before .before .before .before .before .before .pre .0, c .before .before .before .loop-test .taken, c .before .before .before .before .loop .inv .long)
 
 add-j : tie.Need-add-j Inv-loop μ-loop
 add-j c = search needs
@@ -62,7 +37,7 @@ loop-less : tie.Need-loop-less Inv-loop μ-loop
 loop-less c = search needs
 
 loop-again : tie.Need-loop-again Inv-loop μ-loop
-loop-again c = marking-on _ (c .before .before .before .before .before .before .before .loop .inv) (omega (arith, c .before .before .before .before .before .before .before .before .before .before .before .before .pre .0, c .before .before .before .before .before .before .loop-test .taken, c .before .before .before .before .before .before .before .loop .inv .long)) (c .met-after .ensures) (c .before .same-name .ensures ∙ ap (λ (x : List ℕ). same (c .before .before .before .before .before .before .before .before .before .before .before .before .args .name .now) x) (c .before .before .part-or .ensures))
+loop-again c = marking-on _ (c .before .before .before .before .loop .inv) (omega (arith, c .before .before .before .before .before .before .before .before .before .pre .0, c .before .before .before .loop-test .taken, c .before .before .before .before .loop .inv .long)) (c .met-after .ensures) (c .before .is-name .ensures)
 
 same-length : tie.Need-same-length Inv-loop μ-loop
 same-length c = c .before .loop .inv .long
@@ -78,15 +53,7 @@ mark-spec =
     μ-loop
     loop-holds
     slice-read-met-after
-    mul-part-or
-    mul-part-or-2
-    shared-slice-read-part-or
-    mul-part-or-3
-    add-part-or
-    mul-part-or-4
-    shared-slice-read-part-or-2
-    part-or-requires
-    same-name-requires
+    is-name-requires
     met-after-requires
     slice-write-met
     add-j
