@@ -78,10 +78,28 @@ static uint64_t sum_of(struct bytes file, uint64_t end) {
     return sum;
 }
 
-/* A file without its last `less` bytes has the trailer that it should end in. */
-static void explain_rows(FILE *to, struct bytes file) {
+/* What row i says, and what it should say: `right` are the rows of a trailer that the library writes now. */
+static void explain_row(FILE *to, const struct voice *v, struct bytes right, uint64_t i, int k, uint64_t says, uint64_t is) {
+    uint64_t which = word_at(right, LARSAVIM_TRAILER_ROW * i), tree = 0;
+    for (uint64_t j = 0; j < i; j++)
+        tree += word_at(right, LARSAVIM_TRAILER_ROW * j) == which;
+    if (k == 0) {
+        fprintf(to, "row %" PRIu64 " is of model %" PRIu64 ", and should be of model %" PRIu64, i, says, is);
+        return;
+    }
+    fprintf(to, "row %" PRIu64 " says that tree %" PRIu64 " of the model ", i, tree);
+    put_model_name(to, v, which);
+    if (k == 1)
+        fprintf(to, " stands at %" PRIu64 ", and it stands at %" PRIu64, says, is);
+    else
+        fprintf(to, " has %" PRIu64 " lines, and it has %" PRIu64, says, is);
+}
+
+static void explain_rows(FILE *to, const struct voice *v) {
+    struct bytes file = v->file;
     uint64_t end = file.len - LAST, count = word_at(file, end), begin = word_at(file, end + 4), out[LARSAVIM_TRAILER_OUT], trees;
     struct bytes right;
+    uint8_t *written;
     trailer_of(file, NULL, 0, out);
     trees = (out[LARSAVIM_TRAILER_BYTES] - LAST) / LARSAVIM_TRAILER_ROW;
     if (count != trees) {
@@ -94,14 +112,13 @@ static void explain_rows(FILE *to, struct bytes file) {
         return;
     }
     right.len = out[LARSAVIM_TRAILER_BYTES];
-    right.at = lend(right.len);
-    trailer_of(file, (uint8_t *)right.at, right.len, out);
+    right.at = written = lend(right.len);
+    trailer_of(file, written, right.len, out);
     for (uint64_t i = 0; i < count && out[0] == LARSAVIM_SUCCESS; i++)
-        for (uint64_t k = 0; k < 3; k++) {
-            uint64_t says = word_at(file, begin + LARSAVIM_TRAILER_ROW * i + 4 * k), is = word_at(right, LARSAVIM_TRAILER_ROW * i + 4 * k);
+        for (int k = 0; k < 3; k++) {
+            uint64_t says = word_at(file, begin + LARSAVIM_TRAILER_ROW * i + 4 * (uint64_t)k), is = word_at(right, LARSAVIM_TRAILER_ROW * i + 4 * (uint64_t)k);
             if (says != is) {
-                static const char *const what[3] = {"is of model", "stands at", "has lines:"};
-                fprintf(to, "row %" PRIu64 " says that its tree %s %" PRIu64 ", and it is %" PRIu64, i, what[k], says, is);
+                explain_row(to, v, right, i, k, says, is);
                 give_back(right.at, right.len);
                 return;
             }
@@ -126,7 +143,7 @@ static void explain_trail(FILE *to, struct bytes file, uint64_t number, uint64_t
                 sum_of(file, file.len - 4), word_at(file, file.len - 4));
     } else if (number == LARSAVIM_TRAILER_ROWS) {
         fprintf(to, "refused (%" PRIu64 "): ", number);
-        explain_rows(to, file);
+        explain_rows(to, &v);
     } else {
         explain_text(to, &v, number, place);
     }
