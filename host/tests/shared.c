@@ -1,4 +1,4 @@
-/* shared.c: larsavim_load_shared and larsavim_unload, call by call: 02's Wish 9 by the worked example of docs/READINGS.md, and calls that the program never makes: a side that is neither,
+/* shared.c: larsavim_load_shared and larsavim_unload, and larsavim_load_tree with short slices, call by call: 02's Wish 9 by the worked example of docs/READINGS.md, and calls that the program never makes: a side that is neither,
  * slices that are too short, bounds that overlap, pass a table or come near 2^64 in any place. After each call every number that is lent is looked at. Slices stand between guards
  * where LARSAVIM_GUARD says so (host/lend.c). The words are two files: the example's voice V, and V' whose second line asks for a question that isn't there. */
 #include <stdlib.h>
@@ -257,6 +257,9 @@ static void short_slices(void) {
             expect(larsavim_load_shared(good.file.at, good.file.len, good.words, LARSAVIM_WORDS, 1, 0, held, held_len, other, other_len, s.table[0], s.len[0], s.table[1], s.len[1], s.table[2], s.len[2],
                                         s.table[3], s.len[3], s.table[4], s.len[4], s.work, s.work_len, out, out_len) == 20 && looks(&s, &i) && is_painted(at, n) && s.out[0] == 0,
                    "a short slice of a load");
+            expect(larsavim_load_tree(good.file.at, good.file.len, good.words, LARSAVIM_WORDS, 1, 0, 0, held, held_len, other, other_len, s.table[0], s.len[0], s.table[1], s.len[1], s.table[2],
+                                      s.len[2], s.table[3], s.len[3], s.table[4], s.len[4], s.work, s.work_len, out, out_len) == 20 && looks(&s, &i) && is_painted(at, n) && s.out[0] == 0,
+                   "a short slice of a tree's load");
             if (which > 0)
                 expect(larsavim_unload(0, held, held_len, other, other_len, s.table[0], s.len[0], s.table[1], s.len[1], s.table[2], s.len[2], s.table[3], s.len[3], s.table[4], s.len[4]) == 20 &&
                            looks(&s, &i) && is_painted(at, n),

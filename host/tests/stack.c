@@ -12,7 +12,7 @@
 #define STACK (1024 * 1024)
 #define PAINT 0xa5
 
-enum { CALLS = 13 };
+enum { CALLS = 14 };
 
 static uint8_t *stack;
 static ucontext_t here, there;
@@ -29,6 +29,14 @@ static int64_t depths[LARSAVIM_FILE_LIMIT / 8];
 static void call_open(void) { larsavim_open(file, file_len, words, LARSAVIM_WORDS, out, LARSAVIM_OPEN_OUT); }
 static void call_needs(void) { larsavim_model_needs(&m, file, file_len, words); }
 static void call_load(void) { larsavim_model_load(&m, file, file_len, words); }
+
+static void call_load_tree(void) {
+    static uint64_t held[LARSAVIM_BOUNDS];
+    static const uint64_t other[LARSAVIM_BOUNDS];
+    memset(held, 0, sizeof held);
+    larsavim_model_load_tree(&m, 0, LARSAVIM_TOP, held, other, file, file_len, words);
+}
+
 static void call_walk(void) { larsavim_model_walk(&m, 0, answers, larsavim_model_rows(&m, LARSAVIM_QUESTIONS), larsavim_model_rows(&m, LARSAVIM_RECORDS), out, LARSAVIM_WALK_OUT); }
 static void call_leaves(void) { larsavim_model_leaves(&m); }
 static void call_depth(void) { larsavim_model_depth(&m, 0, depths, sizeof depths / 8, out, LARSAVIM_DEPTH_OUT); }
@@ -102,6 +110,7 @@ static void measure_model(uint64_t most[CALLS]) {
     }
     m.work_lent = m.needs[LARSAVIM_NEEDS_WORK];
     m.work = room(m.work_lent);
+    keep_most(&most[10], stack_of(call_load_tree));
     keep_most(&most[2], stack_of(call_load));
     if (m.loaded[LARSAVIM_OUT_NUMBER] == LARSAVIM_SUCCESS) {
         keep_most(&most[3], stack_of(call_walk));
@@ -134,7 +143,7 @@ static void measure_file(const char *path, uint64_t most[CALLS]) {
 }
 
 int main(int argc, char **argv) {
-    static const char *const name[CALLS] = {"open", "needs", "load", "walk", "leaves", "answers", "depth", "accepts", "bare_walk", "write_needs", "write", "trailer", "trailed"};
+    static const char *const name[CALLS] = {"open", "needs", "load", "walk", "leaves", "answers", "depth", "accepts", "bare_walk", "write_needs", "write", "trailer", "trailed", "load_tree"};
     uint64_t most[CALLS] = {0};
     stack = malloc(STACK);
     if (stack == NULL)
