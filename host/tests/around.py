@@ -347,7 +347,7 @@ def rust(t):
     crate, library = os.path.join(t.ROOT, 'bindings', 'rust'), own_library(t)
     status, said = cargo(t, 'test', cwd=crate, **library)
     t.check('cargo test: %s' % said[-2000:] if status else 'cargo test', status, 0)
-    t.check('cargo test: how many', [int(n) for n in re.findall(r'test result: ok\. (\d+) passed', said) if n != '0'], [7, 1, 3, 4])
+    t.check('cargo test: how many', [int(n) for n in re.findall(r'test result: ok\. (\d+) passed', said) if n != '0'], [8, 1, 3, 4])
     status, said = cargo(t, 'build', '--examples', cwd=crate, **library)
     t.check('cargo build --examples: ' + said, status, 0)
     for path, want in (t.SAMPLE, (0, b'PDF 5\n')), (t.file_of(t.damaged(b'[STREAM]\n', b'[STRAEM]\n'), 'unsplit'), (1, b'silence (1)\n')):
