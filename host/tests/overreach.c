@@ -36,6 +36,7 @@ __typeof__(larsavim_depth) __real_larsavim_depth, __wrap_larsavim_depth;
 __typeof__(larsavim_accepts) __real_larsavim_accepts, __wrap_larsavim_accepts;
 __typeof__(larsavim_trailer) __real_larsavim_trailer, __wrap_larsavim_trailer;
 __typeof__(larsavim_trailed) __real_larsavim_trailed, __wrap_larsavim_trailed;
+__typeof__(larsavim_bare_walk) __real_larsavim_bare_walk, __wrap_larsavim_bare_walk;
 __typeof__(larsavim_write_needs) __real_larsavim_write_needs, __wrap_larsavim_write_needs;
 __typeof__(larsavim_write) __real_larsavim_write, __wrap_larsavim_write;
 
@@ -193,6 +194,14 @@ uint64_t __wrap_larsavim_depth(const uint64_t *trees, uint64_t trees_len, const 
     touch("depth.records", records, 8 * records_len);
     touch("depth.work", work, 8 * work_len);
     touch("depth.out", out, 8 * out_len);
+    return number;
+}
+
+uint64_t __wrap_larsavim_bare_walk(const uint8_t *text, uint64_t text_len, uint64_t tree, const uint8_t *answers, uint64_t answers_len, uint64_t limit, uint64_t *out, uint64_t out_len) {
+    uint64_t number = __real_larsavim_bare_walk(text, text_len, tree, answers, answers_len, limit, out, out_len);
+    touch("bare_walk.text", text, text_len);
+    touch("bare_walk.answers", answers, answers_len);
+    touch("bare_walk.out", out, 8 * out_len);
     return number;
 }
 

@@ -110,7 +110,7 @@ static void measure_model(uint64_t most[CALLS]) {
     }
     m.work_lent = m.needs[LARSAVIM_NEEDS_WORK];
     m.work = room(m.work_lent);
-    keep_most(&most[10], stack_of(call_load_tree));
+    keep_most(&most[13], stack_of(call_load_tree));
     keep_most(&most[2], stack_of(call_load));
     if (m.loaded[LARSAVIM_OUT_NUMBER] == LARSAVIM_SUCCESS) {
         keep_most(&most[3], stack_of(call_walk));

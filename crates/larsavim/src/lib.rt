@@ -559,7 +559,13 @@ pub extern "C" fn larsavim_trailed(file: &[u8], words: &mut [u64], out: &mut [u6
 
 // The walk of one tree straight over a tree text, without tables.
 #[no_mangle]
-pub extern "C" fn larsavim_bare_walk(text: &[u8], tree: u64, answers: &[u8], limit: u64, out: &mut [u64]) -> u64
+pub extern "C" fn larsavim_bare_walk(
+    text: &[u8],
+    tree: u64,
+    answers: &[u8],
+    limit: u64,
+    out: &mut [u64],
+) -> u64
     ensures { λ r. ⌜ BareTells (now (text .entry)) tree (now (answers .entry)) limit (now (out .entry)) r (now (out .exit)) ⌝ }
 {
     bare_said(text, tree, answers, limit, out)

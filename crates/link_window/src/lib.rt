@@ -185,13 +185,7 @@ fn look_up(s: &[u8], at: usize, names: &[u64], n: usize) -> Found
 {
     match first_item(s, at) {
         Item::Question(first) => first_unheard(s, first, names, n),
-        Item::Tree(_) => {
-            if n == 0 {
-                Found::Nothing
-            } else {
-                Found::At(0)
-            }
-        }
+        Item::Tree(_) => { if n == 0 { Found::Nothing } else { Found::At(0) } }
     }
 }
 

@@ -236,8 +236,13 @@ module _ {s : List ℕ} {h : record-of.Header} {m : models.Model} {t : Tables} {
       go : Agrees g (Outcome.at n k) → SameWalk out 0 (sets out 0 (0 ∷ n ∷ k ∷ [])) bare-out (g .number) (sets bare-out 0 (meterNumbers g))
       go (at c d e f j) =
           record {
-            number = 0; pdf = n; asked = k; read = min (g .lines) 18446744073709551615;
-            walk-returns = refl; walk-says = refl; bare-returns = c;
+            number = 0;
+            pdf = n;
+            asked = k;
+            read = min (g .lines) 18446744073709551615;
+            walk-returns = refl;
+            walk-says = refl;
+            bare-returns = c;
             bare-says = λ z. sets bare-out 0 (c z ∷ d z ∷ e z ∷ f z ∷ j z ∷ min (g .lines) 18446744073709551615 ∷ []);
           }
   same-walk long (walking.stopped a v) wide (short-out b) = absurd (omega arith)
@@ -247,8 +252,13 @@ module _ {s : List ℕ} {h : record-of.Header} {m : models.Model} {t : Tables} {
       go : Agrees g (refused c) → SameWalk out c (sets out 0 (c ∷ 0 ∷ 0 ∷ [])) bare-out (g .number) (sets bare-out 0 (meterNumbers g))
       go (stopped q d e f j) =
           record {
-            number = c; pdf = 0; asked = 0; read = min (g .lines) 18446744073709551615;
-            walk-returns = refl; walk-says = refl; bare-returns = q;
+            number = c;
+            pdf = 0;
+            asked = 0;
+            read = min (g .lines) 18446744073709551615;
+            walk-returns = refl;
+            walk-says = refl;
+            bare-returns = q;
             bare-says = λ z. sets bare-out 0 (q z ∷ d z ∷ e z ∷ f z ∷ j z ∷ min (g .lines) 18446744073709551615 ∷ []);
           }
 

@@ -104,7 +104,15 @@ fn go_to(s: &[u8], first: usize, index: TreeIndex) -> Goal
 // ---- line after line
 
 // From the first of n lines on. A line met after as many questions as there are lines was met before: the walk goes round, and whatever the limit is, it is met.
-fn follow(s: &[u8], at: usize, first: usize, n: u64, answers: &[u8], limit: u64, begin: Line) -> Walked
+fn follow(
+    s: &[u8],
+    at: usize,
+    first: usize,
+    n: u64,
+    answers: &[u8],
+    limit: u64,
+    begin: Line,
+) -> Walked
     requires { ⌜ (n ≡ length (linesAt (now s) first .items)) × Nth (linesAt (now s) first .items) 0 begin ⌝ }
     ensures { λ r. ⌜ r ≡ walkFrom (meetsIn (now (s .entry)) (questionsAt (now (s .entry)) at .items) (now (answers .entry)) (linesAt (now (s .entry)) first .items)) limit 0 ⌝ }
 {
