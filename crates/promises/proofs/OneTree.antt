@@ -27,9 +27,11 @@ use Rattle.load_plan.specs.Plans.{dataOf, planned}
 use Rattle.load_plan.specs.declared.Plan.{Plan}
 use Rattle.load_plan.specs.declared.Planned.the-variants.{Model}
 use Rattle.load_model.specs.Load.{Tables, After}
+use Rattle.load_model.specs.declared.Loaded.{Loaded}
 use Rattle.load_shared.specs.Beside.{rowsOf, roomBy}
 use Rattle.trail_load.specs.Load.{treeBeside}
 use Rattle.face_model.specs.declared.Rows.{Rows}
+use Rattle.face_model.specs.Answers.{rowsBy}
 use Rattle.face_load.specs.Answers.{Filled, filledBy, untouched}
 use Rattle.face_shared.specs.Answers.{heldAt, sideAt, standing}
 use Rattle.face_tree.specs.Answers.{treeFilledIn, treeFilledOf, treeSharedOf}
@@ -98,7 +100,7 @@ module _ {s : List ℕ} (bytes : Bytes s) {h : record-of.Header} (says : record-
         pub after : After
         pub stored : BesideAsFull K (sideAt d) k P T after
         pub tables : T₁ ≡ after .tables
-        pub number : r ≡ filledBy after .rows .number
+        pub zero : r ≡ 0
         pub bounds : held₁ ≡ heldLeft (filledBy after .rows) held
         pub told : out₁ ≡ sets out 0 (rowsNumbers (filledBy after .rows))
 
@@ -114,12 +116,13 @@ module _ {s : List ℕ} (bytes : Bytes s) {h : record-of.Header} (says : record-
           let v : treeSharedOf s W N k d (heldAt held) (heldAt other) T ≡ filledBy Y =
           ap (λ (o : Bool). cond o (untouched 29 T) (cond (standing d (heldAt held) (heldAt other) (rowsOf T)) (treeFilledOf s W N k (sideAt d) (heldAt other) T) (untouched 24 T))) free
           ∙ ap (λ (o : Bool). cond o (treeFilledOf s W N k (sideAt d) (heldAt other) T) (untouched 24 T)) stands ∙ tree-words-said s m k (sideAt d) (heldAt other) T w h enough in
+          let D = tree-as-full t (sideAt d) (heldAt other) T room in
           let y : z ≡ filledBy Y .rows = u .0 ∙ ap (λ (o : Filled). o .rows) v in
           record {
             after = Y;
-            stored = tree-as-full t (sideAt d) (heldAt other) T room;
+            stored = D;
             tables = u .1 ∙ ap (λ (o : Filled). o .tables) v;
-            number = e ∙ ap (λ (o : Rows). o .number) y;
+            zero = e ∙ ap (λ (o : Rows). o .number) y ∙ ap (λ (o : After). rowsBy (o .answer) .number) (D .placed) ∙ ap (λ (o : Loaded). rowsBy o .number) (D .stored .counts);
             bounds = f ∙ ap (λ (o : Rows). heldLeft o held) y;
             told = g ∙ ap (λ (o : Rows). sets out 0 (rowsNumbers o)) y;
           }
