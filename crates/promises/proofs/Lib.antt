@@ -21,3 +21,4 @@ pub mod Accepting
 pub mod Trailing
 pub mod Longer
 pub mod Metering
+pub mod Trees

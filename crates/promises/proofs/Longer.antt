@@ -9,10 +9,10 @@ use lib.Seq.{sets}
 use Rattle.written.specs.HeaderText.{Range}
 use Rattle.written.specs.Record.{Header, Says, file-limit}
 use Rattle.written.specs.Blocks as block
-use Rattle.written.specs.Said.{Text, Layout, Question, Body, Line, Tree}
+use Rattle.written.specs.Said.{Text, Layout}
 use Rattle.written.specs.TreeText as tree
 use Rattle.written.specs.Breaks.{Breaks}
-use Rattle.written.specs.Linking.{Row, Refused, Fault}
+use Rattle.written.specs.Linking.{Row}
 use Rattle.written.specs.Tables.{TreeRows, ModelRefused}
 use Rattle.written.specs.Models.{Model, modelNumber, dataOf, Within, Placed, Unplaced}
 use Rattle.written.specs.Loading.{ModelSaid, ReadsModel, Unloaded, Unread, NoModel}
@@ -22,6 +22,7 @@ use Rattle.written.proofs.OneBlock.{block-one}
 use Rattle.written.proofs.OneFile.{says-one}
 use Rattle.written.proofs.ModelOnce.{model-rows-once, model-refused-once, model-never-both}
 use Rattle.written_total.proofs.Broken.{breaks-silent}
+use Rattle.written_models.proofs.Numbers.{linking-number}
 use Rattle.written_models.proofs.OneModel.{placed-one, placed-never}
 use Rattle.written_models.proofs.Longer.{longer-opens}
 use Rattle.written_models.proofs.LongerModels.{placed-longer, unplaced-longer, inside-longer, front-longer, block-longer}
@@ -35,19 +36,6 @@ use Rattle.promises.proofs.Opening.{open-kept, after-open-once}
 use Rattle.promises.proofs.Front.{record-said, then-load}
 
 -- ---- one outcome of a load
-
-fault-number : {qs : List Question} {ls : List Line} {l : Line} {c : ℕ} → Fault qs ls l c → 20 < c
-fault-number (Fault.yes-undeclared a) = omega arith
-fault-number (Fault.no-undeclared a b) = omega arith
-fault-number (Fault.not-asked a b c) = omega arith
-
-refused-number : {qs : List Question} {t : Body} {c k : ℕ} → Refused qs t c k → 20 < c
-refused-number (Refused.single a) = omega arith
-refused-number (Refused.lines o n f g) = fault-number f
-
-linking-number : {qs : List Question} {ts : List Tree} {c i k : ℕ} → ModelRefused qs ts c i k → 20 < c
-linking-number (ModelRefused.here r) = refused-number r
-linking-number (ModelRefused.later x r) = linking-number r
 
 said-path : {x y : ModelSaid} → x .text ≡ y .text → x .rows ≡ y .rows → x .width ≡ y .width → x .values ≡ y .values → x ≡ y
 said-path a b c d = λ i. record { text = a i; rows = b i; width = c i; values = d i }
@@ -72,7 +60,7 @@ module _ {s : List ℕ} {h : Header} where
       go (Unloaded.negative g) f = a .natural g
       go (Unloaded.block-outside g o) f = o (a .block-inside)
       go (Unloaded.no-block g i e) f = e (x .rows) (x .values) (a .block-says)
-      go (Unloaded.unlinked g i e r) f = omega (arith, linking-number r, f)
+      go (Unloaded.unlinked g i e r) f = omega (arith, linking-number r .0, f)
 
   reads-never : {m : Model} {x : ModelSaid} {l : Layout} {n p k : ℕ} → ReadsModel widening s h m x l → NoModel widening s h m n p k → n ≤ 19 → ⊥
   reads-never a (NoModel.unplaced u) f = placed-never (a .placed) u

@@ -42,7 +42,7 @@ read-window-requires-2 : tie.Need-read-window-requires-2 Inv-loop μ-loop
 read-window-requires-2 c κs = search needs
 
 loop-less : tie.Need-loop-less Inv-loop μ-loop
-loop-less c = 
+loop-less c =
     let v = c .before .before .before .before .loop .inv in
     let s = c .before .before .before .before .before .before .before .args .s .now in
     subst (λ (w : Window). roomBehind (length s) (c .read-window2 .result) < roomBehind (length s) w) (sym (c .before .before .window2 .given .1)) (window-less (c .read-window2 .ensures) (going-up _ _ _ (v .1) (v .2) (c .before .before .window2 .given .1) .1))
