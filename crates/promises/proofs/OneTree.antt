@@ -55,7 +55,7 @@ short (inr (inl h)) x y z = omega arith
 short (inr (inr h)) x y z = omega arith
 
 -- what is said of the words of a record is said of the record
-tree-words-said : (s : List ℕ) (m : models.Model) (k : ℕ) (x : Side) (other : Held) (t : Tables) (w : List ℕ) (h : record-of.Header) → 647 ≤ length w
+pub tree-words-said : (s : List ℕ) (m : models.Model) (k : ℕ) (x : Side) (other : Held) (t : Tables) (w : List ℕ) (h : record-of.Header) → 647 ≤ length w
     → treeFilledOf s (sets w 0 (recordWords h)) (models.modelNumber m) k x other t ≡ filledBy (treeBeside x s (headerRecord h) (whichOf m) (models.modelNumber m) k other t)
 unfolding treeFilledOf
 tree-words-said s m k x other t w h enough =
@@ -63,7 +63,7 @@ tree-words-said s m k x other t w h enough =
     ∙ ap₂ (λ (r : Header) (n : Which). filledBy (treeBeside x s r n (models.modelNumber m) k other t)) (record-back w h enough) (which-number m)
 
 module _ {s : List ℕ} (bytes : Bytes s) {h : record-of.Header} (says : record-of.Says s h) (m : models.Model) where
-  within : length s < 2 ^ 63
+  pub within : length s < 2 ^ 63
   within = let l = says .fits in omega arith
 
   -- the text of a plan

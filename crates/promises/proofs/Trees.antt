@@ -19,14 +19,19 @@ use Rattle.written_models.proofs.Openings.{refused-low}
 use Rattle.written_trailer.proofs.TrailerExactly.{finds-zero}
 use Rattle.error.specs.Numbers.{numberOf}
 use Rattle.error.specs.declared.Refusal.{Refusal}
+use Rattle.error.specs.declared.Refusal.the-variants as refusal
 use Rattle.head_record.specs.Record.{headerRecord}
 use Rattle.head_de.proofs.Sound.{Bytes}
 use Rattle.head_words.specs.Words.{headerAt}
-use Rattle.load_model.specs.Load.{Tables, After}
+use Rattle.load_plan.specs.Plans.{dataOf}
+use Rattle.load_plan.specs.declared.Planned.{Planned}
+use Rattle.load_plan.specs.declared.Planned.the-variants as plan
+use Rattle.load_model.specs.Load.{Tables, After, untouched as lent-as-before}
 use Rattle.load_model.specs.declared.Loaded.{Loaded}
 use Rattle.load_model.specs.declared.Loaded.the-variants as loaded
 use Rattle.load_shared.specs.Beside.{rowsOf, roomBy}
-use Rattle.trail_load.specs.Load.{treeBeside}
+use Rattle.trail_plan.specs.Plans.{treePlanned}
+use Rattle.trail_load.specs.Load.{treePlacedIn, treeBesideFor, treeBeside}
 use Rattle.face_open.specs.Answers.{judgedOf}
 use Rattle.face_model.specs.declared.Rows.{Rows}
 use Rattle.face_model.specs.Answers.{whichOf as whichAt, noRows, rowsBy}
@@ -38,12 +43,14 @@ use Rattle.larsavim.specs.Sharing.{heldLeft, TreeShares}
 use Rattle.larsavim.specs.Trails.{TrailedTells}
 use Rattle.shown_models.proofs.Chosen.{whichOf}
 use Rattle.shown_load.specs.Stored.{Stored}
+use Rattle.shown_one.proofs.Plan.{tree-planned}
+use Rattle.shown_one.proofs.AsFull.{S-short}
 use Rattle.shown_one.proofs.Beside.{Refuses, tree-refuses}
 use Rattle.promises.specs.Opening.{recordWords}
 use Rattle.promises.specs.Trailing.{AfterTrailed}
 use Rattle.promises.proofs.Moved.{moved₃}
 use Rattle.promises.proofs.Trailing.{trailed-kept}
-use Rattle.promises.proofs.OneTree.{CallAsFull, call-as-full, P}
+use Rattle.promises.proofs.OneTree.{within, tree-words-said, trailed-reaches, CallAsFull, call-as-full, P}
 
 -- ---- a file whose trailer was found
 
@@ -53,6 +60,13 @@ found-trailed (AfterTrailed.unopened a x) e = absurd (omega (arith, refused-low 
 found-trailed (AfterTrailed.few-words a x l) e = absurd (omega (arith, e))
 found-trailed (AfterTrailed.answered {b = b} {numbers = numbers} k a x l f n) e = (numbers, b, finds-zero f e)
 
+shared-number : (s w : List ℕ) (n k d : ℕ) (mine other : Held) (T : Tables) (b₁ b₂ : Bool) → holds mine ≡ b₁ → standing d mine other (rowsOf T) ≡ b₂ → treeSharedOf s w n k d mine other T .rows .number ≡ 0
+    → cond b₁ (untouched 29 T) (cond b₂ (treeFilledOf s w n k (sideAt d) other T) (untouched 24 T)) .rows .number ≡ 0
+unfolding treeSharedOf
+shared-number s w n k d mine other T b₁ b₂ g h e =
+    sym (ap (λ (o : Bool). cond o (untouched 29 T) (cond (standing d mine other (rowsOf T)) (treeFilledOf s w n k (sideAt d) other T) (untouched 24 T)) .rows .number) g
+    ∙ ap (λ (o : Bool). cond b₁ (untouched 29 T) (cond o (treeFilledOf s w n k (sideAt d) other T) (untouched 24 T)) .rows .number) h) ∙ e
+
 module _ {s : List ℕ} (bytes : Bytes s) {h : record-of.Header} (says : record-of.Says s h) (m : models.Model) {F : Tables} {X : After} (K : Stored s (headerRecord h) (whichOf m) F X) {k : ℕ} {x : said.Tree} {y : said.TreePlace}
     (i : Nth (K .t .trees) k x) (j : Nth (K .l .trees) k y) where
   -- the trailer is found once, then a tree is loaded through it
@@ -61,6 +75,57 @@ module _ {s : List ℕ} (bytes : Bytes s) {h : record-of.Header} (says : record-
       → 8 ≤ length out → 5 ≤ length held → 5 ≤ length other → holds (heldAt held) ≡ false → standing d (heldAt held) (heldAt other) (rowsOf T) ≡ true → roomBy (P bytes says m K i j) (heldAt other) T ≡ true
       → TreeShares s (sets w 0 (recordWords h)) (models.modelNumber m) k d held other T out r held₁ T₁ out₁ → CallAsFull bytes says m K i j d held other T out r held₁ T₁ out₁
   after-trailed t e = let f = found-trailed (trailed-kept t) e in call-as-full bytes says m K i j (f .2)
+
+  -- a call that answered 0 found room for that tree, of a task that held nothing
+  module _ {rows : List ℕ} {begin : ℕ} (t : Trailed s rows begin) (d : ℕ) (other : Held) (T : Tables) where
+    room-there : rowsBy (treeBeside (sideAt d) s (headerRecord h) (whichOf m) (models.modelNumber m) k other T .answer) .number ≡ 0 → roomBy (P bytes says m K i j) other T ≡ true
+    unfolding treeBeside
+    room-there e = go (roomBy (P bytes says m K i j) other T) refl
+      where
+        planned-so : plan.Model (P bytes says m K i j) ≡ treePlanned s (headerRecord h) (whichOf m) (models.modelNumber m) k
+        planned-so = tree-planned s (headerRecord h) (whichOf m) (K .chose) i j (S-short s (headerRecord h) (whichOf m) (within bytes says m) (K .chose)) (trailed-reaches bytes says m K t)
+
+        no-room : roomBy (P bytes says m K i j) other T ≡ false → ⊥
+        no-room f =
+            let z : rowsBy (loaded.Refused refusal.Room) .number ≡ 0 =
+            sym (ap (λ (b : Bool). rowsBy (cond b (treePlacedIn (sideAt d) (dataOf s (headerRecord h)) k (P bytes says m K i j) T) (lent-as-before refusal.Room T) .answer) .number) f)
+            ∙ ap (λ (o : Planned). rowsBy (treeBesideFor (sideAt d) other (dataOf s (headerRecord h)) k o T .answer) .number) planned-so ∙ e in
+            omega (arith, z)
+
+        go : (b : Bool) → roomBy (P bytes says m K i j) other T ≡ b → b ≡ true
+        go true f = refl
+        go false f = absurd (no-room f)
+
+  -- both calls answered 0
+  pub both-zero : {w₀ out₀ : List ℕ} {r₀ : ℕ} {w₁ o₁ : List ℕ} → TrailedTells s w₀ out₀ r₀ w₁ o₁ → r₀ ≡ 0
+      → (w : List ℕ) → 647 ≤ length w → (d : ℕ) (held other : List ℕ) (T : Tables) (out : List ℕ) {r : ℕ} {held₁ : List ℕ} {T₁ : Tables} {out₁ : List ℕ}
+      → TreeShares s (sets w 0 (recordWords h)) (models.modelNumber m) k d held other T out r held₁ T₁ out₁ → r ≡ 0 → CallAsFull bytes says m K i j d held other T out r held₁ T₁ out₁
+  both-zero t e w enough d held other T out (TreeShares.no-room q a b c f) z = absurd (omega (arith, a, z))
+  both-zero t e w enough d held other T out {r} {held₁} {T₁} {out₁} (TreeShares.told {x = x} l n q u a b c) z = go (holds (heldAt held)) refl (standing d (heldAt held) (heldAt other) (rowsOf T)) refl
+    where
+      N : ℕ
+      N = models.modelNumber m
+
+      W : List ℕ
+      W = sets w 0 (recordWords h)
+
+      f : (rows : List ℕ) × (begin : ℕ) × Trailed s rows begin
+      f = found-trailed (trailed-kept t) e
+
+      number : treeSharedOf s W N k d (heldAt held) (heldAt other) T .rows .number ≡ 0
+      number = ap (λ (y : Rows). y .number) (sym (u .0)) ∙ sym a ∙ z
+
+      at : (b₁ b₂ : Bool) → holds (heldAt held) ≡ b₁ → standing d (heldAt held) (heldAt other) (rowsOf T) ≡ b₂
+          → cond b₁ (untouched 29 T) (cond b₂ (treeFilledOf s W N k (sideAt d) (heldAt other) T) (untouched 24 T)) .rows .number ≡ 0
+      at b₁ b₂ g h = shared-number s W N k d (heldAt held) (heldAt other) T b₁ b₂ g h number
+
+      go : (b₁ : Bool) → holds (heldAt held) ≡ b₁ → (b₂ : Bool) → standing d (heldAt held) (heldAt other) (rowsOf T) ≡ b₂ → CallAsFull bytes says m K i j d held other T out r held₁ T₁ out₁
+      go true g b₂ h = absurd (let y : _≡_ {A = ℕ} 29 0 = at true b₂ g h in omega (arith, y))
+      go false g false h = absurd (let y : _≡_ {A = ℕ} 24 0 = at false false g h in omega (arith, y))
+      go false g true o =
+          call-as-full bytes says m K i j (f .2) w enough d held other T out l n q g o
+          (room-there (f .2) d (heldAt other) T (ap (λ (y : Filled). y .rows .number) (sym (tree-words-said s m k (sideAt d) (heldAt other) T w h enough)) ∙ at false true g o))
+          (TreeShares.told {x = x} l n q u a b c)
 
 -- ---- demand 1 by number
 
