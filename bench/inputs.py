@@ -8,6 +8,7 @@ import sys
 
 HERE = os.path.dirname(os.path.abspath(__file__))
 sys.path.insert(0, os.path.join(HERE, '..', 'judge'))
+import folders  # noqa: E402,F401
 import voices  # noqa: E402
 
 ORDINARY = {'0.1': (12, 60), '0.3': (41, 150), '1': (142, 400), '3.5': (524, 400), '7': (1060, 400), '14': (2130, 400)}  # megabytes: lines a tree, questions a model

@@ -1,4 +1,4 @@
-/* dump.c: everything that the library says of a voice, one fact a line, for comparing. The lines are exact; judge/reading.py prints the same. */
+/* dump.c: everything that the library says of a voice, one fact a line, for comparing. The lines are exact; judge/readings/reading.py prints the same. */
 #include <inttypes.h>
 
 #include "host.h"

@@ -7,6 +7,7 @@ import sys
 HERE = os.path.dirname(os.path.abspath(__file__))
 STORED = os.path.join(HERE, '..', 'judge', 'stored')
 sys.path.insert(0, os.path.join(HERE, '..', 'judge'))
+import folders  # noqa: E402,F401
 import reading  # noqa: E402
 
 

@@ -14,6 +14,7 @@ import sys
 
 HERE = os.path.dirname(os.path.abspath(__file__))
 sys.path.insert(0, os.path.join(HERE, '..', '..', 'judge'))
+import folders  # noqa: E402,F401
 import labels  # noqa: E402
 import one_tree  # noqa: E402
 import reading  # noqa: E402

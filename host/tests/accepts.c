@@ -1,4 +1,4 @@
-/* accepts.c: the stored cases of somebody else's rows (judge/accepting.py), each a line on standard input: the text as hex, the tree, how many rows, their numbers,
+/* accepts.c: the stored cases of somebody else's rows (judge/readings/accepting.py), each a line on standard input: the text as hex, the tree, how many rows, their numbers,
  * then number, place and line of the answer, and of accepted rows how walks over the text end: answers, limit, number, PDF number, questions asked. A walk over the rows,
  * which stand behind another in a table, must end so. The call must answer so, with numbers behind the last row that are no row too; what is lent for reading must stay; a short
  * `out` is 20. Every slice is lent by host/lend.c, so that LARSAVIM_GUARD puts guards beside it. Prints what differs, and how many checks passed and failed. */

@@ -1,4 +1,4 @@
-/* bare.c: the stored cases of walks straight over a tree text (judge/metering.py), each a line on standard input: the text as hex, the tree, the answers as hex, the limit,
+/* bare.c: the stored cases of walks straight over a tree text (judge/readings/metering.py), each a line on standard input: the text as hex, the tree, the answers as hex, the limit,
  * then the six numbers of the answer. The call must answer so; what is lent for reading must stay; a short `out` is 20 and stays.
  * Every slice is lent by host/lend.c, so that LARSAVIM_GUARD puts guards beside it. Prints what differs, and how many checks passed and failed. */
 #include <inttypes.h>

@@ -1,4 +1,4 @@
-/* trails.c: the stored cases of trailers (judge/trailing.py), each a line on standard input: a file as hex, the bytes of the buffer, number, place and bytes of what writing answers,
+/* trails.c: the stored cases of trailers (judge/readings/trailing.py), each a line on standard input: a file as hex, the bytes of the buffer, number, place and bytes of what writing answers,
  * the trailer as hex (- for none), then number, place, rows and begin of what reading answers. Both calls must answer so; the buffer behind the trailer, and all of it when
  * refused, must stay; what is lent for reading must stay; the words must be as larsavim_open leaves them; short answers and words are 20. Every slice is lent by host/lend.c,
  * so that LARSAVIM_GUARD puts guards beside it. Prints what differs, and how many checks passed and failed. */

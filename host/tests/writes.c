@@ -1,4 +1,4 @@
-/* writes.c: the stored cases of the writer (judge/writing.py), each a line on standard input: data as hex, of each table its rows and numbers, the number of
+/* writes.c: the stored cases of the writer (judge/readings/writing.py), each a line on standard input: data as hex, of each table its rows and numbers, the number of
  * the answer, the text as hex. Both calls must answer so, into a buffer of just the text's length, one with room behind it and one a byte short; nothing but what
  * is promised may change. Every slice is lent by host/lend.c, so that LARSAVIM_GUARD puts guards beside it. Prints what differs, and how many checks passed and failed. */
 #include <inttypes.h>

@@ -5,6 +5,7 @@ use load_choose::Which;
 use load_plan::Plan;
 use load_plan::Planned;
 use load_plan::needs;
+use table_rows::WORK_A_LINE;
 use walk::Walked;
 use walk::walk;
 ghost use mathlib.Core.Path.{_≡_};
@@ -60,14 +61,14 @@ pub fn which_of(n: u64) -> Which
     Which::Gv((n / 2 - 1) as usize)
 }
 
-// Six numbers a line; the greatest number where there is none so great, which no file within its limit needs.
+// The work for so many lines; the greatest number where there is none so great, which no file within its limit needs.
 fn work_for(lines: usize) -> u64
     ensures { λ r. ⌜ r ≡ workFor lines ⌝ }
 {
     if 3074457345618258602 < lines {
         return 18446744073709551615;
     }
-    6 * lines as u64
+    WORK_A_LINE as u64 * lines as u64
 }
 
 fn not_needed(number: u64, place: u64, line: u64) -> Needed

@@ -2,6 +2,7 @@
 // Both open the file themselves, with the record into the words as `larsavim_open` has it. Any file, any words, any buffer.
 use error::Refusal;
 use face_open::open_words;
+use head_words::FILE_LIMIT;
 use load_plan::data_of;
 use pdf_blocks::word;
 use trail_bytes::put_words;
@@ -29,9 +30,6 @@ const ROW: usize = 12;
 
 const LAST: usize = 12;
 
-// The greatest length of a file.
-const LIMIT: usize = 16777216;
-
 // 01's number, its place, and the bytes of the trailer.
 #[repr(C)]
 pub struct Written {
@@ -56,10 +54,10 @@ fn has_room(bytes: usize, buffer: usize, file: usize) -> bool
     if buffer < bytes {
         return false;
     }
-    if LIMIT < file {
+    if FILE_LIMIT < file {
         return false;
     }
-    bytes <= LIMIT - file
+    bytes <= FILE_LIMIT - file
 }
 
 // The three numbers behind n rows: their count, where they begin, and the sum of every earlier byte.

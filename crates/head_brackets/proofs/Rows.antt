@@ -12,13 +12,14 @@ use Rattle.laws.specs.Runs.{stop}
 use Rattle.laws.proofs.Runs.{stop-from, byte-in}
 use Rattle.error.specs.declared.Refusal.{Refusal}
 use Rattle.head_record.specs.Empty.{noSpan}
-use Rattle.head_record.specs.declared.Span.{Span}
+use Rattle.text_parts.specs.declared.Span.{Span}
 use Rattle.head_de.specs.declared.Cursor.{Cursor}
 use Rattle.head_lines.specs.declared.Key.{Key}
 use Rattle.head_lines.specs.declared.Key.the-variants as key
 use Rattle.head_lines.specs.Lines.{keyAt}
 use Rattle.head_lines.proofs.Moves.{no, key-moves}
-use Rattle.head_brackets.specs.Rows.{bytesOf, splitAt, splitOf, splitRow, keyRow, rowOf, rowAt, onwardRow, rowsFrom, rowsAt, Going, on, stop-with, overNext, over, lastNext, lastOf, knownFrom}
+use Rattle.head_brackets.specs.Rows.{splitAt, splitOf, splitRow, keyRow, rowOf, rowAt, onwardRow, rowsFrom, rowsAt, Going, on, stop-with, overNext, over, lastNext, lastOf, knownFrom}
+use Rattle.text_parts.specs.Parts.{bytesOf}
 use Rattle.head_brackets.specs.declared.Split.{Split}
 use Rattle.head_brackets.specs.declared.Split.the-variants as split
 use Rattle.head_brackets.specs.declared.Row.{Row}

@@ -9,7 +9,8 @@ use Rattle.written.specs.HeaderText.{Field, kindOf}
 use Rattle.laws.specs.Runs.{stop}
 use Rattle.error.specs.declared.Refusal.{Refusal}
 use Rattle.head_record.specs.Empty.{span, noSpan}
-use Rattle.head_record.specs.declared.Span.{Span}
+use Rattle.text_parts.specs.declared.Span.{Span}
+use Rattle.text_parts.specs.Parts.{bytesOf}
 use Rattle.head_de.specs.Values.{cursor}
 use Rattle.head_de_values.specs.Values.{readAt}
 use Rattle.head_lines.specs.declared.Key.{Key}
@@ -21,10 +22,6 @@ use Rattle.head_brackets.specs.declared.Row.{Row}
 use Rattle.head_brackets.specs.declared.RowAt.{RowAt}
 use Rattle.head_brackets.specs.declared.RowAt.the-variants as found
 use Rattle.head_brackets.specs.declared.Names.{Names}
-
--- the bytes of a part
-abbrev pub bytesOf : List ℕ → Span → List ℕ
-bytesOf s x = part s (x .start) (x .len)
 
 -- ---- a key
 

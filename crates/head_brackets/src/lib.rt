@@ -14,18 +14,17 @@ use head_lines::Key;
 use head_lines::Line;
 use head_lines::Step;
 use head_lines::next_key;
-use head_lines::part_of;
 use head_lines::stood;
-use head_record::Span;
 use text_base::byte_at;
-use text_numbers::same_bytes;
+use text_parts::Span;
+use text_parts::part_of;
+use text_parts::up_to;
 ghost use mathlib.Core.Path.{_≡_};
 ghost use Prim.Native.Nat.{_≤_, _+_};
-ghost use lib.ListN.{length, take};
-ghost use Rattle.written.specs.Bytes.{same};
+ghost use lib.ListN.{length};
 ghost use Rattle.head_fields.specs.Fields.{fieldsOf};
 ghost use Rattle.head_lines.specs.Lines.{lineIn};
-ghost use Rattle.head_brackets.specs.Rows.{bytesOf, splitOf, rowAt, rowLineAt};
+ghost use Rattle.head_brackets.specs.Rows.{splitOf, rowAt, rowLineAt};
 
 // A key that names a group: the lengths of the field's name before the bracket and of the group's name inside.
 pub enum Split {
@@ -109,23 +108,6 @@ pub fn row_at(c: Cursor, s: &[u8]) -> RowAt
             }
         }
     }
-}
-
-// Whether two parts of s have the same bytes.
-pub fn same_part(s: &[u8], x: Span, y: Span) -> bool
-    ensures { λ r. ⌜ r ≡ same (bytesOf (now (s .entry)) x) (bytesOf (now (s .entry)) y) ⌝ }
-{
-    same_bytes(part_of(s, x.start, x.len), part_of(s, y.start, y.len))
-}
-
-// s up to an end, as far as it goes.
-pub fn up_to(s: &[u8], end: usize) -> &[u8]
-    ensures { λ r. ⌜ now r ≡ take end (now (s .entry)) ⌝ }
-{
-    if s.len() <= end {
-        return s;
-    }
-    &s[..end]
 }
 
 // A row's value, read alone; what follows a complete value is ignored. A field that repeats is refused.

@@ -3,7 +3,7 @@ use mathlib.Core.Path.{_≡_, refl}
 use mathlib.Core.List.{List, [], _∷_}
 use Rattle.head_record.specs.Empty.{noSpan}
 use Rattle.head_record.specs.Lists.{filled}
-use Rattle.head_record.specs.declared.Span.{Span}
+use Rattle.text_parts.specs.declared.Span.{Span}
 use Rattle.head_de_lists.specs.Lists.{firsts}
 
 pub first8 : (l : List Span) → firsts 8 (filled 32 noSpan l) 0 ≡ filled 8 noSpan l

@@ -10,7 +10,7 @@ use Rattle.written.specs.HeaderText as says
 use Rattle.error.specs.declared.Refusal.the-variants as refusal
 use Rattle.head_record.specs.Empty.{noSpan, noRange, span, range}
 use Rattle.head_record.specs.Lists.{filled, spanOf, rangeOf}
-use Rattle.head_record.specs.declared.Span.{Span}
+use Rattle.text_parts.specs.declared.Span.{Span}
 use Rattle.head_de.specs.Values.{cursor, delimiterAt}
 use Rattle.head_de.specs.Readings.{Reading, read, refused}
 use Rattle.head_de.specs.declared.Delimiter.{Delimiter}

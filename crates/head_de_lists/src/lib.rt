@@ -7,7 +7,7 @@ use head_de::Delimiters;
 use head_de::Pair;
 use head_de::Text;
 use head_record::Range;
-use head_record::Span;
+use text_parts::Span;
 ghost use mathlib.Core.Path.{_≡_};
 ghost use Prim.Native.Nat.{_+_, _<_, _^_};
 ghost use mathlib.Core.List.{[]};

@@ -9,7 +9,7 @@ use Rattle.written.specs.HeaderText.{a-string, a-number, a-bool, strings, a-pai
 use Rattle.laws.specs.Runs.{stop}
 use Rattle.head_record.specs.Empty.{noSpan, noRange}
 use Rattle.head_record.specs.Lists.{spanOf, rangeOf}
-use Rattle.head_record.specs.declared.Span.{Span}
+use Rattle.text_parts.specs.declared.Span.{Span}
 use Rattle.head_record.specs.declared.Range.{Range}
 use Rattle.head_de.specs.Values.{cursor, endsAt, textAt, numberAt, flagAt, pairAt}
 use Rattle.head_de.specs.Readings.{Reading, read, refused, mapped, ofText, ofNumber, ofFlag, ofPair}

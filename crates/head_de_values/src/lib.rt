@@ -10,7 +10,7 @@ use head_de_lists::strings;
 use head_deserializer::Asked;
 use head_deserializer::scalar_in;
 use head_record::Range;
-use head_record::Span;
+use text_parts::Span;
 ghost use mathlib.Core.Path.{_≡_};
 ghost use mathlib.Core.List.{_∷_};
 ghost use Rattle.written.specs.Bytes.{comma};

@@ -4,7 +4,7 @@ use mathlib.Core.List.{List}
 use Prim.Native.Nat.{ℕ}
 use denote.Ref.{RefT}
 use Rattle.head_record.specs.Empty.{noSpan, noRange}
-use Rattle.head_record.specs.declared.Span.{Span}
+use Rattle.text_parts.specs.declared.Span.{Span}
 use Rattle.head_record.specs.declared.Range.{Range}
 use Rattle.head_de.specs.Values.{textAt, numberAt, flagAt, pairAt}
 use Rattle.head_de.specs.declared.Cursor.{Cursor}

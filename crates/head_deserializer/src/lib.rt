@@ -10,7 +10,7 @@ use head_de::Pair;
 use head_de::Text;
 use head_de_lists::Outcome;
 use head_record::Range;
-use head_record::Span;
+use text_parts::Span;
 ghost use mathlib.Core.Path.{_≡_};
 ghost use mathlib.Core.Bool.{false};
 ghost use Rattle.head_record.specs.Empty.{noSpan, noRange};

@@ -12,11 +12,12 @@ use lib.Seq.{sets, length-sets, getD-set-same, getD-set-other}
 use Rattle.written.specs.Bytes.{same}
 use Rattle.error.specs.declared.Refusal.the-variants as refusal
 use Rattle.head_record.specs.Empty.{span, noSpan}
-use Rattle.head_record.specs.declared.Span.{Span}
+use Rattle.text_parts.specs.declared.Span.{Span}
 use Rattle.head_lines.specs.declared.Verdict.the-variants as verdict
 use Rattle.head_words.specs.Words.{flat, Zeros, wordAt, spanAt}
 use Rattle.head_words.proofs.Items.{Stands, length-flat, flat-same, flat-around, stands-item, stands-laid, laid-inside, zeros-laid, stands-under}
-use Rattle.head_brackets.specs.Rows.{bytesOf, noNames, namesWith, knownFrom, knownIn}
+use Rattle.head_brackets.specs.Rows.{noNames, namesWith, knownFrom, knownIn}
+use Rattle.text_parts.specs.Parts.{bytesOf}
 use Rattle.head_brackets.specs.declared.Names.{Names}
 use Rattle.head_group_words.specs.Groups.{namesAt, manyAt, judgedIn}
 use Rattle.head_group_words.proofs.Limits.{name-at}

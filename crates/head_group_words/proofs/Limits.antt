@@ -8,8 +8,8 @@ use borrow.Author.Tests.{lt-ltb, le-ltb}
 use lib.ListN.{getD}
 use Rattle.written.specs.Bytes.{same}
 use Rattle.head_record.specs.Empty.{noSpan}
-use Rattle.head_record.specs.declared.Span.{Span}
-use Rattle.head_brackets.specs.Rows.{bytesOf}
+use Rattle.text_parts.specs.declared.Span.{Span}
+use Rattle.text_parts.specs.Parts.{bytesOf}
 use Rattle.head_words.specs.Words.{wordAt, spanAt}
 use Rattle.head_words.proofs.Items.{getD-run}
 use Rattle.head_group_words.specs.Groups.{namesAt, manyAt}

@@ -4,7 +4,7 @@ use mathlib.Core.List.{List}
 use Prim.Native.Nat.{ℕ, zero, suc, _+_, _*_}
 use lib.Dec.{ltb}
 use Rattle.error.specs.declared.Refusal.the-variants as refusal
-use Rattle.head_record.specs.declared.Span.{Span}
+use Rattle.text_parts.specs.declared.Span.{Span}
 use Rattle.head_lines.specs.declared.Verdict.{Verdict}
 use Rattle.head_lines.specs.declared.Verdict.the-variants as verdict
 use Rattle.head_words.specs.Words.{run, wordAt, spanAt}

@@ -1,13 +1,14 @@
 // The groups of [STREAM] and [POSITION] while they stand in the words of the record, 8 of one width behind each other: which names are known, and the limits
 // on their counts (01, 'What the loader covers'). Any numbers in the words.
 use error::Refusal;
-use head_brackets::same_part;
 use head_lines::Verdict;
-use head_record::Span;
+use text_parts::Span;
+use text_parts::same_part;
 ghost use mathlib.Core.Path.{_≡_};
 ghost use Prim.Native.Nat.{_+_, _*_, _≤_, _<_};
 ghost use lib.ListN.{length};
-ghost use Rattle.head_brackets.specs.Rows.{bytesOf, knownIn};
+ghost use Rattle.head_brackets.specs.Rows.{knownIn};
+ghost use Rattle.text_parts.specs.Parts.{bytesOf};
 ghost use Rattle.head_group_words.specs.Groups.{namesAt, judgedIn};
 
 // Whether one of the first n groups from `at` on has the bytes of x for its name, of the first 8.

@@ -14,10 +14,10 @@ use head_fields::field_of;
 use head_fields::kind_of;
 use text_base::byte_at;
 use text_base::newline_end;
+use text_parts::part_of;
 ghost use mathlib.Core.Path.{_≡_};
 ghost use lib.ListN.{length};
 ghost use Prim.Native.Nat.{_≤_};
-ghost use Rattle.written.specs.Bytes.{part};
 ghost use Rattle.head_de_values.specs.Values.{kindFrom, valueIn};
 ghost use Rattle.head_fields.specs.Fields.{fieldsOf};
 ghost use Rattle.head_lines.specs.Lines.{keyAt, stoodAt, marked, lineValueAt, lineAt, lineIn};
@@ -50,21 +50,6 @@ pub struct Line {
     pub step: Step,
     pub field: usize,
     pub value: Value,
-}
-
-// The len bytes from start on, as far as there are any.
-pub fn part_of(s: &[u8], start: usize, len: usize) -> &[u8]
-    ensures { λ r. ⌜ now r ≡ part (now (s .entry)) start len ⌝ }
-{
-    let n = s.len();
-    if n <= start {
-        return &s[n..];
-    }
-    if n - start <= len {
-        return &s[start..];
-    }
-    let end = start + len;
-    &s[start..end]
 }
 
 // The key of the next line; blank lines are passed over.

@@ -11,7 +11,7 @@ use Rattle.written.specs.HeaderText.{Entry}
 use Rattle.written.specs.Record.{global-fields, stream-fields, position-fields, file-limit}
 use Rattle.laws.proofs.Tables.{sets-front}
 use Rattle.head_record.specs.Empty.{emptyGlobal}
-use Rattle.head_record.specs.declared.Span.{Span}
+use Rattle.text_parts.specs.declared.Span.{Span}
 use Rattle.head_record.specs.declared.Global.{Global}
 use Rattle.head_record.specs.declared.Header.{Header}
 use Rattle.head_fields.specs.Fields.{anyMissing}

@@ -7,7 +7,7 @@ use lib.ListN.{length}
 use lib.Seq.{sets}
 use Rattle.written.specs.Record.{global-fields, stream-fields, position-fields, file-limit}
 use Rattle.head_record.specs.Empty.{emptyGlobal}
-use Rattle.head_record.specs.declared.Span.{Span}
+use Rattle.text_parts.specs.declared.Span.{Span}
 use Rattle.head_lines.specs.Lines.{linesAt, linesRead, kept}
 use Rattle.head_lines.specs.declared.Verdict.{Verdict}
 use Rattle.head_lines.specs.declared.Verdict.the-variants as verdict

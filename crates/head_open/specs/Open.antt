@@ -12,7 +12,7 @@ use Rattle.text_utf8.specs.Check.{checkOf}
 use Rattle.text_utf8.specs.declared.Answer.{Answer}
 use Rattle.text_utf8.specs.declared.Answer.the-variants as answer
 use Rattle.head_record.specs.Empty.{emptyGlobal, emptyHeader}
-use Rattle.head_record.specs.declared.Span.{Span}
+use Rattle.text_parts.specs.declared.Span.{Span}
 use Rattle.head_record.specs.declared.Global.{Global}
 use Rattle.head_record.specs.declared.Header.{Header}
 use Rattle.head_lines.specs.Lines.{linesAt}

@@ -2,14 +2,11 @@
 // loader gives', 'Header text'). Each reader of a section gets the file up to the section's end, so that places are file offsets; it writes what the section
 // says where the record has it (`head_words`), into words that are 0 before.
 use error::Refusal;
-use head_brackets::up_to;
 use head_global::read_global;
 use head_lines::Verdict;
-use head_lines::part_of;
 use head_positions::Positions;
 use head_put::put_span;
 use head_record::Header;
-use head_record::Span;
 use head_sections::Parts;
 use head_sections::Sections;
 use head_sections::split_sections;
@@ -19,8 +16,12 @@ use head_ungrouped::read_durations;
 use head_words::COMMENT;
 use head_words::DATA_START;
 use head_words::DURATION_PDF;
+use head_words::FILE_LIMIT;
 use head_words::HAS_COMMENT;
 use table_put::put4;
+use text_parts::Span;
+use text_parts::part_of;
+use text_parts::up_to;
 use text_utf8::Answer;
 use text_utf8::check;
 ghost use mathlib.Core.Path.{_≡_};
@@ -137,7 +138,7 @@ pub fn open(file: &[u8], words: &mut [u64]) -> Verdict
     requires { ⌜ now words ≡ replicate 647 0 ⌝ }
     ensures { λ r. ⌜ (r ≡ openOf (now (file .entry)) .verdict) × (now (words .exit) ≡ openLeft (now (file .entry)) (now (words .entry))) ⌝ }
 {
-    if 16777216 < file.len() {
+    if FILE_LIMIT < file.len() {
         return Verdict::Refused(Refusal::Limit);
     }
     match split_sections(file) {

@@ -23,7 +23,8 @@ use Rattle.head_lines.specs.Lines.{Next, entry, lineIn, marked}
 use Rattle.head_lines.specs.declared.Line.{Line}
 use Rattle.head_lines.specs.declared.Step.the-variants as step
 use Rattle.head_lines.proofs.Going.{entry-of, end-of, wrong-of}
-use Rattle.head_brackets.specs.Rows.{bytesOf, rowLineAt, on, stop-with}
+use Rattle.head_brackets.specs.Rows.{rowLineAt, on, stop-with}
+use Rattle.text_parts.specs.Parts.{bytesOf}
 use Rattle.head_brackets.specs.declared.Row.{Row}
 use Rattle.head_position.specs.Group.{stored, storedIn, withLine, afterLine, withRow}
 use Rattle.head_position.specs.declared.Group.{Group}

@@ -7,12 +7,13 @@ use lib.ListN.{getD, set, replicate}
 use lib.Seq.{sets}
 use Rattle.error.specs.declared.Refusal.the-variants as refusal
 use Rattle.head_record.specs.Empty.{emptyPosition, noSpan, noRange}
-use Rattle.head_record.specs.declared.Span.{Span}
+use Rattle.text_parts.specs.declared.Span.{Span}
 use Rattle.head_record.specs.declared.PositionData.{PositionData}
 use Rattle.head_words.specs.Words.{positionsWords}
 use Rattle.head_lines.specs.declared.Verdict.{Verdict}
 use Rattle.head_lines.specs.declared.Verdict.the-variants as verdict
-use Rattle.head_brackets.specs.Rows.{bytesOf, rowsAt, Going, on, stop-with, over, noNames, namesWith, knownIn}
+use Rattle.head_brackets.specs.Rows.{rowsAt, Going, on, stop-with, over, noNames, namesWith, knownIn}
+use Rattle.text_parts.specs.Parts.{bytesOf}
 use Rattle.head_brackets.specs.declared.Row.{Row}
 use Rattle.head_position.specs.Group.{named, withRow, groupIn}
 use Rattle.head_position.specs.declared.GroupRead.{GroupRead}

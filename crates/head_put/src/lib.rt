@@ -1,7 +1,7 @@
 // Values of the header into the words of its record (`head_words` says where each field stands); what is beyond stays as it was.
 use head_record::Range;
-use head_record::Span;
 use table_put::put2;
+use text_parts::Span;
 ghost use mathlib.Core.Path.{_≡_};
 ghost use mathlib.Core.List.{[], _∷_};
 ghost use Prim.Native.Nat.{_+_, _*_, _≤_};

@@ -2,7 +2,7 @@
 use mathlib.Core.Bool.{false}
 use Prim.Native.Nat.{ℕ}
 use lib.ListN.{replicate}
-use Rattle.head_record.specs.declared.Span.{Span}
+use Rattle.text_parts.specs.declared.Span.{Span}
 use Rattle.head_record.specs.declared.Range.{Range}
 use Rattle.head_record.specs.declared.Global.{Global}
 use Rattle.head_record.specs.declared.StreamData.{StreamData}

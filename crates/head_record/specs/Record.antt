@@ -9,7 +9,7 @@ use Rattle.written.specs.HeaderText as says
 use Rattle.written.specs.Record as record-of
 use Rattle.head_record.specs.Empty.{noSpan, noRange, emptyStream, emptyPosition}
 use Rattle.head_record.specs.Lists.{filled, spanOf, rangeOf}
-use Rattle.head_record.specs.declared.Span.{Span}
+use Rattle.text_parts.specs.declared.Span.{Span}
 use Rattle.head_record.specs.declared.Range.{Range}
 use Rattle.head_record.specs.declared.Global.{Global}
 use Rattle.head_record.specs.declared.StreamData.{StreamData}

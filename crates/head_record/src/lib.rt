@@ -1,13 +1,7 @@
 // After header/mod.rs: the header record as structs, with the Rust's names (01, 'Numbers the loader gives'). A string is a part of the file, counted from its
 // first byte, without quotes. A list is an array as long as its limit, and a count; what stands past the count, and a value that is marked absent, is zero in
 // a record that an opening made. Contracts speak of the record in this form; the code has it in words (`head_words`).
-
-// A part of the file.
-#[repr(C)]
-pub struct Span {
-    pub start: usize,
-    pub len: usize,
-}
+use text_parts::Span;
 
 // Bytes of the data section: the first, and the last, which belongs to it.
 #[repr(C)]

@@ -6,7 +6,7 @@ use Prim.Native.Nat.{ℕ, zero, suc, _+_}
 use lib.Dec.{leb}
 use Rattle.written.specs.Record.{file-limit}
 use Rattle.head_record.specs.Empty.{span, noSpan, noRange}
-use Rattle.head_record.specs.declared.Span.{Span}
+use Rattle.text_parts.specs.declared.Span.{Span}
 use Rattle.head_record.specs.declared.Global.{Global}
 use Rattle.head_record.specs.declared.StreamData.{StreamData}
 use Rattle.head_record.specs.declared.PositionData.{PositionData}

@@ -12,7 +12,7 @@ use lib.ListN.{length, getD, drop, length-drop, drop-of-length-le}
 use lib.Seq.{drop-cons, getD-drop}
 use Rattle.written.specs.Bytes.{newline, bracket, byteAt, part}
 use Rattle.laws.proofs.Runs.{byte-is, byte-out}
-use Rattle.head_lines.proofs.Parts.{part-in}
+use Rattle.text_parts.proofs.Parts.{part-in}
 use Rattle.written_total.proofs.Total.{same-true}
 use Rattle.head_lines.proofs.Moves.{no as never}
 use Rattle.head_sections.specs.Split.{startsAt, breakIn, breakHere, breakAt, textTo, sectionAt}

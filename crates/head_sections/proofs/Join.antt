@@ -19,7 +19,7 @@ use Rattle.written_total.proofs.Total.{same-true}
 use Rattle.laws.specs.Runs.{run, stop}
 use Rattle.laws.proofs.Runs.{byte-is, byte-in}
 use Rattle.head_record.specs.Empty.{span}
-use Rattle.head_record.specs.declared.Span.{Span}
+use Rattle.text_parts.specs.declared.Span.{Span}
 use Rattle.head_lines.proofs.Moves.{no as never}
 use Rattle.head_sections.specs.Split.{startsAt, breakIn, breakAt, textTo, sectionAt, dataOf, positionOf, streamOf, splitOf}
 use Rattle.head_sections.specs.declared.Parts.{Parts}

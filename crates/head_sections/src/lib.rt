@@ -1,9 +1,9 @@
 // After parser/mod.rs, `split_sections`: where the four sections of a file stand (01, 'Sections').
-use head_lines::part_of;
-use head_record::Span;
 use text_base::byte_at;
 use text_base::newline_end;
-use text_numbers::same_bytes;
+use text_parts::Span;
+use text_parts::part_of;
+use text_parts::same_bytes;
 ghost use mathlib.Core.Path.{_≡_};
 ghost use Prim.Native.Nat.{_<_};
 ghost use lib.ListN.{length};

@@ -6,14 +6,15 @@ use Prim.Native.Nat.{ℕ}
 use Rattle.written.specs.Bytes.{same}
 use Rattle.written.specs.Record.{stream-group}
 use Rattle.error.specs.declared.Refusal.{Refusal}
-use Rattle.head_record.specs.declared.Span.{Span}
+use Rattle.text_parts.specs.declared.Span.{Span}
 use Rattle.head_record.specs.declared.StreamData.{StreamData}
 use Rattle.head_words.specs.Words.{streamWords}
 use Rattle.head_de.specs.declared.Cursor.{Cursor}
 use Rattle.head_lines.specs.Lines.{lineIn, marked, unseen}
 use Rattle.head_lines.specs.declared.Line.{Line}
 use Rattle.head_lines.specs.declared.Step.the-variants as step
-use Rattle.head_brackets.specs.Rows.{bytesOf, rowAt, rowsAt, rowLineAt, Going, over, lastOf, on, stop-with}
+use Rattle.head_brackets.specs.Rows.{rowAt, rowsAt, rowLineAt, Going, over, lastOf, on, stop-with}
+use Rattle.text_parts.specs.Parts.{bytesOf}
 use Rattle.head_brackets.specs.declared.Row.{Row}
 use Rattle.head_brackets.specs.declared.RowAt.the-variants as found
 use Rattle.head_brackets.proofs.Through.{Through, Ended, through-none, through-line, through-row, through-stop, through-end}

@@ -6,7 +6,7 @@ use native.Mathlib.Omega.{arith}
 use lib.ListN.{length, getD, length-append}
 use Rattle.head_record.specs.Empty.{noSpan, noRange}
 use Rattle.head_record_fits.specs.Fits.{noStream, noPosition}
-use Rattle.head_record.specs.declared.Span.{Span}
+use Rattle.text_parts.specs.declared.Span.{Span}
 use Rattle.head_record.specs.declared.Range.{Range}
 use Rattle.head_record.specs.declared.Global.{Global}
 use Rattle.head_record.specs.declared.StreamData.{StreamData}

@@ -89,6 +89,9 @@ pub const DATA_START: usize = 645;
 
 pub const DATA_LEN: usize = 646;
 
+// The greatest length of a file (01, 'Limits').
+pub const FILE_LIMIT: usize = 16777216;
+
 fn is_flag(x: u64) -> bool
     ensures { λ r. ⌜ r ≡ isFlag x ⌝ }
 {

@@ -3,6 +3,7 @@
 // numbers. The words are judged where they stand (`head_words` says where), for the record itself is large.
 use head_words::COMMENT;
 use head_words::DATA_START;
+use head_words::FILE_LIMIT;
 use head_words::FULLCONTEXT_FORMAT;
 use head_words::FULLCONTEXT_VERSION;
 use head_words::GV_OFF_CONTEXT;
@@ -148,7 +149,7 @@ pub fn record_fits(n: usize, words: &[u64]) -> bool
     requires { ⌜ 647 ≤ length (now words) ⌝ }
     ensures { λ r. ⌜ r ≡ recordFits n (headerAt (now (words .entry))) ⌝ }
 {
-    if 16777216 < n {
+    if FILE_LIMIT < n {
         return false;
     }
     if !span_fits(n, words, DATA_START) {

@@ -1,11 +1,11 @@
 // The first of the house's rules that a loaded model breaks (02, Wish 11): 32 to 36, each over the whole model before the next. Takes a plan in its data and the model's
 // own rows, as a load leaves them; nothing is changed in the end.
-use head_brackets::up_to;
 use house_names::names_once;
 use house_text::ids_run;
 use house_text::leaves_run;
 use house_values::values_good;
 use load_plan::Plan;
+use text_parts::up_to;
 ghost use mathlib.Core.Path.{_≡_};
 ghost use lib.ListN.{length};
 ghost use Rattle.house_model.specs.Model.{ruleOf, Loaded};

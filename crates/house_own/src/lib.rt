@@ -3,6 +3,9 @@
 use house_model::judge_model;
 use load_plan::Plan;
 use load_shared::first_row;
+use table_rows::PATTERN_ROW;
+use table_rows::QUESTION_ROW;
+use table_rows::TREE_ROW;
 ghost use mathlib.Core.Path.{_≡_};
 ghost use lib.ListN.{length};
 ghost use Rattle.load_shared.specs.Beside.{sideOf};
@@ -22,12 +25,12 @@ pub fn judge_own(
     ensures { λ r. ⌜ (r ≡ ruleIn (sideOf top) (now (d .entry)) p (now (questions .entry)) (now (trees .entry)) (now (values .entry))) × (now (patterns .exit) ≡ now (patterns .entry)) ⌝ }
 {
     let n = (p.entries * p.width) as usize;
-    let q = 4 * first_row(top, questions.len() / 4, p.questions);
-    let q_end = q + 4 * p.questions;
-    let a = 2 * first_row(top, patterns.len() / 2, p.patterns);
-    let a_end = a + 2 * p.patterns;
-    let t = 6 * first_row(top, trees.len() / 6, p.trees);
-    let t_end = t + 6 * p.trees;
+    let q = QUESTION_ROW * first_row(top, questions.len() / QUESTION_ROW, p.questions);
+    let q_end = q + QUESTION_ROW * p.questions;
+    let a = PATTERN_ROW * first_row(top, patterns.len() / PATTERN_ROW, p.patterns);
+    let a_end = a + PATTERN_ROW * p.patterns;
+    let t = TREE_ROW * first_row(top, trees.len() / TREE_ROW, p.trees);
+    let t_end = t + TREE_ROW * p.trees;
     let v = first_row(top, values.len(), n);
     let v_end = v + n;
     judge_model(

@@ -7,7 +7,7 @@ use Rattle.tree_reference.specs.declared.TreeIndex.{TreeIndex}
 use Rattle.tree_reference.specs.declared.TreeIndex.the-variants.{Node, Pdf}
 use Rattle.tree_line.specs.declared.Line.{Line}
 use Rattle.tree_body.specs.Trees.{Body, lone, braces, Tree}
-use Rattle.link_targets.specs.Lines.{natOf}
+use Rattle.text_parts.specs.Parts.{natOf}
 use Rattle.link_find.specs.Find.{ordered}
 use Rattle.walk_leaves.specs.Conditions.{leafFits}
 

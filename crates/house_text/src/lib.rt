@@ -1,8 +1,8 @@
 // The house's rules on a model's trees as they are written (02, Wish 11): in each tree in braces the lines bear 0, -1, -2, .. in their order (32), and every leaf is
 // one of its tree's entries, which count from 1 (34). Ids aren't in the tables, so the text is read once more. Every function takes any bytes and any place.
 use link_find::ids_in_order;
-use link_targets::natural;
 use table_rows::tree_entries;
+use text_parts::natural;
 use tree_body::TreeHead;
 use tree_body::tree_head;
 use tree_line::Line;

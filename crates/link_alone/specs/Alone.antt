@@ -15,10 +15,11 @@ use Rattle.tree_line.specs.declared.Line as code
 use Rattle.tree_body.specs.declared.TreeHead.{TreeHead}
 use Rattle.tree_body.specs.declared.TreeHead.the-variants as head
 use Rattle.table_rows.specs.Rows.{recordRows, recordKind, recordQuestion, recordPdf, recordYes, recordNo}
-use Rattle.link_order.specs.Keys.{idKey, partOr}
+use Rattle.link_order.specs.Keys.{idKey}
+use Rattle.text_parts.specs.Parts.{partInside}
 use Rattle.link_search.specs.declared.Found.{Found}
 use Rattle.link_search.specs.declared.Found.the-variants.{At, Nothing}
-use Rattle.link_targets.specs.Lines.{natOf}
+use Rattle.text_parts.specs.Parts.{natOf}
 use Rattle.link_find.specs.Find.{asked, bearer}
 use Rattle.link_alone.specs.declared.Target.{Target}
 use Rattle.link_alone.specs.declared.Target.the-variants.{Line, Leaf, Nowhere}
@@ -56,7 +57,7 @@ unfoldable pub linkOf : Target → Target → Found → LineLink
 linkOf y n f = cond (nowhere y) link.NodeRef (cond (nowhere n) link.NodeRef (linkAsked y n f))
 
 unfoldable pub linkIn : List ℕ → List QuestionPlace → List code.Line → code.Line → LineLink
-linkIn s qs ls l = linkOf (targetIn ls (l .yes)) (targetIn ls (l .no)) (asked s (partOr s (l .start) (l .len)) qs)
+linkIn s qs ls l = linkOf (targetIn ls (l .yes)) (targetIn ls (l .no)) (asked s (partInside s (l .start) (l .len)) qs)
 
 -- ---- rows
 

@@ -5,15 +5,15 @@ use link_find::ids_in_order;
 use link_find::last_question;
 use link_find::line_of;
 use link_order::id_key;
-use link_order::part_or;
 use link_search::Found;
-use link_targets::natural;
 use table_rows::record_kind;
 use table_rows::record_no;
 use table_rows::record_pdf;
 use table_rows::record_question;
 use table_rows::record_rows;
 use table_rows::record_yes;
+use text_parts::natural;
+use text_parts::part_inside;
 use tree_body::TreeHead;
 use tree_body::tree_head;
 use tree_line::Line;
@@ -98,7 +98,7 @@ pub fn link_line(s: &[u8], at: usize, first: usize, n: u64, in_order: bool, line
     if is_nowhere(no) {
         return LineLink::NodeRef;
     }
-    match last_question(s, at, part_or(s, line.start as u64, line.len as u64)) {
+    match last_question(s, at, part_inside(s, line.start as u64, line.len as u64)) {
         Found::At(question) => LineLink::Goes { question, yes, no },
         Found::Nothing => LineLink::QuestionRef,
     }

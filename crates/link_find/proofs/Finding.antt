@@ -36,7 +36,8 @@ use Rattle.tree_survey.specs.Survey.{treeSurveyed}
 use Rattle.tree_survey.specs.declared.TreeSurvey.the-variants as surveyed
 use Rattle.tree_survey.proofs.Counting.{seen-next, seen-last, seen-broken, more-in}
 use Rattle.written.specs.Bytes.{same}
-use Rattle.link_order.specs.Keys.{idKey, partOr}
+use Rattle.link_order.specs.Keys.{idKey}
+use Rattle.text_parts.specs.Parts.{partInside}
 use Rattle.link_search.specs.declared.Found.{Found}
 use Rattle.link_search.specs.declared.Found.the-variants.{At, Nothing}
 use Rattle.link_find.specs.Find.{starOf, lastFrom, nameStep, named, asked, bears, bearer, bearingFrom, bearing, placed, ordered}
@@ -191,8 +192,8 @@ module _ (s : List ℕ) where
       go (broken k) e h = let u : _≡_ {A = ℕ} 0 1 = cc in absurd (omega arith)
 
   -- the test of a question's name, as it is made
-  pub hit : (w : List ℕ) {i b n : ℕ} {rest : List QuestionPlace} {part : List ℕ} {r : Bool} → (q : Named i b n rest) → part ≡ partOr s b n → r ≡ same part w → r ≡ named s w (q .it)
-  hit w q e h = h ∙ ap (λ (x : List ℕ). same x w) (e ∙ ap₂ (partOr s) (sym (q .start)) (sym (q .len)))
+  pub hit : (w : List ℕ) {i b n : ℕ} {rest : List QuestionPlace} {part : List ℕ} {r : Bool} → (q : Named i b n rest) → part ≡ partInside s b n → r ≡ same part w → r ≡ named s w (q .it)
+  hit w q e h = h ∙ ap (λ (x : List ℕ). same x w) (e ∙ ap₂ (partInside s) (sym (q .start)) (sym (q .len)))
 
   pub named-none : (i : ℕ) → name.Broken ≡ nameStep (questionStepAt s i) → questions-from s i .items ≡ []
   named-none i h = go (questionStepAt s i) refl h

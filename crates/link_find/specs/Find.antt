@@ -13,7 +13,8 @@ use Rattle.text_spaces.specs.declared.Place.the-variants as place
 use Rattle.tree_line.specs.Lines.{linesAt}
 use Rattle.tree_line.specs.declared.Line.{Line}
 use Rattle.tree_body.specs.Trees.{Tree}
-use Rattle.link_order.specs.Keys.{idKey, partOr}
+use Rattle.link_order.specs.Keys.{idKey}
+use Rattle.text_parts.specs.Parts.{partInside}
 use Rattle.link_search.specs.declared.Found.{Found}
 use Rattle.link_search.specs.declared.Found.the-variants.{At, Nothing}
 use Rattle.link_find.specs.declared.Borne.{Borne}
@@ -44,7 +45,7 @@ nameStep (last q i) = name.Last (q .name .start) (q .name .len)
 nameStep (broken i) = name.Broken
 
 abbrev pub named : List ℕ → List ℕ → QuestionPlace → Bool
-named s w q = same (partOr s (q .name .start) (q .name .len)) w
+named s w q = same (partInside s (q .name .start) (q .name .len)) w
 
 -- the last question of a name
 abbrev pub asked : List ℕ → List ℕ → List QuestionPlace → Found

@@ -4,8 +4,8 @@
 use link_order::Side;
 use link_order::compare_names;
 use link_order::id_key;
-use link_order::part_or;
 use link_search::Found;
+use text_parts::part_inside;
 use text_spaces::Place;
 use tree_line::Line;
 use tree_line::LineStep;
@@ -131,7 +131,7 @@ fn last_named(s: &[u8], first: usize, name: &[u8]) -> Found
             NameStep::Next { start, len, next } => {
                 last = found_after(
                     last,
-                    same_name(part_or(s, start as u64, len as u64), name),
+                    same_name(part_inside(s, start as u64, len as u64), name),
                     row,
                 );
                 row = row + 1;
@@ -140,7 +140,7 @@ fn last_named(s: &[u8], first: usize, name: &[u8]) -> Found
             NameStep::Last { start, len } => {
                 return found_after(
                     last,
-                    same_name(part_or(s, start as u64, len as u64), name),
+                    same_name(part_inside(s, start as u64, len as u64), name),
                     row,
                 );
             }

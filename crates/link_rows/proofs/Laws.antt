@@ -8,7 +8,7 @@ use lib.IntN.{ℤ, pos}
 use lib.ListN.{length, getD, take, drop, length-take, length-drop, drop-of-length-le}
 use lib.Seq.{sets, length-sets, drop-cons, getD-take, getD-drop}
 use Rattle.laws.proofs.Tables.{sets-append, sets-before, sets-under, sets-past}
-use Rattle.link_targets.specs.Lines.{natOf}
+use Rattle.text_parts.specs.Parts.{natOf}
 use Rattle.link_rows.specs.Rows.{leafRows, lineRows}
 
 -- ---- leaves

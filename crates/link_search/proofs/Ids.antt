@@ -15,7 +15,8 @@ use mir.Syntax.{w64}
 use mir.Val.{hbits}
 use Rattle.laws.specs.Wholes.{eqZ}
 use Rattle.written.specs.Bytes.{same, part}
-use Rattle.link_order.specs.Keys.{idKey, nameKey, idAt, nameAt, partOr}
+use Rattle.link_order.specs.Keys.{idKey, nameKey, idAt, nameAt}
+use Rattle.text_parts.specs.Parts.{partInside}
 use Rattle.link_order.proofs.Names.{Small, name-one}
 
 -- ---- ids
@@ -79,7 +80,7 @@ part-small s i n h k = go (decLt k n)
     go (no l) = let e : length (take n (drop i s)) ≤ k = omega (arith, length-take n (drop i s)) in rw (List·getD-eq-default (take n (drop i s)) 0 e) (omega arith)
 
 pub name-small : (s questions : List ℕ) → Small s → (x : ℕ) → Small (nameAt s questions x)
-unfolding nameAt partOr
+unfolding nameAt partInside
 name-small s questions h x = go (ltb x (length questions / 4)) (leb (getD questions (4 * x) 0) (length s) && leb (getD questions (4 * x + 1) 0) (length s - getD questions (4 * x) 0))
   where
     go : (a b : Bool) → Small (cond a (cond b (part s (getD questions (4 * x) 0) (getD questions (4 * x + 1) 0)) []) [])

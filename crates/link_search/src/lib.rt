@@ -48,7 +48,7 @@ fn after_name(s: &[u8], questions: &[u64], index: &[u64], name: &[u8]) -> usize
     let mut hi = index.len();
     while lo < hi {
         let mid = lo + (hi - lo) / 2;
-        if up_to(name_of(s, questions, index[mid]), name) {
+        if not_above(name_of(s, questions, index[mid]), name) {
             lo = mid + 1;
         } else {
             hi = mid;
@@ -76,7 +76,7 @@ fn before_leaf(leaves: &[u64], number: u64) -> usize
 }
 
 // Whether a name stands before another or is the same.
-fn up_to(a: &[u8], b: &[u8]) -> bool
+fn not_above(a: &[u8], b: &[u8]) -> bool
     ensures { λ r. ⌜ r ≡ leb (nameKey (now (a .entry))) (nameKey (now (b .entry))) ⌝ }
 {
     match compare_names(a, b) {

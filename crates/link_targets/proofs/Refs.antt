@@ -17,7 +17,8 @@ use Rattle.laws.proofs.Tables.{sets-append}
 use Rattle.link_order.specs.Keys.{idKey, idAt}
 use Rattle.link_search.specs.Found.{countFrom}
 use Rattle.written.specs.Linking.{pdfOf}
-use Rattle.link_targets.specs.Lines.{natOf, refOf, refAt, WorkLine, lineIn, linesFrom, pdfsOf}
+use Rattle.link_targets.specs.Lines.{refOf, refAt, WorkLine, lineIn, linesFrom, pdfsOf}
+use Rattle.text_parts.specs.Parts.{natOf}
 use Rattle.link_targets.specs.Targets.{orderFrom}
 
 module _ (k v : ℤ) where

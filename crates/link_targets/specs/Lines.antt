@@ -4,15 +4,11 @@ use mathlib.Core.Bool.{cond}
 use mathlib.Core.List.{List, [], _∷_, _++_}
 use Prim.Native.Nat.{ℕ, zero, suc, _+_, _*_}
 use lib.Dec.{eqb}
-use lib.IntN.{ℤ, pos, negsuc}
+use lib.IntN.{ℤ, pos}
 use lib.ListN.{getD}
 use Rattle.written.specs.Said.{Ref, node, pdf}
 use Rattle.written.specs.Linking.{pdfOf}
-
--- a number that is not negative; 0 for one that is
-abbrev pub natOf : ℤ → ℕ
-natOf (pos n) = n
-natOf (negsuc n) = 0
+use Rattle.text_parts.specs.Parts.{natOf}
 
 pub record WorkLine : Type 0 where
   pub id : ℤ

@@ -5,6 +5,11 @@ use link_order::id_of;
 use link_search::Found;
 use link_search::first_leaf;
 use link_search::last_id;
+use table_rows::LINE_NO;
+use table_rows::LINE_YES;
+use table_rows::RECORD_ROW;
+use table_rows::WORK_A_LINE;
+use text_parts::natural;
 ghost use mathlib.Core.Path.{_≡_};
 ghost use Prim.Native.Nat.{_+_, _*_, _<_, _≤_, _^_};
 ghost use lib.Dec.{eqb};
@@ -15,18 +20,8 @@ ghost use Rattle.link_order.specs.Keys.{idKey, idAt};
 ghost use Rattle.link_search.specs.Index.{Index, Ascends};
 ghost use Rattle.link_search.specs.Found.{countFrom, lastBelow};
 ghost use Rattle.written.specs.Linking.{pdfOf};
-ghost use Rattle.link_targets.specs.Lines.{natOf, refAt, pdfsOf, linesFrom};
+ghost use Rattle.link_targets.specs.Lines.{refAt, pdfsOf, linesFrom};
 ghost use Rattle.link_targets.specs.Targets.{targetOf, orderFrom, Ready, Rows};
-
-// A number that is not negative; 0 for one that is.
-pub fn natural(v: i64) -> u64
-    ensures { λ r. ⌜ r ≡ natOf v ⌝ }
-{
-    if v < 0 {
-        return 0;
-    }
-    v as u64
-}
 
 // One more leaf, where the reference whose kind stands at `kind` is a PDF.
 fn push_pdf(work: &[i64], kind: usize, rows: &mut [u64], at: usize) -> usize
@@ -47,8 +42,8 @@ fn push_line(work: &[i64], line: usize, rows: &mut [u64], at: usize) -> usize
     requires { ⌜ (6 * line + 6 ≤ length (now work)) × (at + length (pdfsOf (linesFrom (now work) line 1)) ≤ length (now rows)) ⌝ }
     ensures { λ r. ⌜ (now (rows .exit) ≡ sets (now (rows .entry)) at (pdfsOf (linesFrom (now (work .entry)) line 1))) × (r ≡ at + length (pdfsOf (linesFrom (now (work .entry)) line 1))) ⌝ }
 {
-    let mid = push_pdf(work, 6 * line + 1, rows, at);
-    push_pdf(work, 6 * line + 3, rows, mid)
+    let mid = push_pdf(work, WORK_A_LINE * line + LINE_YES, rows, at);
+    push_pdf(work, WORK_A_LINE * line + LINE_NO, rows, mid)
 }
 
 // The PDF numbers of n lines, from `at` on; and where they end.
@@ -132,7 +127,7 @@ pub fn target(
     if natural(k) == 0 {
         return find_line(work, rows, n, ordered, v);
     }
-    let first = 4 * n;
+    let first = RECORD_ROW * n;
     let end = first + leaves;
     match first_leaf(&rows[first..end], natural(v)) {
         Found::At(leaf) => Found::At(n as u64 + leaf),

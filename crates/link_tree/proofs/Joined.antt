@@ -26,7 +26,8 @@ use Rattle.link_search.specs.declared.Found.{Found}
 use Rattle.link_search.specs.declared.Found.the-variants.{At, Nothing}
 use Rattle.link_search.proofs.Ids.{same-id, id-small}
 use Rattle.link_search.proofs.Last.{last-found, last-missing}
-use Rattle.link_targets.specs.Lines.{natOf, WorkLine, lineIn, linesFrom, refAt, refOf, pdfsOf}
+use Rattle.link_targets.specs.Lines.{WorkLine, lineIn, linesFrom, refAt, refOf, pdfsOf}
+use Rattle.text_parts.specs.Parts.{natOf}
 use Rattle.link_targets.specs.Targets.{moved, targetOf}
 use Rattle.link_rows.specs.Rows.{leafRows}
 use Rattle.link_tree.proofs.Whole.{length-lines}

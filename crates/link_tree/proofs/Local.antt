@@ -14,7 +14,8 @@ use Rattle.link_order.specs.Keys.{keyOf, idKey, idAt}
 use Rattle.link_sort.specs.Sorted.{sorted}
 use Rattle.link_search.specs.Found.{lastBelow}
 use Rattle.link_search.proofs.Last.{last-ext-below}
-use Rattle.link_targets.specs.Lines.{WorkLine, natOf, refAt, lineIn, linesFrom, pdfsOf}
+use Rattle.link_targets.specs.Lines.{WorkLine, refAt, lineIn, linesFrom, pdfsOf}
+use Rattle.text_parts.specs.Parts.{natOf}
 use Rattle.link_targets.specs.Targets.{targetOf}
 use Rattle.link_rows.specs.Rows.{leafRows}
 use Rattle.link_tree.specs.Steps.{stepYes, stepOf, first, outcome, goalsOf, goals}

@@ -7,11 +7,16 @@ use link_sort::sort_ids;
 use link_sort::sort_numbers;
 use link_targets::gather;
 use link_targets::in_order;
-use link_targets::natural;
 use link_targets::number_lines;
 use link_targets::target;
 use table_put::put2;
 use table_put::zero;
+use table_rows::LINE_NO;
+use table_rows::LINE_QUESTION;
+use table_rows::LINE_YES;
+use table_rows::RECORD_ROW;
+use table_rows::WORK_A_LINE;
+use text_parts::natural;
 ghost use mathlib.Core.Path.{_≡_};
 ghost use mathlib.Core.Bool.{cond};
 ghost use Prim.Native.Nat.{_+_, _*_, _≤_};
@@ -53,10 +58,24 @@ fn resolve_line(
     requires { ⌜ (6 * line + 6 ≤ length (now work)) × Rows (now work) n leaves ordered (now rows) ⌝ }
     ensures { λ r. ⌜ r ≡ stepOf (targetOf (now (work .entry)) n (take leaves (drop (4 * n) (now (rows .entry))))) (lineIn (now (work .entry)) line) ⌝ }
 {
-    match target(work, 6 * line + 1, rows, n, leaves, ordered) {
-        Found::At(yes) => match target(work, 6 * line + 3, rows, n, leaves, ordered) {
+    match target(
+        work,
+        WORK_A_LINE * line + LINE_YES,
+        rows,
+        n,
+        leaves,
+        ordered,
+    ) {
+        Found::At(yes) => match target(
+            work,
+            WORK_A_LINE * line + LINE_NO,
+            rows,
+            n,
+            leaves,
+            ordered,
+        ) {
             Found::At(no) => {
-                let q = work[6 * line + 5];
+                let q = work[WORK_A_LINE * line + LINE_QUESTION];
                 if natural(q) == 0 {
                     Step::NoQuestion
                 } else {
@@ -97,7 +116,7 @@ fn sort_leaves(work: &[i64], n: usize, rows: &mut [u64], leaves: usize)
     requires { ⌜ (6 * n ≤ length (now work)) × (leaves ≡ length (pdfsOf (linesFrom (now work) 0 n))) × (4 * n + leaves ≤ length (now rows)) ⌝ }
     ensures { λ r. ⌜ now (rows .exit) ≡ sets (now (rows .entry)) (4 * n) (leavesOf (now (work .entry)) n) ⌝ }
 {
-    let first = 4 * n;
+    let first = RECORD_ROW * n;
     let end = gather(work, n, rows, first);
     sort_numbers(&mut rows[first..end]);
 }
@@ -124,7 +143,7 @@ pub fn link_tree(work: &[i64], n: usize, leaves: usize, rows: &mut [u64]) -> Lin
     let ordered = index_lines(work, n, rows);
     match resolve_lines(work, n, rows, leaves, ordered) {
         Link::Done => {
-            spread_leaves(rows, 4 * n, leaves);
+            spread_leaves(rows, RECORD_ROW * n, leaves);
             write_lines(work, n, rows);
             Link::Done
         }

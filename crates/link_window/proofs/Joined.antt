@@ -12,7 +12,7 @@ use Rattle.tree_line.specs.Lines.{linesAt}
 use Rattle.tree_line.specs.declared.Line.{Line}
 use Rattle.tree_body.specs.declared.TreeHead.{TreeHead}
 use Rattle.tree_body.specs.declared.TreeHead.the-variants as head
-use Rattle.link_order.specs.Keys.{partOr}
+use Rattle.text_parts.specs.Parts.{partInside}
 use Rattle.link_search.specs.declared.Found.{Found}
 use Rattle.link_search.specs.declared.Found.the-variants.{At, Nothing}
 use Rattle.link_find.specs.Find.{asked}
@@ -69,7 +69,7 @@ module _ (s : List ℕ) (qs : List QuestionPlace) (ls : List Line) (R : List ℕ
   unfolding judgedLines firstFrom linkIn linkOf
   lines-fault k b [] = refl
   lines-fault k b (l ∷ rest) =
-      go (nowhere (targetIn ls (l .yes))) (nowhere (targetIn ls (l .no))) (asked s (partOr s (l .start) (l .len)) qs) (first-from (strays ls) (suc k) rest) (first-from (unheard s qs) (suc k) rest) (λ x. lines-fault (suc k) (b && x) rest)
+      go (nowhere (targetIn ls (l .yes))) (nowhere (targetIn ls (l .no))) (asked s (partInside s (l .start) (l .len)) qs) (first-from (strays ls) (suc k) rest) (first-from (unheard s qs) (suc k) rest) (λ x. lines-fault (suc k) (b && x) rest)
     where
       here-first : (u : Bool) → From (suc k) (firstFrom (unheard s qs) (suc k) rest) → From k (cond u (At k) (firstFrom (unheard s qs) (suc k) rest))
       here-first true f = at {m = k} (omega arith)

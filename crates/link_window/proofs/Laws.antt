@@ -24,7 +24,7 @@ use Rattle.tree_line.specs.declared.LineStep.the-variants as answer
 use Rattle.tree_survey_lines.specs.Counts.{linesCounted}
 use Rattle.tree_survey_lines.specs.declared.LineCount.the-variants as count
 use Rattle.tree_survey_lines.proofs.Counting.{items-next, items-last, items-broken, next-in, counted, not-counted}
-use Rattle.link_order.specs.Keys.{partOr}
+use Rattle.text_parts.specs.Parts.{partInside}
 use Rattle.link_search.specs.declared.Found.{Found}
 use Rattle.link_search.proofs.Ids.{true-same}
 use Rattle.link_search.specs.declared.Found.the-variants.{At, Nothing}
@@ -152,7 +152,7 @@ pub record Hearing (s names m : List ℕ) (n : ℕ) (first : ℕ) (e : List ℕ)
   pub each : (j : ℕ) → j < n → (isYes (getD e j 0) || heard s (nameIn s names j) (questions-from s i .items)) ≡ (isYes (getD m j 0) || heard s (nameIn s names j) (questions-from s first .items))
 
 module _ {s names m : List ℕ} {n first : ℕ} {e : List ℕ} {i : ℕ} (w : Hearing s names m n first e i) where
-  module _ {b k : ℕ} {rest : List QuestionPlace} (q : Named s i b k rest) {name : List ℕ} (a : name ≡ partOr s b k) {e′ : List ℕ} (h : Marked e n (λ (j : ℕ). same name (nameIn s names j)) e′) where
+  module _ {b k : ℕ} {rest : List QuestionPlace} (q : Named s i b k rest) {name : List ℕ} (a : name ≡ partInside s b k) {e′ : List ℕ} (h : Marked e n (λ (j : ℕ). same name (nameIn s names j)) e′) where
     heard-step : (j : ℕ) → j < n → (isYes (getD e′ j 0) || heard s (nameIn s names j) rest) ≡ (isYes (getD m j 0) || heard s (nameIn s names j) (questions-from s first .items))
     unfolding heard
     heard-step j l =
@@ -169,7 +169,7 @@ module _ {s names m : List ℕ} {n first : ℕ} {e : List ℕ} {i : ℕ} (w : He
           each = λ j l. sym (or-none (isYes (getD e′ j 0))) ∙ sym (ap (λ (x : List QuestionPlace). isYes (getD e′ j 0) || heard s (nameIn s names j) x) z) ∙ heard-step j l;
         }
 
-  pub hearing-on : {b k i′ : ℕ} → Named s i b k (questions-from s i′ .items) → {name : List ℕ} → name ≡ partOr s b k → {e′ : List ℕ} → Marked e n (λ (j : ℕ). same name (nameIn s names j)) e′ → Hearing s names m n first e′ i′
+  pub hearing-on : {b k i′ : ℕ} → Named s i b k (questions-from s i′ .items) → {name : List ℕ} → name ≡ partInside s b k → {e′ : List ℕ} → Marked e n (λ (j : ℕ). same name (nameIn s names j)) e′ → Hearing s names m n first e′ i′
   hearing-on q a h = record { long = h .long ∙ w .long; each = heard-step q a h }
 
   pub hearing-none : questions-from s i .items ≡ [] → Marked m n (λ (j : ℕ). heard s (nameIn s names j) (questions-from s first .items)) e
@@ -324,14 +324,14 @@ module _ (s w : List ℕ) where
       go false e g r = r g ∙ ap (λ (b : Bool). noRow (cond b (At k) f)) e
 
 module _ (s names : List ℕ) (qs : List QuestionPlace) {n : ℕ} {ls : List Line} (h : Holds names n ls) where
-  name-is : {j : ℕ} {l : Line} → Nth ls j l → j < n → nameIn s names j ≡ partOr s (l .start) (l .len)
-  name-is {j} {l} w g = let r = h j l w g in ap₂ (partOr s) (r .0) (r .1)
+  name-is : {j : ℕ} {l : Line} → Nth ls j l → j < n → nameIn s names j ≡ partInside s (l .start) (l .len)
+  name-is {j} {l} w g = let r = h j l w g in ap₂ (partInside s) (r .0) (r .1)
 
   pub is-heard : {j : ℕ} {l : Line} → Nth ls j l → j < n → heard s (nameIn s names j) qs ≡ true → unheard s qs l ≡ false
-  is-heard {j} {l} w g e = heard-found s (partOr s (l .start) (l .len)) 0 Nothing qs (sym (ap (λ (x : List ℕ). heard s x qs) (name-is w g)) ∙ e)
+  is-heard {j} {l} w g e = heard-found s (partInside s (l .start) (l .len)) 0 Nothing qs (sym (ap (λ (x : List ℕ). heard s x qs) (name-is w g)) ∙ e)
 
   pub is-unheard : {j : ℕ} {l : Line} → Nth ls j l → j < n → heard s (nameIn s names j) qs ≡ false → unheard s qs l ≡ true
-  is-unheard {j} {l} w g e = unheard-kept s (partOr s (l .start) (l .len)) 0 Nothing qs (sym (ap (λ (x : List ℕ). heard s x qs) (name-is w g)) ∙ e)
+  is-unheard {j} {l} w g e = unheard-kept s (partInside s (l .start) (l .len)) 0 Nothing qs (sym (ap (λ (x : List ℕ). heard s x qs) (name-is w g)) ∙ e)
 
 -- ---- a window
 
@@ -469,8 +469,8 @@ window-less (clean a) h = omega arith
 
 -- ---- a name of another length
 
-pub other-length : (s w : List ℕ) (b n : ℕ) → 0 < length w → ¬ (length w ≡ n) → false ≡ same w (partOr s b n)
-unfolding partOr
+pub other-length : (s w : List ℕ) (b n : ℕ) → 0 < length w → ¬ (length w ≡ n) → false ≡ same w (partInside s b n)
+unfolding partInside
 other-length s w b n p h = go (same w (cond (leb b (length s) && leb n (length s - b)) (part s b n) [])) refl
   where
     never : (c d : Bool) → leb b (length s) ≡ c → leb n (length s - b) ≡ d → w ≡ cond (c && d) (part s b n) [] → ⊥

@@ -15,7 +15,7 @@ use Rattle.tree_line.specs.Lines.{linesAt}
 use Rattle.tree_line.specs.declared.Line.{Line}
 use Rattle.tree_body.specs.declared.TreeHead.{TreeHead}
 use Rattle.tree_body.specs.declared.TreeHead.the-variants as head
-use Rattle.link_order.specs.Keys.{partOr}
+use Rattle.text_parts.specs.Parts.{partInside}
 use Rattle.link_search.specs.declared.Found.{Found}
 use Rattle.link_search.specs.declared.Found.the-variants.{At, Nothing}
 use Rattle.link_find.specs.Find.{named, asked}
@@ -46,7 +46,7 @@ pub data FirstOf (p : ℕ → Bool) (n : ℕ) : Found → Type 0 where
 
 -- name j: where it begins, and how long it is
 abbrev pub nameIn : List ℕ → List ℕ → ℕ → List ℕ
-nameIn s names j = partOr s (getD names (2 * j) 0) (getD names (2 * j + 1) 0)
+nameIn s names j = partInside s (getD names (2 * j) 0) (getD names (2 * j + 1) 0)
 
 -- some question bears a name
 unfoldable pub heard : List ℕ → List ℕ → List QuestionPlace → Bool
@@ -79,7 +79,7 @@ noRow Nothing = true
 
 -- its question isn't there
 abbrev pub unheard : List ℕ → List QuestionPlace → Line → Bool
-unheard s qs l = noRow (asked s (partOr s (l .start) (l .len)) qs)
+unheard s qs l = noRow (asked s (partInside s (l .start) (l .len)) qs)
 
 -- its yes or its no leads nowhere
 abbrev pub strays : List Line → Line → Bool

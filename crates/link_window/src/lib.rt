@@ -9,8 +9,8 @@ use link_find::NameStep;
 use link_find::ids_in_order;
 use link_find::next_name;
 use link_find::same_name;
-use link_order::part_or;
 use link_search::Found;
+use text_parts::part_inside;
 use tree_body::TreeHead;
 use tree_body::tree_head;
 use tree_line::Line;
@@ -31,7 +31,7 @@ ghost use Rattle.laws.specs.Steps.{read};
 ghost use Rattle.tree_line.specs.Lines.{linesAt};
 ghost use Rattle.tree_question.specs.Questions.{questionStepAt, questionsAt};
 ghost use Rattle.tree_body.specs.Trees.{headAt};
-ghost use Rattle.link_order.specs.Keys.{partOr};
+ghost use Rattle.text_parts.specs.Parts.{partInside};
 ghost use Rattle.link_find.specs.Find.{Lines};
 ghost use Rattle.link_window.specs.Windows.{nameIn, heard, Marked, FirstOf, Filling, Windowed, unheard, strays, firstFrom, faultAlone, faultLines, faultBraces, faultHead};
 
@@ -115,7 +115,7 @@ fn is_name(s: &[u8], names: &[u64], j: usize, name: &[u8]) -> bool
             return false;
         }
     }
-    same_name(name, part_or(s, names[2 * j], len))
+    same_name(name, part_inside(s, names[2 * j], len))
 }
 
 // Those of the first n names that are this one.
@@ -139,11 +139,11 @@ fn mark_all(s: &[u8], first: usize, names: &[u64], met: &mut [u8], n: usize)
     loop {
         match next_name(s, i) {
             NameStep::Next { start, len, next } => {
-                mark(s, names, met, n, part_or(s, start as u64, len as u64));
+                mark(s, names, met, n, part_inside(s, start as u64, len as u64));
                 i = next;
             }
             NameStep::Last { start, len } => {
-                mark(s, names, met, n, part_or(s, start as u64, len as u64));
+                mark(s, names, met, n, part_inside(s, start as u64, len as u64));
                 return;
             }
             NameStep::Broken => {

@@ -13,13 +13,13 @@ use Rattle.written.specs.Linking.{Nth}
 use Rattle.written.proofs.Walk.{nth-once, last-once}
 use Rattle.laws.proofs.Nth.{nth-inside}
 use Rattle.table_rows.proofs.Stand.{nth-at}
-use Rattle.head_record.specs.declared.Span.{Span}
+use Rattle.text_parts.specs.declared.Span.{Span}
 use Rattle.head_record.specs.declared.StreamData.{StreamData}
 use Rattle.head_record.specs.declared.PositionData.{PositionData}
 use Rattle.head_record.specs.declared.Header.{Header}
 use Rattle.head_record_fits.specs.Fits.{noStream, noPosition, recordFits}
 use Rattle.head_record_fits.proofs.Fits.{fits}
-use Rattle.head_brackets.specs.Rows.{bytesOf}
+use Rattle.text_parts.specs.Parts.{bytesOf}
 use Rattle.link_search.specs.Found.{lastBelow}
 use Rattle.link_search.specs.declared.Found.{Found}
 use Rattle.link_search.specs.declared.Found.the-variants.{At, Nothing}

@@ -8,13 +8,13 @@ use lib.ListN.{getD}
 use Rattle.written.specs.Bytes.{same}
 use Rattle.error.specs.declared.Refusal.the-variants as refusal
 use Rattle.head_record.specs.Empty.{noSpan}
-use Rattle.head_record.specs.declared.Span.{Span}
+use Rattle.text_parts.specs.declared.Span.{Span}
 use Rattle.head_record.specs.declared.StreamData.{StreamData}
 use Rattle.head_record.specs.declared.PositionData.{PositionData}
 use Rattle.head_record_fits.specs.Fits.{noStream, noPosition, recordFits}
 use Rattle.head_record_fits.proofs.Fits.{fits}
 use Rattle.head_words.specs.Words.{wordAt, flagAt, spanAt, globalAt, streamAt, positionAt, headerAt}
-use Rattle.head_brackets.specs.Rows.{bytesOf}
+use Rattle.text_parts.specs.Parts.{bytesOf}
 use Rattle.link_search.specs.Found.{lastBelow}
 use Rattle.link_search.specs.declared.Found.{Found}
 use Rattle.link_search.specs.declared.Found.the-variants.{At, Nothing}

@@ -8,11 +8,11 @@ use lib.ListN.{length, getD, take}
 use Rattle.written.specs.Linking.{Nth, Last}
 use Rattle.error.specs.declared.Refusal.the-variants as refusal
 use Rattle.head_record.specs.Empty.{noSpan}
-use Rattle.head_record.specs.declared.Span.{Span}
+use Rattle.text_parts.specs.declared.Span.{Span}
 use Rattle.head_record.specs.declared.StreamData.{StreamData}
 use Rattle.head_record.specs.declared.PositionData.{PositionData}
 use Rattle.head_record.specs.declared.Header.{Header}
-use Rattle.head_brackets.specs.Rows.{bytesOf}
+use Rattle.text_parts.specs.Parts.{bytesOf}
 use Rattle.head_record_fits.specs.Fits.{recordFits}
 use Rattle.load_choose.specs.Chosen.{modelOf, streamModel, gvModel}
 use Rattle.load_choose.specs.declared.Which.{Which}

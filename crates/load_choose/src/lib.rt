@@ -2,8 +2,6 @@
 // (16 for the record, 13, 14, 15, the width's limit). Groups are found last-wins, since a record that no opening made may name one twice; no number wraps.
 //
 use error::Refusal;
-use head_brackets::same_part;
-use head_record::Span;
 use head_words::DURATION_PDF;
 use head_words::DURATION_TREE;
 use head_words::GV_PDF;
@@ -27,12 +25,14 @@ use head_words::USE_GV;
 use head_words::VECTOR_LENGTH;
 use head_words_fit::record_fits;
 use link_search::Found;
+use text_parts::Span;
+use text_parts::same_part;
 ghost use mathlib.Core.Path.{_≡_};
 ghost use mathlib.Core.Bool.{true, _&&_, cond};
 ghost use Prim.Native.Nat.{_+_, _*_, _≤_, _<_, min};
 ghost use lib.ListN.{length};
 ghost use Rattle.written.specs.Bytes.{same};
-ghost use Rattle.head_brackets.specs.Rows.{bytesOf};
+ghost use Rattle.text_parts.specs.Parts.{bytesOf};
 ghost use Rattle.head_record_fits.specs.Fits.{recordFits};
 ghost use Rattle.head_words.specs.Words.{wordAt, spanAt, rangeAt, streamAt, positionAt, headerAt};
 ghost use Rattle.link_search.specs.Found.{lastBelow};
@@ -81,7 +81,12 @@ pub fn within(from: u64, to: u64, len: usize) -> Bounds
     }
 }
 
-// The product, or 4097 where it is greater.
+// The greatest width of an entry (01, 'Limits').
+const WIDTH_LIMIT: u64 = 4096;
+
+const TOO_WIDE: u64 = 4097;
+
+// The product, or one more than the limit where it is greater.
 fn product(a: u64, b: u64) -> u64
     ensures { λ r. ⌜ r ≡ min (a * b) 4097 ⌝ }
 {
@@ -91,15 +96,15 @@ fn product(a: u64, b: u64) -> u64
     if b == 0 {
         return 0;
     }
-    if 4096 < a {
-        return 4097;
+    if WIDTH_LIMIT < a {
+        return TOO_WIDE;
     }
-    if 4096 < b {
-        return 4097;
+    if WIDTH_LIMIT < b {
+        return TOO_WIDE;
     }
     let p = a * b;
-    if 4096 < p {
-        return 4097;
+    if WIDTH_LIMIT < p {
+        return TOO_WIDE;
     }
     p
 }
@@ -110,7 +115,7 @@ fn model(words: &[u64], tree: usize, pdf: usize, a: u64, b: u64, msd: bool) -> C
     ensures { λ r. ⌜ r ≡ modelOf (rangeAt (now (words .entry)) tree) (rangeAt (now (words .entry)) pdf) (2 * (a * b) + bit msd) ⌝ }
 {
     let width = 2 * product(a, b) + msd as u64;
-    if 4096 < width {
+    if WIDTH_LIMIT < width {
         return Chosen::Refused(Refusal::Limit);
     }
     Chosen::Model {

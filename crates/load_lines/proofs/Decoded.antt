@@ -15,7 +15,8 @@ use Rattle.tree_reference.specs.declared.TreeIndex.the-variants.{Node, Pdf}
 use Rattle.tree_line.specs.declared.Line.{Line}
 use Rattle.tree_survey_lines.specs.Counts.{linePdfs}
 use Rattle.written.specs.Linking.{pdfOf}
-use Rattle.link_targets.specs.Lines.{WorkLine, natOf, refOf, refAt, lineIn, linesFrom, pdfsOf}
+use Rattle.link_targets.specs.Lines.{WorkLine, refOf, refAt, lineIn, linesFrom, pdfsOf}
+use Rattle.text_parts.specs.Parts.{natOf}
 use Rattle.load_lines.specs.Words.{kindOf, numberOf, askedAt, wordsOf, lineWords}
 
 -- a reference of the text as linking has it

@@ -4,7 +4,8 @@ use mathlib.Core.List.{List, [], _∷_, _++_}
 use Prim.Native.Nat.{ℕ, _+_}
 use lib.IntN.{ℤ, pos}
 use Rattle.written.specs.Bytes.{same}
-use Rattle.link_order.specs.Keys.{partOr, nameAt}
+use Rattle.link_order.specs.Keys.{nameAt}
+use Rattle.text_parts.specs.Parts.{partInside}
 use Rattle.link_search.specs.Found.{lastBelow}
 use Rattle.link_search.specs.declared.Found.{Found}
 use Rattle.link_search.specs.declared.Found.the-variants.{At, Nothing}
@@ -26,7 +27,7 @@ askedOf Nothing = pos 0
 
 -- the last of n questions whose name the bytes at start are
 unfoldable pub askedAt : List ℕ → List ℕ → ℕ → ℕ → ℕ → ℤ
-askedAt s questions n start len = askedOf (lastBelow (λ e. same (nameAt s questions e) (partOr s start len)) n)
+askedAt s questions n start len = askedOf (lastBelow (λ e. same (nameAt s questions e) (partInside s start len)) n)
 
 abbrev pub wordsOf : Line → ℤ → List ℤ
 wordsOf l q = l .id ∷ kindOf (l .yes) ∷ numberOf (l .yes) ∷ kindOf (l .no) ∷ numberOf (l .no) ∷ q ∷ []

@@ -1,7 +1,13 @@
 // After model/mod.rs, `convert_tree`: the lines of a tree, out of the text into the work (01, 'Linking and tables').
-use link_order::part_or;
 use link_search::Found;
 use link_search::last_question;
+use table_rows::LINE_NO;
+use table_rows::LINE_NO_NUMBER;
+use table_rows::LINE_QUESTION;
+use table_rows::LINE_YES;
+use table_rows::LINE_YES_NUMBER;
+use table_rows::WORK_A_LINE;
+use text_parts::part_inside;
 use tree_line::Line;
 use tree_line::LineStep;
 use tree_line::next_line;
@@ -42,7 +48,12 @@ fn asked(s: &[u8], questions: &[u64], index: &[u64], start: usize, len: usize) -
     requires { ⌜ Index (λ e. nameKey (nameAt (now s) (now questions) e)) (now index) × (length (now index) < 2 ^ 62) ⌝ }
     ensures { λ r. ⌜ r ≡ askedAt (now (s .entry)) (now (questions .entry)) (length (now (index .entry))) start len ⌝ }
 {
-    match last_question(s, questions, index, part_or(s, start as u64, len as u64)) {
+    match last_question(
+        s,
+        questions,
+        index,
+        part_inside(s, start as u64, len as u64),
+    ) {
         Found::At(row) => (row + 1) as i64,
         Found::Nothing => 0,
     }
@@ -57,11 +68,11 @@ fn put_line(work: &mut [i64], at: usize, line: Line, question: i64)
     let no = line.no;
     let id = line.id;
     work[at] = id;
-    work[at + 1] = kind_of(yes);
-    work[at + 2] = number_of(yes);
-    work[at + 3] = kind_of(no);
-    work[at + 4] = number_of(no);
-    work[at + 5] = question;
+    work[at + LINE_YES] = kind_of(yes);
+    work[at + LINE_YES_NUMBER] = number_of(yes);
+    work[at + LINE_NO] = kind_of(no);
+    work[at + LINE_NO_NUMBER] = number_of(no);
+    work[at + LINE_QUESTION] = question;
 }
 
 // The lines of a tree whose first stands at `at`, into the work from its front on; and their count, so that a load reads them once.
@@ -88,7 +99,7 @@ pub fn fill_lines(
                     line,
                     asked(s, questions, index, line.start, line.len),
                 );
-                word = word + 6;
+                word = word + WORK_A_LINE;
                 n = n + 1;
                 m = m + line_pdfs(line);
                 i = next;

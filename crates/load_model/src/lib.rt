@@ -1,7 +1,6 @@
 // After model/mod.rs, `parse_model`: a planned model into the lent tables, all or nothing (01, 'Linking and tables'): rows and linking (21 to 23), which leave every
 // table and the work zero where they refuse. Takes tables of any length that have room; `load_shared` cuts them to the rows needed.
 use error::Refusal;
-use head_brackets::up_to;
 use load_plan::Plan;
 use load_text::fill_text;
 use load_trees::Linked;
@@ -9,6 +8,7 @@ use load_trees::all_linked;
 use pdf_values::fill_blocks;
 use pdf_values::fill_values;
 use table_put::zero;
+use text_parts::up_to;
 ghost use mathlib.Core.Path.{_≡_};
 ghost use mathlib.Core.Bool.{true};
 ghost use Prim.Native.Nat.{_+_, _*_, _<_, _^_};

@@ -1,8 +1,6 @@
 // The stages of a load before its tables are looked at (01, 'Order when loading a model'): which model, then tree 16, 17, 18, PDF 16, 19; and what
 // the model needs of each table. Nothing lent is written here, so that builders can size their tables by it.
 use error::Refusal;
-use head_brackets::up_to;
-use head_lines::part_of;
 use head_words::DATA_LEN;
 use head_words::DATA_START;
 use load_choose::Bounds;
@@ -12,6 +10,8 @@ use load_choose::choose;
 use load_choose::within;
 use pdf_blocks::Block;
 use pdf_blocks::check_block;
+use text_parts::part_of;
+use text_parts::up_to;
 use tree_survey::Trees;
 use tree_survey::survey_trees;
 use tree_survey_questions::Questions;

@@ -13,7 +13,8 @@ use Rattle.written.specs.Linking.{Nth, here, there}
 use Rattle.laws.proofs.Nth.{nth-inside}
 use Rattle.laws.specs.Totals.{total}
 use Rattle.laws.proofs.Tables.{sets-at}
-use Rattle.link_order.specs.Keys.{partOr, nameAt}
+use Rattle.link_order.specs.Keys.{nameAt}
+use Rattle.text_parts.specs.Parts.{partInside}
 use Rattle.tree_survey_questions.specs.Counts.{patternCount}
 use Rattle.load_questions.specs.Words.{spanWords, patternWords, questionWords}
 use Rattle.load_questions.proofs.Patterns.{span-length}
@@ -71,14 +72,14 @@ module _ (t : List ℕ) (qs : List QuestionPlace) (h : 4 * length qs ≤ length 
         }
 
     -- the name that linking finds in the row is the question's
-    pub question-name-is : (s : List ℕ) → nameAt s (sets t 0 (questionWords 0 qs)) e ≡ partOr s (q .name .start) (q .name .len)
+    pub question-name-is : (s : List ℕ) → nameAt s (sets t 0 (questionWords 0 qs)) e ≡ partInside s (q .name .start) (q .name .len)
     unfolding nameAt
     question-name-is s =
         let l : e < length qs = nth-inside r in
         let n : length asked ≡ length t = length-sets t 0 (questionWords 0 qs) in
         let i : e < length asked / 4 = omega arith in
-        ap (λ (b : Bool). cond b (partOr s (getD asked (4 * e) 0) (getD asked (4 * e + 1) 0)) []) (lt-ltb e (length asked / 4) i)
-        ∙ ap₂ (partOr s) (question-row-is .starts) (question-row-is .long)
+        ap (λ (b : Bool). cond b (partInside s (getD asked (4 * e) 0) (getD asked (4 * e + 1) 0)) []) (lt-ltb e (length asked / 4) i)
+        ∙ ap₂ (partInside s) (question-row-is .starts) (question-row-is .long)
 
 -- ---- pattern rows
 

@@ -3,6 +3,8 @@
 // read, so that no pattern is counted once more before it is stored.
 use table_put::put2;
 use table_put::put4;
+use table_rows::PATTERN_ROW;
+use table_rows::QUESTION_ROW;
 use tree_question::Item;
 use tree_question::PatternStep;
 use tree_question::QuestionHead;
@@ -95,7 +97,7 @@ fn fill_questions_from(s: &[u8], at: usize, questions: &mut [u64])
                     pattern as u64,
                     patterns as u64,
                 );
-                word = word + 4;
+                word = word + QUESTION_ROW;
                 pattern = pattern + patterns;
                 i = next;
             }
@@ -183,7 +185,7 @@ fn fill_patterns_from(s: &[u8], at: usize, patterns: &mut [u64])
                     next: end,
                 } => match after_question(s, end) {
                     Item::Question(next) => {
-                        word = word + 2 * n;
+                        word = word + PATTERN_ROW * n;
                         i = next;
                     }
                     Item::Tree(_) => {

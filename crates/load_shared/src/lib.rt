@@ -11,6 +11,11 @@ use load_plan::Planned;
 use load_plan::data_of;
 use load_plan::needs;
 use table_put::zero;
+use table_rows::PATTERN_ROW;
+use table_rows::QUESTION_ROW;
+use table_rows::RECORD_ROW;
+use table_rows::TREE_ROW;
+use table_rows::WORK_A_LINE;
 ghost use mathlib.Core.Path.{_≡_};
 ghost use Prim.Native.Nat.{_+_, _*_, _-_, _≤_, _<_, _^_};
 ghost use lib.Dec.{leb};
@@ -74,16 +79,16 @@ pub fn stand(
 ) -> bool
     ensures { λ r. ⌜ r ≡ standsAt (heldOf a) (heldOf b) questions patterns trees records values ⌝ }
 {
-    if !beside(questions / 4, a.questions, b.questions) {
+    if !beside(questions / QUESTION_ROW, a.questions, b.questions) {
         return false;
     }
-    if !beside(patterns / 2, a.patterns, b.patterns) {
+    if !beside(patterns / PATTERN_ROW, a.patterns, b.patterns) {
         return false;
     }
-    if !beside(trees / 6, a.trees, b.trees) {
+    if !beside(trees / TREE_ROW, a.trees, b.trees) {
         return false;
     }
-    if !beside(records / 4, a.records, b.records) {
+    if !beside(records / RECORD_ROW, a.records, b.records) {
         return false;
     }
     beside(values, a.values, b.values)
@@ -139,14 +144,14 @@ fn fill_own(
     ensures { λ r. ⌜ FillsOwn (sideOf top) (now (d .entry)) p (lent (now (questions .entry)) (now (patterns .entry)) (now (trees .entry)) (now (records .entry)) (now (values .entry)) (now (work .entry))) r (lent (now (questions .exit)) (now (patterns .exit)) (now (trees .exit)) (now (records .exit)) (now (values .exit)) (now (work .exit))) ⌝ }
 {
     let n = (p.entries * p.width) as usize;
-    let q = 4 * first_row(top, questions.len() / 4, p.questions);
-    let q_end = q + 4 * p.questions;
-    let a = 2 * first_row(top, patterns.len() / 2, p.patterns);
-    let a_end = a + 2 * p.patterns;
-    let t = 6 * first_row(top, trees.len() / 6, p.trees);
-    let t_end = t + 6 * p.trees;
-    let r = 4 * first_row(top, records.len() / 4, p.records);
-    let r_end = r + 4 * p.records;
+    let q = QUESTION_ROW * first_row(top, questions.len() / QUESTION_ROW, p.questions);
+    let q_end = q + QUESTION_ROW * p.questions;
+    let a = PATTERN_ROW * first_row(top, patterns.len() / PATTERN_ROW, p.patterns);
+    let a_end = a + PATTERN_ROW * p.patterns;
+    let t = TREE_ROW * first_row(top, trees.len() / TREE_ROW, p.trees);
+    let t_end = t + TREE_ROW * p.trees;
+    let r = RECORD_ROW * first_row(top, records.len() / RECORD_ROW, p.records);
+    let r_end = r + RECORD_ROW * p.records;
     let v = first_row(top, values.len(), n);
     let v_end = v + n;
     fill(
@@ -192,7 +197,7 @@ pub fn load(
             ) {
                 return Loaded::Refused(Refusal::Room);
             }
-            if work.len() / 6 < p.lines {
+            if work.len() / WORK_A_LINE < p.lines {
                 return Loaded::Refused(Refusal::Room);
             }
             fill_own(
@@ -242,14 +247,14 @@ pub fn unload(
     ) {
         return false;
     }
-    let q = 4 * first_row(top, questions.len() / 4, mine.questions);
-    let q_end = q + 4 * mine.questions;
-    let a = 2 * first_row(top, patterns.len() / 2, mine.patterns);
-    let a_end = a + 2 * mine.patterns;
-    let t = 6 * first_row(top, trees.len() / 6, mine.trees);
-    let t_end = t + 6 * mine.trees;
-    let r = 4 * first_row(top, records.len() / 4, mine.records);
-    let r_end = r + 4 * mine.records;
+    let q = QUESTION_ROW * first_row(top, questions.len() / QUESTION_ROW, mine.questions);
+    let q_end = q + QUESTION_ROW * mine.questions;
+    let a = PATTERN_ROW * first_row(top, patterns.len() / PATTERN_ROW, mine.patterns);
+    let a_end = a + PATTERN_ROW * mine.patterns;
+    let t = TREE_ROW * first_row(top, trees.len() / TREE_ROW, mine.trees);
+    let t_end = t + TREE_ROW * mine.trees;
+    let r = RECORD_ROW * first_row(top, records.len() / RECORD_ROW, mine.records);
+    let r_end = r + RECORD_ROW * mine.records;
     let v = first_row(top, values.len(), mine.values);
     let v_end = v + mine.values;
     clear(questions, q, q_end);

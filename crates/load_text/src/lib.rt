@@ -10,6 +10,7 @@ use load_trees::all_linked;
 use load_trees::fill_trees;
 use table_put::zero;
 use table_put::zero_work;
+use table_rows::QUESTION_ROW;
 ghost use mathlib.Core.Path.{_≡_};
 ghost use Prim.Native.Nat.{_≤_};
 ghost use lib.ListN.{length, replicate};
@@ -41,7 +42,7 @@ fn link_text(
     ensures { λ r. ⌜ TextLinked (now (s .entry)) at first n (now (questions .entry)) (now (patterns .entry)) (now (trees .entry)) (now (records .entry)) (now (work .entry)) r (now (questions .exit)) (now (patterns .exit)) (now (trees .exit)) (now (records .exit)) (now (work .exit)) ⌝ }
 {
     fill_questions(s, at, questions);
-    let words = 4 * n;
+    let words = QUESTION_ROW * n;
     index_names(s, &questions[0..words], n, patterns);
     fill_trees(
         s,

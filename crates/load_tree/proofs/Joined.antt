@@ -13,7 +13,8 @@ use Rattle.written.specs.Said.{Ref, node, pdf, Question}
 use Rattle.written.specs.Linking as L
 use Rattle.written.specs.Linking.{Nth, here, there, Last, LastQuestion, Single, alone, alike, NotSingle, Row, leaf, Records, Refused, Asked, asked}
 use Rattle.laws.proofs.Nth.{nth-inside, nth-of}
-use Rattle.link_order.specs.Keys.{nameAt, partOr}
+use Rattle.link_order.specs.Keys.{nameAt}
+use Rattle.text_parts.specs.Parts.{partInside}
 use Rattle.link_search.specs.Found.{lastBelow}
 use Rattle.link_search.specs.declared.Found.{Found}
 use Rattle.link_search.specs.declared.Found.the-variants.{At, Nothing}
@@ -22,7 +23,8 @@ use Rattle.tree_reference.specs.References.{indexOf, sameIndex}
 use Rattle.tree_reference.proofs.Same.{same-index, index-same}
 use Rattle.tree_line.specs.Lines.{lineOf}
 use Rattle.tree_line.specs.declared.Line.{Line}
-use Rattle.link_targets.specs.Lines.{natOf, WorkLine, linesFrom}
+use Rattle.link_targets.specs.Lines.{WorkLine, linesFrom}
+use Rattle.text_parts.specs.Parts.{natOf}
 use Rattle.link_tree.proofs.Joined.{AskedAs, some, none, Says}
 use Rattle.link_search.proofs.Last.{last-found, last-missing}
 use Rattle.load_lines.specs.Words.{askedOf, askedAt, lineWords}
@@ -36,40 +38,40 @@ ref-is (pdf n) = refl
 
 module _ (s questions : List ℕ) (qs : List Question) (named : (e : ℕ) (q : Question) → Nth qs e q → nameAt s questions e ≡ q .name) where
   -- the question of a line is the last of its name
-  asked-as : (start len : ℕ) (name : List ℕ) → partOr s start len ≡ name → AskedAs qs name (natOf (askedAt s questions (length qs) start len))
+  asked-as : (start len : ℕ) (name : List ℕ) → partInside s start len ≡ name → AskedAs qs name (natOf (askedAt s questions (length qs) start len))
   unfolding askedAt
   asked-as start len name e = go (lastBelow test (length qs)) refl
     where
       test : ℕ → Bool
-      test e = same (nameAt s questions e) (partOr s start len)
+      test e = same (nameAt s questions e) (partInside s start len)
 
-      go : (f : Found) → lastBelow (λ e. same (nameAt s questions e) (partOr s start len)) (length qs) ≡ f → AskedAs qs name (natOf (askedOf f))
+      go : (f : Found) → lastBelow (λ e. same (nameAt s questions e) (partInside s start len)) (length qs) ≡ f → AskedAs qs name (natOf (askedOf f))
       go (At k) p =
-          let f = last-found (λ e. same (nameAt s questions e) (partOr s start len)) (length qs) k p in
+          let f = last-found (λ e. same (nameAt s questions e) (partInside s start len)) (length qs) k p in
           let q = nth-of qs k (f .0) in
           let z : suc k ≡ k + 1 = omega arith in
           subst (λ (i : ℕ). AskedAs qs name i) z
           (some record {
             at = q .0;
             stands = q .1;
-            true-of = sym (named k (q .0) (q .1)) ∙ true-same (nameAt s questions k) (partOr s start len) (f .1) ∙ e;
+            true-of = sym (named k (q .0) (q .1)) ∙ true-same (nameAt s questions k) (partInside s start len) (f .1) ∙ e;
             after = λ m x h r g.
-                let i : nameAt s questions m ≡ partOr s start len = named m x r ∙ g ∙ sym e in
-                let u : _≡_ {A = Bool} true false = sym (ap (λ a. same a (partOr s start len)) i ∙ same-true (partOr s start len)) ∙ f .2 m h (nth-inside r) in
+                let i : nameAt s questions m ≡ partInside s start len = named m x r ∙ g ∙ sym e in
+                let u : _≡_ {A = Bool} true false = sym (ap (λ a. same a (partInside s start len)) i ∙ same-true (partInside s start len)) ∙ f .2 m h (nth-inside r) in
                 let t : _≡_ {A = ℕ} 0 1 = cc in omega arith;
           })
       go Nothing p = none no-one
         where
           no-one : ¬ Asked qs name
           no-one (asked {k = m} {q = x} r g) =
-              let i : nameAt s questions m ≡ partOr s start len = named m x r ∙ g ∙ sym e in
-              let u : _≡_ {A = Bool} true false = sym (ap (λ a. same a (partOr s start len)) i ∙ same-true (partOr s start len)) ∙ last-missing (λ e. same (nameAt s questions e) (partOr s start len)) (length qs) p m (nth-inside r) in
+              let i : nameAt s questions m ≡ partInside s start len = named m x r ∙ g ∙ sym e in
+              let u : _≡_ {A = Bool} true false = sym (ap (λ a. same a (partInside s start len)) i ∙ same-true (partInside s start len)) ∙ last-missing (λ e. same (nameAt s questions e) (partInside s start len)) (length qs) p m (nth-inside r) in
               let t : _≡_ {A = ℕ} 0 1 = cc in omega arith
 
   -- names of lines, where they stand
   pub data Stand : List said.Line → List Span → Type 0 where
     end : Stand [] []
-    line : {l : said.Line} {ls : List said.Line} {x : Span} {ws : List Span} → partOr s (x .start) (x .len) ≡ l .question → Stand ls ws → Stand (l ∷ ls) (x ∷ ws)
+    line : {l : said.Line} {ls : List said.Line} {x : Span} {ws : List Span} → partInside s (x .start) (x .len) ≡ l .question → Stand ls ws → Stand (l ∷ ls) (x ∷ ws)
 
   abbrev asks : Line → ℤ
   asks l = askedAt s questions (length qs) (l .start) (l .len)

@@ -14,7 +14,7 @@ use Rattle.tree_line.specs.Lines.{linesAt}
 use Rattle.tree_line.specs.declared.Line.{Line}
 use Rattle.tree_body.specs.Trees.{Body, lone, braces}
 use Rattle.tree_survey_lines.specs.Counts.{recordsOf}
-use Rattle.link_targets.specs.Lines.{natOf}
+use Rattle.text_parts.specs.Parts.{natOf}
 use Rattle.link_tree.specs.Linked.{linkOutcome, linkedRows, rowsAfter}
 use Rattle.link_tree.specs.declared.Link.{Link}
 use Rattle.link_tree.specs.declared.Link.the-variants as link

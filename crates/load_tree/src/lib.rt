@@ -1,10 +1,11 @@
 // After model/mod.rs, `convert_tree`: the records of one tree of the text, into its part of the record table (01, 'Linking and tables').
 // A lone reference, or one braced line with equal references, is a bare leaf if it is a PDF.
-use link_targets::natural;
 use link_tree::Link;
 use link_tree::link_tree;
 use load_lines::fill_lines;
 use table_put::put4;
+use table_rows::RECORD_ROW;
+use text_parts::natural;
 use tree_line::Line;
 use tree_line::LineStep;
 use tree_line::next_line;
@@ -98,7 +99,7 @@ fn link_lines(
     requires { ⌜ (6 * lines ≤ length (now work)) × (needed ≡ lines + length (pdfsOf (linesFrom (now work) 0 lines))) × (first + 4 * needed ≤ length (now records)) ⌝ }
     ensures { λ r. ⌜ (r ≡ linkResult (now (work .entry)) lines needed .ends) × (now (records .exit) ≡ sets (now (records .entry)) first (linkResult (now (work .entry)) lines needed .rows)) ⌝ }
 {
-    let end = first + 4 * needed;
+    let end = first + RECORD_ROW * needed;
     match link_tree(work, lines, needed - lines, &mut records[first..end]) {
         Link::Done => Filled::Done {
             records: needed,

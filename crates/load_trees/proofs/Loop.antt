@@ -21,7 +21,7 @@ use Rattle.tree_body.specs.declared.TreeStep.the-variants as after
 use Rattle.tree_body.proofs.Filling.{trees-are}
 use Rattle.tree_survey.specs.Survey.{bodyRecords, bodyLines, treeRecords, treeLines}
 use Rattle.tree_survey.proofs.Counting.{step-next}
-use Rattle.link_targets.specs.Lines.{natOf}
+use Rattle.text_parts.specs.Parts.{natOf}
 use Rattle.load_lines.specs.Words.{lineWords}
 use Rattle.load_tree.specs.Bodies.{Result, bodyResult, placeOf, linesEnd}
 use Rattle.load_tree.specs.declared.Filled.{Filled}

@@ -15,7 +15,7 @@ use Rattle.tree_body.specs.declared.TreeHead.{TreeHead}
 use Rattle.tree_body.specs.declared.TreeHead.the-variants.{Lone, Empty, Lines, NoTree}
 use Rattle.tree_body.specs.declared.TreeStep.{TreeStep}
 use Rattle.tree_body.specs.declared.TreeStep.the-variants as after
-use Rattle.link_targets.specs.Lines.{natOf}
+use Rattle.text_parts.specs.Parts.{natOf}
 use Rattle.load_lines.specs.Words.{lineWords}
 use Rattle.load_tree.specs.Bodies.{Result, bodyResult, linesEnd}
 use Rattle.load_tree.specs.declared.Filled.{Filled}

@@ -2,12 +2,13 @@
 // (01, 'Linking and tables'). The first tree that linking refuses ends it. The text is known to be in the grammar, so that no tree is surveyed once more
 // before it is filled.
 //
-use link_targets::natural;
 use load_tree::Filled;
 use load_tree::TreeFill;
 use load_tree::fill_braces;
 use load_tree::fill_leaf;
 use table_put::put_tree;
+use table_rows::RECORD_ROW;
+use text_parts::natural;
 use tree_body::TreeHead;
 use tree_body::TreeStep;
 use tree_body::after_tree;
@@ -85,7 +86,7 @@ fn fill_body(
             index: reference,
             next,
         } => TreeFill {
-            filled: fill_leaf(records, 4 * first, reference),
+            filled: fill_leaf(records, RECORD_ROW * first, reference),
             next,
         },
         TreeHead::Empty { state: _, next } => TreeFill {
@@ -98,7 +99,7 @@ fn fill_body(
         TreeHead::Lines {
             state: _,
             first: at,
-        } => fill_braces(s, at, questions, index, records, 4 * first, work),
+        } => fill_braces(s, at, questions, index, records, RECORD_ROW * first, work),
         TreeHead::NoTree => TreeFill {
             filled: Filled::Done {
                 records: 0,

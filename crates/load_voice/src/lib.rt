@@ -1,7 +1,6 @@
 // The models of a voice, one after the other, and the text of each, without its block and its width (02, Wishes 7 and 11): 16 for the record, 13 to 15, tree 16,
 // 17, 18. Nothing lent is written.
 use error::Refusal;
-use head_brackets::up_to;
 use head_words::STREAM_TYPE_COUNT;
 use load_choose::Bounds;
 use load_choose::Chosen;
@@ -12,6 +11,7 @@ use load_choose::within;
 use load_plan::Text;
 use load_plan::data_of;
 use load_plan::read_text;
+use text_parts::up_to;
 ghost use mathlib.Core.Path.{_≡_};
 ghost use mathlib.Core.Bool.{true};
 ghost use Prim.Native.Nat.{_≤_, _<_};

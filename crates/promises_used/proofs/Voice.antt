@@ -63,7 +63,8 @@ use Rattle.tree_survey.specs.Survey.{textAt as textAt-tree-survey-survey, trees
 use Rattle.pdf_widen.specs.Widening.{widenFields, widenOf}
 use Rattle.pdf_blocks.specs.Values.{wordsAt, blockAt, pairsAt, entryAt, valuesAt}
 use Rattle.pdf_values.specs.Folded.{withBlocks}
-use Rattle.link_order.specs.Keys.{keyOf, nameKey, partOr, nameAt as nameAt-link-order-keys, idAt}
+use Rattle.link_order.specs.Keys.{keyOf, nameKey, nameAt as nameAt-link-order-keys, idAt}
+use Rattle.text_parts.specs.Parts.{partInside}
 use Rattle.link_order.specs.Sides.{sideOf}
 use Rattle.link_sort.specs.Sorted.{insert, sorted, rises}
 use Rattle.link_search.specs.Found.{lastBelow, firstFrom, countFrom}
@@ -119,7 +120,7 @@ in-room {A} {n} {k} x y l = ap (λ (d : Bool). cond d x y) (le-ltb n k l)
 -- ---- it is opened
 
 pub accepted : openOf file .verdict ≡ verdict.Accepted
-unfolding holds stands roomBeside standsAt placedIn besideOf littleEndian total rowsFrom paired bytes oneOf same letter digit wildcard mark inPattern inWord blank spaceOrTab inName byteAt between decimal ofGroup ofOthers kindOf valuesOf pdfs times global-fields stream-fields stream-group position-fields position-group table patternRows questionRows all some run stop readFrom read larger total-laws-totals largest anyOf eqZ bytesAt little ahead classOf usual inSet unsignedOf unsignedFrom unsignedAt signedAt patternOf patternAt nameOf nameAt pastByte newlineAt partingAt linePartingAt closeAt scan checkOf starts width rowsFrom-table-rows-rows questionTable patternTable treeTable recordTable emptyGlobal emptyStream emptyPosition emptyHeader filled globalRecord streamRecord positionRecord headerRecord each counted spanFits globalFits streamFits positionFits recordFits run-head-words-words flat globalWords streamWords positionWords headerWords globalAt streamAt positionAt headerAt groupFlags flagsFit endsAt textAt numberAt flagAt delimiterAt elementAt pairAt itemsFrom itemsAt listAt spansOf rangesOf spansWith rangesWith firsts readAt blankOf valueOf fieldIndex kindAt anyMissing oneMore nameIndex keyAt lineValueAt stoodAt keyedAt lineAt marked linesFrom unseen linesAt readFrom-head-lines-lines linesRead kept splitOf keyRow rowAt rowsFrom-head-brackets-rows rowsAt rowLineAt over lastOf noNames namesWith knownFrom knownIn namesAt manyAt judgedIn stored storedIn withLine judged judgedIn-head-global-global noDurations stored-head-ungrouped-ungrouped withLine-head-ungrouped-ungrouped judged-head-ungrouped-ungrouped stored-head-stream-group storedIn-head-stream-group withLine-head-stream-group named withRow judged-head-stream-group noStreams withStreams manyOver withGroup judged-head-streams-groups stored-head-position-group storedIn-head-position-group withLine-head-position-group named-head-position-group withRow-head-position-group judged-head-position-group noPositions withPositions manyOver-head-positions-groups withGroup-head-positions-groups judged-head-positions-groups startsAt breakIn breakHere breakAt sectionAt splitOf-head-sections-split globalLeft streamsLeft positionsLeft partsLeft openLeft utf8Of globalOf streamsOf noPositionsFor positionsOf refusedWith partsOf openOf commentPart pastQs startsQuestion headAt afterPattern patternStepAt itemAt afterQuestion patternsAt questionStepAt questionsAt digitsFrom pdfOf pdfAt bareAt quotedAt referenceAt yesAt branchesAt lineAt-tree-line-lines afterLine lineStepAt linesAt-tree-line-lines pastStar numberAt-tree-body-trees stateAt bodyAt headAt-tree-body-trees afterTree treeStepAt treesAt patternsCounted questionsCounted recordsOf linesCounted linesSurveyed saidRecords saidSurvey textAt-tree-survey-survey treesCounted surveyOf surveyAt widenFields widenOf wordsAt blockAt pairsAt entryAt valuesAt withBlocks keyOf nameKey partOr nameAt-link-order-keys idAt sideOf insert sorted rises lastBelow firstFrom countFrom refOf linesFrom-link-targets-lines pdfsOf targetOf orderFrom leafRows lineRows leavesOf recordRows linkOutcome linkedRows stepQuestion outcome goals withinOf modelOf streamModel gvModel named-load-choose-chosen numbered chosenOf textOf entriesOf planOf planned spanWords patternWords questionWords rowAt-load-questions-words askedAt lineWords linkResult treesEnd treeWords recordWords workAfter roomFor filled-load-model-load loadOf lineAt-walk-walking kindAt-walk-walking meetAt walkFrom walkOf ofRecord each-write-parts-parts patternOf-write-parts-parts refOf-write-parts-parts bodyOf textOf-write-text-text judgedOf bytesOf measureOf
+unfolding holds stands roomBeside standsAt placedIn besideOf littleEndian total rowsFrom paired bytes oneOf same letter digit wildcard mark inPattern inWord blank spaceOrTab inName byteAt between decimal ofGroup ofOthers kindOf valuesOf pdfs times global-fields stream-fields stream-group position-fields position-group table patternRows questionRows all some run stop readFrom read larger total-laws-totals largest anyOf eqZ bytesAt little ahead classOf usual inSet unsignedOf unsignedFrom unsignedAt signedAt patternOf patternAt nameOf nameAt pastByte newlineAt partingAt linePartingAt closeAt scan checkOf starts width rowsFrom-table-rows-rows questionTable patternTable treeTable recordTable emptyGlobal emptyStream emptyPosition emptyHeader filled globalRecord streamRecord positionRecord headerRecord each counted spanFits globalFits streamFits positionFits recordFits run-head-words-words flat globalWords streamWords positionWords headerWords globalAt streamAt positionAt headerAt groupFlags flagsFit endsAt textAt numberAt flagAt delimiterAt elementAt pairAt itemsFrom itemsAt listAt spansOf rangesOf spansWith rangesWith firsts readAt blankOf valueOf fieldIndex kindAt anyMissing oneMore nameIndex keyAt lineValueAt stoodAt keyedAt lineAt marked linesFrom unseen linesAt readFrom-head-lines-lines linesRead kept splitOf keyRow rowAt rowsFrom-head-brackets-rows rowsAt rowLineAt over lastOf noNames namesWith knownFrom knownIn namesAt manyAt judgedIn stored storedIn withLine judged judgedIn-head-global-global noDurations stored-head-ungrouped-ungrouped withLine-head-ungrouped-ungrouped judged-head-ungrouped-ungrouped stored-head-stream-group storedIn-head-stream-group withLine-head-stream-group named withRow judged-head-stream-group noStreams withStreams manyOver withGroup judged-head-streams-groups stored-head-position-group storedIn-head-position-group withLine-head-position-group named-head-position-group withRow-head-position-group judged-head-position-group noPositions withPositions manyOver-head-positions-groups withGroup-head-positions-groups judged-head-positions-groups startsAt breakIn breakHere breakAt sectionAt splitOf-head-sections-split globalLeft streamsLeft positionsLeft partsLeft openLeft utf8Of globalOf streamsOf noPositionsFor positionsOf refusedWith partsOf openOf commentPart pastQs startsQuestion headAt afterPattern patternStepAt itemAt afterQuestion patternsAt questionStepAt questionsAt digitsFrom pdfOf pdfAt bareAt quotedAt referenceAt yesAt branchesAt lineAt-tree-line-lines afterLine lineStepAt linesAt-tree-line-lines pastStar numberAt-tree-body-trees stateAt bodyAt headAt-tree-body-trees afterTree treeStepAt treesAt patternsCounted questionsCounted recordsOf linesCounted linesSurveyed saidRecords saidSurvey textAt-tree-survey-survey treesCounted surveyOf surveyAt widenFields widenOf wordsAt blockAt pairsAt entryAt valuesAt withBlocks keyOf nameKey partInside nameAt-link-order-keys idAt sideOf insert sorted rises lastBelow firstFrom countFrom refOf linesFrom-link-targets-lines pdfsOf targetOf orderFrom leafRows lineRows leavesOf recordRows linkOutcome linkedRows stepQuestion outcome goals withinOf modelOf streamModel gvModel named-load-choose-chosen numbered chosenOf textOf entriesOf planOf planned spanWords patternWords questionWords rowAt-load-questions-words askedAt lineWords linkResult treesEnd treeWords recordWords workAfter roomFor filled-load-model-load loadOf lineAt-walk-walking kindAt-walk-walking meetAt walkFrom walkOf ofRecord each-write-parts-parts patternOf-write-parts-parts refOf-write-parts-parts bodyOf textOf-write-text-text judgedOf bytesOf measureOf
 accepted = refl
 
 -- every number is a byte
@@ -154,13 +155,13 @@ abbrev pub before : Tables
 before = lent (replicate 12 7) (replicate 6 7) (replicate 23 7) (replicate 28 7) (replicate 8 7) (replicate 18 (pos 7))
 
 computed : besideOf bottom file (openOf file .header) Duration nothing before .answer ≡ ending.Done 3 3 3 7 8
-unfolding holds stands roomBeside standsAt placedIn besideOf littleEndian total rowsFrom paired bytes oneOf same letter digit wildcard mark inPattern inWord blank spaceOrTab inName byteAt between decimal ofGroup ofOthers kindOf valuesOf pdfs times global-fields stream-fields stream-group position-fields position-group table patternRows questionRows all some run stop readFrom read larger total-laws-totals largest anyOf eqZ bytesAt little ahead classOf usual inSet unsignedOf unsignedFrom unsignedAt signedAt patternOf patternAt nameOf nameAt pastByte newlineAt partingAt linePartingAt closeAt scan checkOf starts width rowsFrom-table-rows-rows questionTable patternTable treeTable recordTable emptyGlobal emptyStream emptyPosition emptyHeader filled globalRecord streamRecord positionRecord headerRecord each counted spanFits globalFits streamFits positionFits recordFits run-head-words-words flat globalWords streamWords positionWords headerWords globalAt streamAt positionAt headerAt groupFlags flagsFit endsAt textAt numberAt flagAt delimiterAt elementAt pairAt itemsFrom itemsAt listAt spansOf rangesOf spansWith rangesWith firsts readAt blankOf valueOf fieldIndex kindAt anyMissing oneMore nameIndex keyAt lineValueAt stoodAt keyedAt lineAt marked linesFrom unseen linesAt readFrom-head-lines-lines linesRead kept splitOf keyRow rowAt rowsFrom-head-brackets-rows rowsAt rowLineAt over lastOf noNames namesWith knownFrom knownIn namesAt manyAt judgedIn stored storedIn withLine judged judgedIn-head-global-global noDurations stored-head-ungrouped-ungrouped withLine-head-ungrouped-ungrouped judged-head-ungrouped-ungrouped stored-head-stream-group storedIn-head-stream-group withLine-head-stream-group named withRow judged-head-stream-group noStreams withStreams manyOver withGroup judged-head-streams-groups stored-head-position-group storedIn-head-position-group withLine-head-position-group named-head-position-group withRow-head-position-group judged-head-position-group noPositions withPositions manyOver-head-positions-groups withGroup-head-positions-groups judged-head-positions-groups startsAt breakIn breakHere breakAt sectionAt splitOf-head-sections-split globalLeft streamsLeft positionsLeft partsLeft openLeft utf8Of globalOf streamsOf noPositionsFor positionsOf refusedWith partsOf openOf commentPart pastQs startsQuestion headAt afterPattern patternStepAt itemAt afterQuestion patternsAt questionStepAt questionsAt digitsFrom pdfOf pdfAt bareAt quotedAt referenceAt yesAt branchesAt lineAt-tree-line-lines afterLine lineStepAt linesAt-tree-line-lines pastStar numberAt-tree-body-trees stateAt bodyAt headAt-tree-body-trees afterTree treeStepAt treesAt patternsCounted questionsCounted recordsOf linesCounted linesSurveyed saidRecords saidSurvey textAt-tree-survey-survey treesCounted surveyOf surveyAt widenFields widenOf wordsAt blockAt pairsAt entryAt valuesAt withBlocks keyOf nameKey partOr nameAt-link-order-keys idAt sideOf insert sorted rises lastBelow firstFrom countFrom refOf linesFrom-link-targets-lines pdfsOf targetOf orderFrom leafRows lineRows leavesOf recordRows linkOutcome linkedRows stepQuestion outcome goals withinOf modelOf streamModel gvModel named-load-choose-chosen numbered chosenOf textOf entriesOf planOf planned spanWords patternWords questionWords rowAt-load-questions-words askedAt lineWords linkResult treesEnd treeWords recordWords workAfter roomFor filled-load-model-load loadOf lineAt-walk-walking kindAt-walk-walking meetAt walkFrom walkOf ofRecord each-write-parts-parts patternOf-write-parts-parts refOf-write-parts-parts bodyOf textOf-write-text-text judgedOf bytesOf measureOf
+unfolding holds stands roomBeside standsAt placedIn besideOf littleEndian total rowsFrom paired bytes oneOf same letter digit wildcard mark inPattern inWord blank spaceOrTab inName byteAt between decimal ofGroup ofOthers kindOf valuesOf pdfs times global-fields stream-fields stream-group position-fields position-group table patternRows questionRows all some run stop readFrom read larger total-laws-totals largest anyOf eqZ bytesAt little ahead classOf usual inSet unsignedOf unsignedFrom unsignedAt signedAt patternOf patternAt nameOf nameAt pastByte newlineAt partingAt linePartingAt closeAt scan checkOf starts width rowsFrom-table-rows-rows questionTable patternTable treeTable recordTable emptyGlobal emptyStream emptyPosition emptyHeader filled globalRecord streamRecord positionRecord headerRecord each counted spanFits globalFits streamFits positionFits recordFits run-head-words-words flat globalWords streamWords positionWords headerWords globalAt streamAt positionAt headerAt groupFlags flagsFit endsAt textAt numberAt flagAt delimiterAt elementAt pairAt itemsFrom itemsAt listAt spansOf rangesOf spansWith rangesWith firsts readAt blankOf valueOf fieldIndex kindAt anyMissing oneMore nameIndex keyAt lineValueAt stoodAt keyedAt lineAt marked linesFrom unseen linesAt readFrom-head-lines-lines linesRead kept splitOf keyRow rowAt rowsFrom-head-brackets-rows rowsAt rowLineAt over lastOf noNames namesWith knownFrom knownIn namesAt manyAt judgedIn stored storedIn withLine judged judgedIn-head-global-global noDurations stored-head-ungrouped-ungrouped withLine-head-ungrouped-ungrouped judged-head-ungrouped-ungrouped stored-head-stream-group storedIn-head-stream-group withLine-head-stream-group named withRow judged-head-stream-group noStreams withStreams manyOver withGroup judged-head-streams-groups stored-head-position-group storedIn-head-position-group withLine-head-position-group named-head-position-group withRow-head-position-group judged-head-position-group noPositions withPositions manyOver-head-positions-groups withGroup-head-positions-groups judged-head-positions-groups startsAt breakIn breakHere breakAt sectionAt splitOf-head-sections-split globalLeft streamsLeft positionsLeft partsLeft openLeft utf8Of globalOf streamsOf noPositionsFor positionsOf refusedWith partsOf openOf commentPart pastQs startsQuestion headAt afterPattern patternStepAt itemAt afterQuestion patternsAt questionStepAt questionsAt digitsFrom pdfOf pdfAt bareAt quotedAt referenceAt yesAt branchesAt lineAt-tree-line-lines afterLine lineStepAt linesAt-tree-line-lines pastStar numberAt-tree-body-trees stateAt bodyAt headAt-tree-body-trees afterTree treeStepAt treesAt patternsCounted questionsCounted recordsOf linesCounted linesSurveyed saidRecords saidSurvey textAt-tree-survey-survey treesCounted surveyOf surveyAt widenFields widenOf wordsAt blockAt pairsAt entryAt valuesAt withBlocks keyOf nameKey partInside nameAt-link-order-keys idAt sideOf insert sorted rises lastBelow firstFrom countFrom refOf linesFrom-link-targets-lines pdfsOf targetOf orderFrom leafRows lineRows leavesOf recordRows linkOutcome linkedRows stepQuestion outcome goals withinOf modelOf streamModel gvModel named-load-choose-chosen numbered chosenOf textOf entriesOf planOf planned spanWords patternWords questionWords rowAt-load-questions-words askedAt lineWords linkResult treesEnd treeWords recordWords workAfter roomFor filled-load-model-load loadOf lineAt-walk-walking kindAt-walk-walking meetAt walkFrom walkOf ofRecord each-write-parts-parts patternOf-write-parts-parts refOf-write-parts-parts bodyOf textOf-write-text-text judgedOf bytesOf measureOf
 computed = refl
 
 tables-computed : (besideOf bottom file (openOf file .header) Duration nothing before .tables .trees ≡ 2 ∷ 0 ∷ 6 ∷ 3 ∷ 0 ∷ 3 ∷ 3 ∷ 6 ∷ 1 ∷ 0 ∷ 6 ∷ 1 ∷ 4 ∷ 7 ∷ 0 ∷ 0 ∷ 8 ∷ 0 ∷ 7 ∷ 7 ∷ 7 ∷ 7 ∷ 7 ∷ [])
     × (besideOf bottom file (openOf file .header) Duration nothing before .tables .records
     ≡ 0 ∷ 1 ∷ 5 ∷ 2 ∷ 0 ∷ 2 ∷ 3 ∷ 0 ∷ 0 ∷ 1 ∷ 4 ∷ 0 ∷ 1 ∷ 1 ∷ 0 ∷ 0 ∷ 1 ∷ 2 ∷ 0 ∷ 0 ∷ 1 ∷ 3 ∷ 0 ∷ 0 ∷ 1 ∷ 1 ∷ 0 ∷ 0 ∷ [])
-unfolding holds stands roomBeside standsAt placedIn besideOf littleEndian total rowsFrom paired bytes oneOf same letter digit wildcard mark inPattern inWord blank spaceOrTab inName byteAt between decimal ofGroup ofOthers kindOf valuesOf pdfs times global-fields stream-fields stream-group position-fields position-group table patternRows questionRows all some run stop readFrom read larger total-laws-totals largest anyOf eqZ bytesAt little ahead classOf usual inSet unsignedOf unsignedFrom unsignedAt signedAt patternOf patternAt nameOf nameAt pastByte newlineAt partingAt linePartingAt closeAt scan checkOf starts width rowsFrom-table-rows-rows questionTable patternTable treeTable recordTable emptyGlobal emptyStream emptyPosition emptyHeader filled globalRecord streamRecord positionRecord headerRecord each counted spanFits globalFits streamFits positionFits recordFits run-head-words-words flat globalWords streamWords positionWords headerWords globalAt streamAt positionAt headerAt groupFlags flagsFit endsAt textAt numberAt flagAt delimiterAt elementAt pairAt itemsFrom itemsAt listAt spansOf rangesOf spansWith rangesWith firsts readAt blankOf valueOf fieldIndex kindAt anyMissing oneMore nameIndex keyAt lineValueAt stoodAt keyedAt lineAt marked linesFrom unseen linesAt readFrom-head-lines-lines linesRead kept splitOf keyRow rowAt rowsFrom-head-brackets-rows rowsAt rowLineAt over lastOf noNames namesWith knownFrom knownIn namesAt manyAt judgedIn stored storedIn withLine judged judgedIn-head-global-global noDurations stored-head-ungrouped-ungrouped withLine-head-ungrouped-ungrouped judged-head-ungrouped-ungrouped stored-head-stream-group storedIn-head-stream-group withLine-head-stream-group named withRow judged-head-stream-group noStreams withStreams manyOver withGroup judged-head-streams-groups stored-head-position-group storedIn-head-position-group withLine-head-position-group named-head-position-group withRow-head-position-group judged-head-position-group noPositions withPositions manyOver-head-positions-groups withGroup-head-positions-groups judged-head-positions-groups startsAt breakIn breakHere breakAt sectionAt splitOf-head-sections-split globalLeft streamsLeft positionsLeft partsLeft openLeft utf8Of globalOf streamsOf noPositionsFor positionsOf refusedWith partsOf openOf commentPart pastQs startsQuestion headAt afterPattern patternStepAt itemAt afterQuestion patternsAt questionStepAt questionsAt digitsFrom pdfOf pdfAt bareAt quotedAt referenceAt yesAt branchesAt lineAt-tree-line-lines afterLine lineStepAt linesAt-tree-line-lines pastStar numberAt-tree-body-trees stateAt bodyAt headAt-tree-body-trees afterTree treeStepAt treesAt patternsCounted questionsCounted recordsOf linesCounted linesSurveyed saidRecords saidSurvey textAt-tree-survey-survey treesCounted surveyOf surveyAt widenFields widenOf wordsAt blockAt pairsAt entryAt valuesAt withBlocks keyOf nameKey partOr nameAt-link-order-keys idAt sideOf insert sorted rises lastBelow firstFrom countFrom refOf linesFrom-link-targets-lines pdfsOf targetOf orderFrom leafRows lineRows leavesOf recordRows linkOutcome linkedRows stepQuestion outcome goals withinOf modelOf streamModel gvModel named-load-choose-chosen numbered chosenOf textOf entriesOf planOf planned spanWords patternWords questionWords rowAt-load-questions-words askedAt lineWords linkResult treesEnd treeWords recordWords workAfter roomFor filled-load-model-load loadOf lineAt-walk-walking kindAt-walk-walking meetAt walkFrom walkOf ofRecord each-write-parts-parts patternOf-write-parts-parts refOf-write-parts-parts bodyOf textOf-write-text-text judgedOf bytesOf measureOf
+unfolding holds stands roomBeside standsAt placedIn besideOf littleEndian total rowsFrom paired bytes oneOf same letter digit wildcard mark inPattern inWord blank spaceOrTab inName byteAt between decimal ofGroup ofOthers kindOf valuesOf pdfs times global-fields stream-fields stream-group position-fields position-group table patternRows questionRows all some run stop readFrom read larger total-laws-totals largest anyOf eqZ bytesAt little ahead classOf usual inSet unsignedOf unsignedFrom unsignedAt signedAt patternOf patternAt nameOf nameAt pastByte newlineAt partingAt linePartingAt closeAt scan checkOf starts width rowsFrom-table-rows-rows questionTable patternTable treeTable recordTable emptyGlobal emptyStream emptyPosition emptyHeader filled globalRecord streamRecord positionRecord headerRecord each counted spanFits globalFits streamFits positionFits recordFits run-head-words-words flat globalWords streamWords positionWords headerWords globalAt streamAt positionAt headerAt groupFlags flagsFit endsAt textAt numberAt flagAt delimiterAt elementAt pairAt itemsFrom itemsAt listAt spansOf rangesOf spansWith rangesWith firsts readAt blankOf valueOf fieldIndex kindAt anyMissing oneMore nameIndex keyAt lineValueAt stoodAt keyedAt lineAt marked linesFrom unseen linesAt readFrom-head-lines-lines linesRead kept splitOf keyRow rowAt rowsFrom-head-brackets-rows rowsAt rowLineAt over lastOf noNames namesWith knownFrom knownIn namesAt manyAt judgedIn stored storedIn withLine judged judgedIn-head-global-global noDurations stored-head-ungrouped-ungrouped withLine-head-ungrouped-ungrouped judged-head-ungrouped-ungrouped stored-head-stream-group storedIn-head-stream-group withLine-head-stream-group named withRow judged-head-stream-group noStreams withStreams manyOver withGroup judged-head-streams-groups stored-head-position-group storedIn-head-position-group withLine-head-position-group named-head-position-group withRow-head-position-group judged-head-position-group noPositions withPositions manyOver-head-positions-groups withGroup-head-positions-groups judged-head-positions-groups startsAt breakIn breakHere breakAt sectionAt splitOf-head-sections-split globalLeft streamsLeft positionsLeft partsLeft openLeft utf8Of globalOf streamsOf noPositionsFor positionsOf refusedWith partsOf openOf commentPart pastQs startsQuestion headAt afterPattern patternStepAt itemAt afterQuestion patternsAt questionStepAt questionsAt digitsFrom pdfOf pdfAt bareAt quotedAt referenceAt yesAt branchesAt lineAt-tree-line-lines afterLine lineStepAt linesAt-tree-line-lines pastStar numberAt-tree-body-trees stateAt bodyAt headAt-tree-body-trees afterTree treeStepAt treesAt patternsCounted questionsCounted recordsOf linesCounted linesSurveyed saidRecords saidSurvey textAt-tree-survey-survey treesCounted surveyOf surveyAt widenFields widenOf wordsAt blockAt pairsAt entryAt valuesAt withBlocks keyOf nameKey partInside nameAt-link-order-keys idAt sideOf insert sorted rises lastBelow firstFrom countFrom refOf linesFrom-link-targets-lines pdfsOf targetOf orderFrom leafRows lineRows leavesOf recordRows linkOutcome linkedRows stepQuestion outcome goals withinOf modelOf streamModel gvModel named-load-choose-chosen numbered chosenOf textOf entriesOf planOf planned spanWords patternWords questionWords rowAt-load-questions-words askedAt lineWords linkResult treesEnd treeWords recordWords workAfter roomFor filled-load-model-load loadOf lineAt-walk-walking kindAt-walk-walking meetAt walkFrom walkOf ofRecord each-write-parts-parts patternOf-write-parts-parts refOf-write-parts-parts bodyOf textOf-write-text-text judgedOf bytesOf measureOf
 tables-computed = (refl, refl)
 
 abbrev pub L : After
@@ -185,7 +186,7 @@ loads w out enough long (a, b, c) =
 walk-computed : endedOf (2 ∷ 0 ∷ 6 ∷ 3 ∷ 0 ∷ 3 ∷ 3 ∷ 6 ∷ 1 ∷ 0 ∷ 6 ∷ 1 ∷ 4 ∷ 7 ∷ 0 ∷ 0 ∷ 8 ∷ 0 ∷ 7 ∷ 7 ∷ 7 ∷ 7 ∷ 7 ∷ [])
     (0 ∷ 1 ∷ 5 ∷ 2 ∷ 0 ∷ 2 ∷ 3 ∷ 0 ∷ 0 ∷ 1 ∷ 4 ∷ 0 ∷ 1 ∷ 1 ∷ 0 ∷ 0 ∷ 1 ∷ 2 ∷ 0 ∷ 0 ∷ 1 ∷ 3 ∷ 0 ∷ 0 ∷ 1 ∷ 1 ∷ 0 ∷ 0 ∷ []) 0 (0 ∷ 1 ∷ 0 ∷ []) 9
     ≡ record { number = 0; pdf = 3; asked = 1 }
-unfolding holds stands roomBeside standsAt placedIn besideOf littleEndian total rowsFrom paired bytes oneOf same letter digit wildcard mark inPattern inWord blank spaceOrTab inName byteAt between decimal ofGroup ofOthers kindOf valuesOf pdfs times global-fields stream-fields stream-group position-fields position-group table patternRows questionRows all some run stop readFrom read larger total-laws-totals largest anyOf eqZ bytesAt little ahead classOf usual inSet unsignedOf unsignedFrom unsignedAt signedAt patternOf patternAt nameOf nameAt pastByte newlineAt partingAt linePartingAt closeAt scan checkOf starts width rowsFrom-table-rows-rows questionTable patternTable treeTable recordTable emptyGlobal emptyStream emptyPosition emptyHeader filled globalRecord streamRecord positionRecord headerRecord each counted spanFits globalFits streamFits positionFits recordFits run-head-words-words flat globalWords streamWords positionWords headerWords globalAt streamAt positionAt headerAt groupFlags flagsFit endsAt textAt numberAt flagAt delimiterAt elementAt pairAt itemsFrom itemsAt listAt spansOf rangesOf spansWith rangesWith firsts readAt blankOf valueOf fieldIndex kindAt anyMissing oneMore nameIndex keyAt lineValueAt stoodAt keyedAt lineAt marked linesFrom unseen linesAt readFrom-head-lines-lines linesRead kept splitOf keyRow rowAt rowsFrom-head-brackets-rows rowsAt rowLineAt over lastOf noNames namesWith knownFrom knownIn namesAt manyAt judgedIn stored storedIn withLine judged judgedIn-head-global-global noDurations stored-head-ungrouped-ungrouped withLine-head-ungrouped-ungrouped judged-head-ungrouped-ungrouped stored-head-stream-group storedIn-head-stream-group withLine-head-stream-group named withRow judged-head-stream-group noStreams withStreams manyOver withGroup judged-head-streams-groups stored-head-position-group storedIn-head-position-group withLine-head-position-group named-head-position-group withRow-head-position-group judged-head-position-group noPositions withPositions manyOver-head-positions-groups withGroup-head-positions-groups judged-head-positions-groups startsAt breakIn breakHere breakAt sectionAt splitOf-head-sections-split globalLeft streamsLeft positionsLeft partsLeft openLeft utf8Of globalOf streamsOf noPositionsFor positionsOf refusedWith partsOf openOf commentPart pastQs startsQuestion headAt afterPattern patternStepAt itemAt afterQuestion patternsAt questionStepAt questionsAt digitsFrom pdfOf pdfAt bareAt quotedAt referenceAt yesAt branchesAt lineAt-tree-line-lines afterLine lineStepAt linesAt-tree-line-lines pastStar numberAt-tree-body-trees stateAt bodyAt headAt-tree-body-trees afterTree treeStepAt treesAt patternsCounted questionsCounted recordsOf linesCounted linesSurveyed saidRecords saidSurvey textAt-tree-survey-survey treesCounted surveyOf surveyAt widenFields widenOf wordsAt blockAt pairsAt entryAt valuesAt withBlocks keyOf nameKey partOr nameAt-link-order-keys idAt sideOf insert sorted rises lastBelow firstFrom countFrom refOf linesFrom-link-targets-lines pdfsOf targetOf orderFrom leafRows lineRows leavesOf recordRows linkOutcome linkedRows stepQuestion outcome goals withinOf modelOf streamModel gvModel named-load-choose-chosen numbered chosenOf textOf entriesOf planOf planned spanWords patternWords questionWords rowAt-load-questions-words askedAt lineWords linkResult treesEnd treeWords recordWords workAfter roomFor filled-load-model-load loadOf lineAt-walk-walking kindAt-walk-walking meetAt walkFrom walkOf ofRecord each-write-parts-parts patternOf-write-parts-parts refOf-write-parts-parts bodyOf textOf-write-text-text judgedOf bytesOf measureOf
+unfolding holds stands roomBeside standsAt placedIn besideOf littleEndian total rowsFrom paired bytes oneOf same letter digit wildcard mark inPattern inWord blank spaceOrTab inName byteAt between decimal ofGroup ofOthers kindOf valuesOf pdfs times global-fields stream-fields stream-group position-fields position-group table patternRows questionRows all some run stop readFrom read larger total-laws-totals largest anyOf eqZ bytesAt little ahead classOf usual inSet unsignedOf unsignedFrom unsignedAt signedAt patternOf patternAt nameOf nameAt pastByte newlineAt partingAt linePartingAt closeAt scan checkOf starts width rowsFrom-table-rows-rows questionTable patternTable treeTable recordTable emptyGlobal emptyStream emptyPosition emptyHeader filled globalRecord streamRecord positionRecord headerRecord each counted spanFits globalFits streamFits positionFits recordFits run-head-words-words flat globalWords streamWords positionWords headerWords globalAt streamAt positionAt headerAt groupFlags flagsFit endsAt textAt numberAt flagAt delimiterAt elementAt pairAt itemsFrom itemsAt listAt spansOf rangesOf spansWith rangesWith firsts readAt blankOf valueOf fieldIndex kindAt anyMissing oneMore nameIndex keyAt lineValueAt stoodAt keyedAt lineAt marked linesFrom unseen linesAt readFrom-head-lines-lines linesRead kept splitOf keyRow rowAt rowsFrom-head-brackets-rows rowsAt rowLineAt over lastOf noNames namesWith knownFrom knownIn namesAt manyAt judgedIn stored storedIn withLine judged judgedIn-head-global-global noDurations stored-head-ungrouped-ungrouped withLine-head-ungrouped-ungrouped judged-head-ungrouped-ungrouped stored-head-stream-group storedIn-head-stream-group withLine-head-stream-group named withRow judged-head-stream-group noStreams withStreams manyOver withGroup judged-head-streams-groups stored-head-position-group storedIn-head-position-group withLine-head-position-group named-head-position-group withRow-head-position-group judged-head-position-group noPositions withPositions manyOver-head-positions-groups withGroup-head-positions-groups judged-head-positions-groups startsAt breakIn breakHere breakAt sectionAt splitOf-head-sections-split globalLeft streamsLeft positionsLeft partsLeft openLeft utf8Of globalOf streamsOf noPositionsFor positionsOf refusedWith partsOf openOf commentPart pastQs startsQuestion headAt afterPattern patternStepAt itemAt afterQuestion patternsAt questionStepAt questionsAt digitsFrom pdfOf pdfAt bareAt quotedAt referenceAt yesAt branchesAt lineAt-tree-line-lines afterLine lineStepAt linesAt-tree-line-lines pastStar numberAt-tree-body-trees stateAt bodyAt headAt-tree-body-trees afterTree treeStepAt treesAt patternsCounted questionsCounted recordsOf linesCounted linesSurveyed saidRecords saidSurvey textAt-tree-survey-survey treesCounted surveyOf surveyAt widenFields widenOf wordsAt blockAt pairsAt entryAt valuesAt withBlocks keyOf nameKey partInside nameAt-link-order-keys idAt sideOf insert sorted rises lastBelow firstFrom countFrom refOf linesFrom-link-targets-lines pdfsOf targetOf orderFrom leafRows lineRows leavesOf recordRows linkOutcome linkedRows stepQuestion outcome goals withinOf modelOf streamModel gvModel named-load-choose-chosen numbered chosenOf textOf entriesOf planOf planned spanWords patternWords questionWords rowAt-load-questions-words askedAt lineWords linkResult treesEnd treeWords recordWords workAfter roomFor filled-load-model-load loadOf lineAt-walk-walking kindAt-walk-walking meetAt walkFrom walkOf ofRecord each-write-parts-parts patternOf-write-parts-parts refOf-write-parts-parts bodyOf textOf-write-text-text judgedOf bytesOf measureOf
 walk-computed = refl
 
 -- the last question named A is yes: PDF 3 after one question
@@ -210,5 +211,5 @@ after = besideOf bottom file (openOf file .header) Duration nothing before .tabl
 
 pub writes : bytesOf (part file 215 133) (take 12 (after .questions)) (take 6 (after .patterns)) (take 18 (after .trees)) (take 28 (after .records))
     ≡ bytes "QS A { \"a\" }\nQS A { \"b\" }\nQS B { \"c\" }\n{*} [2] {\n0 A -2 \"p_3\"\n-1 B 0 \"p_1\"\n-2 A 0 \"p_2\"\n}\n{*} [3] \"p_1\"\n{*} [4] {\n}\n"
-unfolding flatten figuresIn spelledLine spelledTree spelledPatterns spelledQuestion spelled holds stands roomBeside standsAt placedIn besideOf littleEndian total rowsFrom paired bytes oneOf same letter digit wildcard mark inPattern inWord blank spaceOrTab inName byteAt between decimal ofGroup ofOthers kindOf valuesOf pdfs times global-fields stream-fields stream-group position-fields position-group table patternRows questionRows all some run stop readFrom read larger total-laws-totals largest anyOf eqZ bytesAt little ahead classOf usual inSet unsignedOf unsignedFrom unsignedAt signedAt patternOf patternAt nameOf nameAt pastByte newlineAt partingAt linePartingAt closeAt scan checkOf starts width rowsFrom-table-rows-rows questionTable patternTable treeTable recordTable emptyGlobal emptyStream emptyPosition emptyHeader filled globalRecord streamRecord positionRecord headerRecord each counted spanFits globalFits streamFits positionFits recordFits run-head-words-words flat globalWords streamWords positionWords headerWords globalAt streamAt positionAt headerAt groupFlags flagsFit endsAt textAt numberAt flagAt delimiterAt elementAt pairAt itemsFrom itemsAt listAt spansOf rangesOf spansWith rangesWith firsts readAt blankOf valueOf fieldIndex kindAt anyMissing oneMore nameIndex keyAt lineValueAt stoodAt keyedAt lineAt marked linesFrom unseen linesAt readFrom-head-lines-lines linesRead kept splitOf keyRow rowAt rowsFrom-head-brackets-rows rowsAt rowLineAt over lastOf noNames namesWith knownFrom knownIn namesAt manyAt judgedIn stored storedIn withLine judged judgedIn-head-global-global noDurations stored-head-ungrouped-ungrouped withLine-head-ungrouped-ungrouped judged-head-ungrouped-ungrouped stored-head-stream-group storedIn-head-stream-group withLine-head-stream-group named withRow judged-head-stream-group noStreams withStreams manyOver withGroup judged-head-streams-groups stored-head-position-group storedIn-head-position-group withLine-head-position-group named-head-position-group withRow-head-position-group judged-head-position-group noPositions withPositions manyOver-head-positions-groups withGroup-head-positions-groups judged-head-positions-groups startsAt breakIn breakHere breakAt sectionAt splitOf-head-sections-split globalLeft streamsLeft positionsLeft partsLeft openLeft utf8Of globalOf streamsOf noPositionsFor positionsOf refusedWith partsOf openOf commentPart pastQs startsQuestion headAt afterPattern patternStepAt itemAt afterQuestion patternsAt questionStepAt questionsAt digitsFrom pdfOf pdfAt bareAt quotedAt referenceAt yesAt branchesAt lineAt-tree-line-lines afterLine lineStepAt linesAt-tree-line-lines pastStar numberAt-tree-body-trees stateAt bodyAt headAt-tree-body-trees afterTree treeStepAt treesAt patternsCounted questionsCounted recordsOf linesCounted linesSurveyed saidRecords saidSurvey textAt-tree-survey-survey treesCounted surveyOf surveyAt widenFields widenOf wordsAt blockAt pairsAt entryAt valuesAt withBlocks keyOf nameKey partOr nameAt-link-order-keys idAt sideOf insert sorted rises lastBelow firstFrom countFrom refOf linesFrom-link-targets-lines pdfsOf targetOf orderFrom leafRows lineRows leavesOf recordRows linkOutcome linkedRows stepQuestion outcome goals withinOf modelOf streamModel gvModel named-load-choose-chosen numbered chosenOf textOf entriesOf planOf planned spanWords patternWords questionWords rowAt-load-questions-words askedAt lineWords linkResult treesEnd treeWords recordWords workAfter roomFor filled-load-model-load loadOf lineAt-walk-walking kindAt-walk-walking meetAt walkFrom walkOf ofRecord each-write-parts-parts patternOf-write-parts-parts refOf-write-parts-parts bodyOf textOf-write-text-text judgedOf bytesOf measureOf
+unfolding flatten figuresIn spelledLine spelledTree spelledPatterns spelledQuestion spelled holds stands roomBeside standsAt placedIn besideOf littleEndian total rowsFrom paired bytes oneOf same letter digit wildcard mark inPattern inWord blank spaceOrTab inName byteAt between decimal ofGroup ofOthers kindOf valuesOf pdfs times global-fields stream-fields stream-group position-fields position-group table patternRows questionRows all some run stop readFrom read larger total-laws-totals largest anyOf eqZ bytesAt little ahead classOf usual inSet unsignedOf unsignedFrom unsignedAt signedAt patternOf patternAt nameOf nameAt pastByte newlineAt partingAt linePartingAt closeAt scan checkOf starts width rowsFrom-table-rows-rows questionTable patternTable treeTable recordTable emptyGlobal emptyStream emptyPosition emptyHeader filled globalRecord streamRecord positionRecord headerRecord each counted spanFits globalFits streamFits positionFits recordFits run-head-words-words flat globalWords streamWords positionWords headerWords globalAt streamAt positionAt headerAt groupFlags flagsFit endsAt textAt numberAt flagAt delimiterAt elementAt pairAt itemsFrom itemsAt listAt spansOf rangesOf spansWith rangesWith firsts readAt blankOf valueOf fieldIndex kindAt anyMissing oneMore nameIndex keyAt lineValueAt stoodAt keyedAt lineAt marked linesFrom unseen linesAt readFrom-head-lines-lines linesRead kept splitOf keyRow rowAt rowsFrom-head-brackets-rows rowsAt rowLineAt over lastOf noNames namesWith knownFrom knownIn namesAt manyAt judgedIn stored storedIn withLine judged judgedIn-head-global-global noDurations stored-head-ungrouped-ungrouped withLine-head-ungrouped-ungrouped judged-head-ungrouped-ungrouped stored-head-stream-group storedIn-head-stream-group withLine-head-stream-group named withRow judged-head-stream-group noStreams withStreams manyOver withGroup judged-head-streams-groups stored-head-position-group storedIn-head-position-group withLine-head-position-group named-head-position-group withRow-head-position-group judged-head-position-group noPositions withPositions manyOver-head-positions-groups withGroup-head-positions-groups judged-head-positions-groups startsAt breakIn breakHere breakAt sectionAt splitOf-head-sections-split globalLeft streamsLeft positionsLeft partsLeft openLeft utf8Of globalOf streamsOf noPositionsFor positionsOf refusedWith partsOf openOf commentPart pastQs startsQuestion headAt afterPattern patternStepAt itemAt afterQuestion patternsAt questionStepAt questionsAt digitsFrom pdfOf pdfAt bareAt quotedAt referenceAt yesAt branchesAt lineAt-tree-line-lines afterLine lineStepAt linesAt-tree-line-lines pastStar numberAt-tree-body-trees stateAt bodyAt headAt-tree-body-trees afterTree treeStepAt treesAt patternsCounted questionsCounted recordsOf linesCounted linesSurveyed saidRecords saidSurvey textAt-tree-survey-survey treesCounted surveyOf surveyAt widenFields widenOf wordsAt blockAt pairsAt entryAt valuesAt withBlocks keyOf nameKey partInside nameAt-link-order-keys idAt sideOf insert sorted rises lastBelow firstFrom countFrom refOf linesFrom-link-targets-lines pdfsOf targetOf orderFrom leafRows lineRows leavesOf recordRows linkOutcome linkedRows stepQuestion outcome goals withinOf modelOf streamModel gvModel named-load-choose-chosen numbered chosenOf textOf entriesOf planOf planned spanWords patternWords questionWords rowAt-load-questions-words askedAt lineWords linkResult treesEnd treeWords recordWords workAfter roomFor filled-load-model-load loadOf lineAt-walk-walking kindAt-walk-walking meetAt walkFrom walkOf ofRecord each-write-parts-parts patternOf-write-parts-parts refOf-write-parts-parts bodyOf textOf-write-text-text judgedOf bytesOf measureOf
 writes = refl

@@ -1,4 +1,4 @@
-// The two leaves that a public document defines, exported to C, so that the built code can be held against another one's (judge/leaves).
+// The two leaves that a public document defines, exported to C, so that the built code can be held against another one's (judge/compare/leaves).
 use pdf_widen::widen;
 use text_utf8::Answer;
 use text_utf8::check;

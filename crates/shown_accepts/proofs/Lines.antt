@@ -17,7 +17,8 @@ use Rattle.laws.proofs.Wholes.{eqZ-true}
 use Rattle.tree_reference.specs.References.{indexOf}
 use Rattle.tree_line.specs.Lines.{lineOf}
 use Rattle.tree_line.specs.declared.Line as code
-use Rattle.link_order.specs.Keys.{idKey, partOr}
+use Rattle.link_order.specs.Keys.{idKey}
+use Rattle.text_parts.specs.Parts.{partInside}
 use Rattle.link_search.specs.declared.Found.{Found}
 use Rattle.link_search.specs.declared.Found.the-variants.{At, Nothing}
 use Rattle.link_search.proofs.Ids.{same-id, same-true, true-same}
@@ -63,10 +64,10 @@ module _ (s : List ℕ) where
     pub no : c .no ≡ indexOf (l .no)
     pub yes-small : RefSmall (l .yes)
     pub no-small : RefSmall (l .no)
-    pub name : partOr s (c .start) (c .len) ≡ l .question
+    pub name : partInside s (c .start) (c .len) ≡ l .question
 
   pub record QuestionSaid (q : Question) (w : QuestionPlace) : Type 0 where
-    pub name : partOr s (w .name .start) (w .name .len) ≡ q .name
+    pub name : partInside s (w .name .start) (w .name .len) ≡ q .name
 
   line-said : {i j : ℕ} {l : said.Line} {w : Span} → LineAt s i j l w → LineSaid l (lineOf l w)
   line-said (line x a n b l c r) =
@@ -129,10 +130,10 @@ module _ (s : List ℕ) where
     pub asks-said : (name w : List ℕ) → w ≡ name → Asks name (find.asked s w ps)
     asks-said name w e = go (seeks QuestionSaid (λ q. q .name ≡ name) (find.named s w) has had asks 0 Nothing)
       where
-        has : (q : Question) (p : QuestionPlace) → QuestionSaid q p → same (partOr s (p .name .start) (p .name .len)) w ≡ true → q .name ≡ name
-        has q p t h = sym (t .name) ∙ true-same (partOr s (p .name .start) (p .name .len)) w h ∙ e
+        has : (q : Question) (p : QuestionPlace) → QuestionSaid q p → same (partInside s (p .name .start) (p .name .len)) w ≡ true → q .name ≡ name
+        has q p t h = sym (t .name) ∙ true-same (partInside s (p .name .start) (p .name .len)) w h ∙ e
 
-        had : (q : Question) (p : QuestionPlace) → QuestionSaid q p → q .name ≡ name → same (partOr s (p .name .start) (p .name .len)) w ≡ true
+        had : (q : Question) (p : QuestionPlace) → QuestionSaid q p → q .name ≡ name → same (partInside s (p .name .start) (p .name .len)) w ≡ true
         had q p t h = ap (λ (x : List ℕ). same x w) (t .name ∙ h ∙ sym e) ∙ same-true w
 
         go : {r : Found} → Seeks (λ (q : Question). q .name ≡ name) qs 0 Nothing r → Asks name r
@@ -151,9 +152,9 @@ module _ (s : List ℕ) where
     pub line-links : {l : said.Line} {c : code.Line} → LineSaid l c → Links l (linkIn s ps cs c)
     unfolding linkIn linkOf
     line-links {l} {c} t =
-        subst (Links l) (sym (ap₂ (λ y n. linkOf y n (find.asked s (partOr s (c .start) (c .len)) ps)) (ap (targetIn cs) (t .yes)) (ap (targetIn cs) (t .no))))
+        subst (Links l) (sym (ap₂ (λ y n. linkOf y n (find.asked s (partInside s (c .start) (c .len)) ps)) (ap (targetIn cs) (t .yes)) (ap (targetIn cs) (t .no))))
         (go (targetIn cs (indexOf (l .yes))) (leads (l .yes) (t .yes-small)) (nowhere (targetIn cs (indexOf (l .yes)))) refl
-        (targetIn cs (indexOf (l .no))) (leads (l .no) (t .no-small)) (nowhere (targetIn cs (indexOf (l .no)))) refl (asks-said (l .question) (partOr s (c .start) (c .len)) (t .name)))
+        (targetIn cs (indexOf (l .no))) (leads (l .no) (t .no-small)) (nowhere (targetIn cs (indexOf (l .no)))) refl (asks-said (l .question) (partInside s (c .start) (c .len)) (t .name)))
       where
         by-asked : {y n : Target} {f : Found} → Leads (l .yes) y → nowhere y ≡ false → Leads (l .no) n → nowhere n ≡ false → Asks (l .question) f → Links l (linkAsked y n f)
         by-asked a e b g (of-row q) = goes q a e b g

@@ -20,7 +20,8 @@ use Rattle.table_rows.proofs.Stand.{nth-at, nth-below}
 use Rattle.tree_reference.specs.References.{indexOf}
 use Rattle.tree_reference.specs.declared.TreeIndex.{TreeIndex}
 use Rattle.tree_line.specs.declared.Line as code
-use Rattle.link_order.specs.Keys.{idKey, partOr}
+use Rattle.link_order.specs.Keys.{idKey}
+use Rattle.text_parts.specs.Parts.{partInside}
 use Rattle.link_search.specs.declared.Found.{Found}
 use Rattle.link_search.specs.declared.Found.the-variants.{At, Nothing}
 use Rattle.link_find.specs.Find as find
@@ -72,10 +73,10 @@ module _ (s bytes : List ℕ) {qs : List Question} {ps : List QuestionPlace} (as
       go (row {q = q} a u v) = record { q = q; asks-q = a; to = both u v }
 
   -- its question is found in the text
-  found : {l : said.Line} {c : code.Line} → LineSaid s l c → Linked-line l → (q : ℕ) × LastQuestion qs (l .question) q × (find.asked s (partOr s (c .start) (c .len)) ps ≡ At q)
-  found {l} {c} t w = go (find.asked s (partOr s (c .start) (c .len)) ps) refl (asks-said s asks lines (l .question) (partOr s (c .start) (c .len)) (t .name))
+  found : {l : said.Line} {c : code.Line} → LineSaid s l c → Linked-line l → (q : ℕ) × LastQuestion qs (l .question) q × (find.asked s (partInside s (c .start) (c .len)) ps ≡ At q)
+  found {l} {c} t w = go (find.asked s (partInside s (c .start) (c .len)) ps) refl (asks-said s asks lines (l .question) (partInside s (c .start) (c .len)) (t .name))
     where
-      go : (f : Found) → find.asked s (partOr s (c .start) (c .len)) ps ≡ f → Asks s asks lines (l .question) f → (q : ℕ) × LastQuestion qs (l .question) q × (find.asked s (partOr s (c .start) (c .len)) ps ≡ At q)
+      go : (f : Found) → find.asked s (partInside s (c .start) (c .len)) ps ≡ f → Asks s asks lines (l .question) f → (q : ℕ) × LastQuestion qs (l .question) q × (find.asked s (partInside s (c .start) (c .len)) ps ≡ At q)
       go (At k) e (of-row a) = (k, a, e)
       go Nothing e (of-none n) = absurd (n (asked (w .asks-q .stands) (w .asks-q .true-of)))
 

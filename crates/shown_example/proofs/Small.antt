@@ -25,7 +25,8 @@ use Rattle.head_record.specs.Record.{globalRecord, streamRecord, positionRecord
 use Rattle.head_record_fits.specs.Fits.{each, counted, spanFits, globalFits, streamFits, positionFits, recordFits}
 use Rattle.head_brackets.specs.Rows.{splitOf, keyRow, rowAt, rowsFrom as rowsFrom-groups, rowsAt, rowLineAt, over, noNames, namesWith, knownFrom, knownIn}
 use Rattle.table_rows.specs.Rows.{rowsFrom as rowsFrom-rows, treeTable, recordTable}
-use Rattle.link_order.specs.Keys.{keyOf, nameKey, partOr, nameAt, idAt}
+use Rattle.link_order.specs.Keys.{keyOf, nameKey, nameAt, idAt}
+use Rattle.text_parts.specs.Parts.{partInside}
 use Rattle.link_order.specs.Sides.{sideOf}
 use Rattle.link_sort.specs.Sorted.{insert, sorted}
 use Rattle.link_search.specs.Found.{lastBelow, firstFrom, countFrom}
@@ -117,18 +118,18 @@ abbrev after : After
 after = loadOf data-bytes record₁ Duration before
 
 pub loads : after .answer ≡ loaded.Done 3 3 3 7 8
-unfolding littleEndian total rowsFrom paired bytes oneOf same letter digit wildcard mark inPattern inWord blank spaceOrTab inName byteAt between decimal run stop readFrom read larger total-laws largest anyOf eqZ classOf unsignedOf unsignedFrom unsignedAt signedAt patternOf patternAt emptyGlobal emptyStream emptyPosition emptyHeader filled globalRecord streamRecord positionRecord headerRecord each counted spanFits globalFits streamFits positionFits recordFits splitOf keyRow rowAt rowsFrom-groups rowsAt rowLineAt over noNames namesWith knownFrom knownIn rowsFrom-rows treeTable recordTable keyOf nameKey partOr nameAt idAt sideOf insert sorted lastBelow firstFrom countFrom refOf linesFrom pdfsOf targetOf orderFrom leafRows lineRows leavesOf recordRows linkOutcome linkedRows stepQuestion outcome goals withinOf modelOf streamModel gvModel named numbered chosenOf pastQs startsQuestion headAt afterPattern patternStepAt itemAt afterQuestion patternsAt questionStepAt questionsAt patternsCounted questionsCounted nameOf nameAt-base-spaces pastByte newlineAt partingAt linePartingAt closeAt digitsFrom pdfOf pdfAt bareAt quotedAt referenceAt yesAt branchesAt lineAt afterLine lineStepAt linesAt recordsOf linesCounted linesSurveyed pastStar numberAt stateAt bodyAt headAt-tree afterTree treeStepAt treesAt saidRecords saidSurvey textAt treesCounted surveyOf surveyAt widenFields widenOf wordsAt blockAt withBlocks pairsAt entryAt valuesAt askedAt lineWords linkResult treesEnd treeWords recordWords workAfter spanWords patternWords questionWords rowAt-model-questions textOf entriesOf planOf planned roomFor filled-model loadOf
+unfolding littleEndian total rowsFrom paired bytes oneOf same letter digit wildcard mark inPattern inWord blank spaceOrTab inName byteAt between decimal run stop readFrom read larger total-laws largest anyOf eqZ classOf unsignedOf unsignedFrom unsignedAt signedAt patternOf patternAt emptyGlobal emptyStream emptyPosition emptyHeader filled globalRecord streamRecord positionRecord headerRecord each counted spanFits globalFits streamFits positionFits recordFits splitOf keyRow rowAt rowsFrom-groups rowsAt rowLineAt over noNames namesWith knownFrom knownIn rowsFrom-rows treeTable recordTable keyOf nameKey partInside nameAt idAt sideOf insert sorted lastBelow firstFrom countFrom refOf linesFrom pdfsOf targetOf orderFrom leafRows lineRows leavesOf recordRows linkOutcome linkedRows stepQuestion outcome goals withinOf modelOf streamModel gvModel named numbered chosenOf pastQs startsQuestion headAt afterPattern patternStepAt itemAt afterQuestion patternsAt questionStepAt questionsAt patternsCounted questionsCounted nameOf nameAt-base-spaces pastByte newlineAt partingAt linePartingAt closeAt digitsFrom pdfOf pdfAt bareAt quotedAt referenceAt yesAt branchesAt lineAt afterLine lineStepAt linesAt recordsOf linesCounted linesSurveyed pastStar numberAt stateAt bodyAt headAt-tree afterTree treeStepAt treesAt saidRecords saidSurvey textAt treesCounted surveyOf surveyAt widenFields widenOf wordsAt blockAt withBlocks pairsAt entryAt valuesAt askedAt lineWords linkResult treesEnd treeWords recordWords workAfter spanWords patternWords questionWords rowAt-model-questions textOf entriesOf planOf planned roomFor filled-model loadOf
 loads = refl
 
 -- the last of two lines with id -1, the last of two questions named A; blocks of three entries, of one and of none
 pub tree-table : after .tables .trees ≡ 2 ∷ 0 ∷ 6 ∷ 3 ∷ 0 ∷ 3 ∷ 3 ∷ 6 ∷ 1 ∷ 0 ∷ 6 ∷ 1 ∷ 4 ∷ 7 ∷ 0 ∷ 0 ∷ 8 ∷ 0 ∷ 7 ∷ 7 ∷ 7 ∷ 7 ∷ 7 ∷ []
-unfolding littleEndian total rowsFrom paired bytes oneOf same letter digit wildcard mark inPattern inWord blank spaceOrTab inName byteAt between decimal run stop readFrom read larger total-laws largest anyOf eqZ classOf unsignedOf unsignedFrom unsignedAt signedAt patternOf patternAt emptyGlobal emptyStream emptyPosition emptyHeader filled globalRecord streamRecord positionRecord headerRecord each counted spanFits globalFits streamFits positionFits recordFits splitOf keyRow rowAt rowsFrom-groups rowsAt rowLineAt over noNames namesWith knownFrom knownIn rowsFrom-rows treeTable recordTable keyOf nameKey partOr nameAt idAt sideOf insert sorted lastBelow firstFrom countFrom refOf linesFrom pdfsOf targetOf orderFrom leafRows lineRows leavesOf recordRows linkOutcome linkedRows stepQuestion outcome goals withinOf modelOf streamModel gvModel named numbered chosenOf pastQs startsQuestion headAt afterPattern patternStepAt itemAt afterQuestion patternsAt questionStepAt questionsAt patternsCounted questionsCounted nameOf nameAt-base-spaces pastByte newlineAt partingAt linePartingAt closeAt digitsFrom pdfOf pdfAt bareAt quotedAt referenceAt yesAt branchesAt lineAt afterLine lineStepAt linesAt recordsOf linesCounted linesSurveyed pastStar numberAt stateAt bodyAt headAt-tree afterTree treeStepAt treesAt saidRecords saidSurvey textAt treesCounted surveyOf surveyAt widenFields widenOf wordsAt blockAt withBlocks pairsAt entryAt valuesAt askedAt lineWords linkResult treesEnd treeWords recordWords workAfter spanWords patternWords questionWords rowAt-model-questions textOf entriesOf planOf planned roomFor filled-model loadOf
+unfolding littleEndian total rowsFrom paired bytes oneOf same letter digit wildcard mark inPattern inWord blank spaceOrTab inName byteAt between decimal run stop readFrom read larger total-laws largest anyOf eqZ classOf unsignedOf unsignedFrom unsignedAt signedAt patternOf patternAt emptyGlobal emptyStream emptyPosition emptyHeader filled globalRecord streamRecord positionRecord headerRecord each counted spanFits globalFits streamFits positionFits recordFits splitOf keyRow rowAt rowsFrom-groups rowsAt rowLineAt over noNames namesWith knownFrom knownIn rowsFrom-rows treeTable recordTable keyOf nameKey partInside nameAt idAt sideOf insert sorted lastBelow firstFrom countFrom refOf linesFrom pdfsOf targetOf orderFrom leafRows lineRows leavesOf recordRows linkOutcome linkedRows stepQuestion outcome goals withinOf modelOf streamModel gvModel named numbered chosenOf pastQs startsQuestion headAt afterPattern patternStepAt itemAt afterQuestion patternsAt questionStepAt questionsAt patternsCounted questionsCounted nameOf nameAt-base-spaces pastByte newlineAt partingAt linePartingAt closeAt digitsFrom pdfOf pdfAt bareAt quotedAt referenceAt yesAt branchesAt lineAt afterLine lineStepAt linesAt recordsOf linesCounted linesSurveyed pastStar numberAt stateAt bodyAt headAt-tree afterTree treeStepAt treesAt saidRecords saidSurvey textAt treesCounted surveyOf surveyAt widenFields widenOf wordsAt blockAt withBlocks pairsAt entryAt valuesAt askedAt lineWords linkResult treesEnd treeWords recordWords workAfter spanWords patternWords questionWords rowAt-model-questions textOf entriesOf planOf planned roomFor filled-model loadOf
 tree-table = refl
 
 pub record-table :
     after .tables .records
     ≡ 0 ∷ 1 ∷ 5 ∷ 2 ∷ 0 ∷ 2 ∷ 3 ∷ 0 ∷ 0 ∷ 1 ∷ 4 ∷ 0 ∷ 1 ∷ 1 ∷ 0 ∷ 0 ∷ 1 ∷ 2 ∷ 0 ∷ 0 ∷ 1 ∷ 3 ∷ 0 ∷ 0 ∷ 1 ∷ 1 ∷ 0 ∷ 0 ∷ []
-unfolding littleEndian total rowsFrom paired bytes oneOf same letter digit wildcard mark inPattern inWord blank spaceOrTab inName byteAt between decimal run stop readFrom read larger total-laws largest anyOf eqZ classOf unsignedOf unsignedFrom unsignedAt signedAt patternOf patternAt emptyGlobal emptyStream emptyPosition emptyHeader filled globalRecord streamRecord positionRecord headerRecord each counted spanFits globalFits streamFits positionFits recordFits splitOf keyRow rowAt rowsFrom-groups rowsAt rowLineAt over noNames namesWith knownFrom knownIn rowsFrom-rows treeTable recordTable keyOf nameKey partOr nameAt idAt sideOf insert sorted lastBelow firstFrom countFrom refOf linesFrom pdfsOf targetOf orderFrom leafRows lineRows leavesOf recordRows linkOutcome linkedRows stepQuestion outcome goals withinOf modelOf streamModel gvModel named numbered chosenOf pastQs startsQuestion headAt afterPattern patternStepAt itemAt afterQuestion patternsAt questionStepAt questionsAt patternsCounted questionsCounted nameOf nameAt-base-spaces pastByte newlineAt partingAt linePartingAt closeAt digitsFrom pdfOf pdfAt bareAt quotedAt referenceAt yesAt branchesAt lineAt afterLine lineStepAt linesAt recordsOf linesCounted linesSurveyed pastStar numberAt stateAt bodyAt headAt-tree afterTree treeStepAt treesAt saidRecords saidSurvey textAt treesCounted surveyOf surveyAt widenFields widenOf wordsAt blockAt withBlocks pairsAt entryAt valuesAt askedAt lineWords linkResult treesEnd treeWords recordWords workAfter spanWords patternWords questionWords rowAt-model-questions textOf entriesOf planOf planned roomFor filled-model loadOf
+unfolding littleEndian total rowsFrom paired bytes oneOf same letter digit wildcard mark inPattern inWord blank spaceOrTab inName byteAt between decimal run stop readFrom read larger total-laws largest anyOf eqZ classOf unsignedOf unsignedFrom unsignedAt signedAt patternOf patternAt emptyGlobal emptyStream emptyPosition emptyHeader filled globalRecord streamRecord positionRecord headerRecord each counted spanFits globalFits streamFits positionFits recordFits splitOf keyRow rowAt rowsFrom-groups rowsAt rowLineAt over noNames namesWith knownFrom knownIn rowsFrom-rows treeTable recordTable keyOf nameKey partInside nameAt idAt sideOf insert sorted lastBelow firstFrom countFrom refOf linesFrom pdfsOf targetOf orderFrom leafRows lineRows leavesOf recordRows linkOutcome linkedRows stepQuestion outcome goals withinOf modelOf streamModel gvModel named numbered chosenOf pastQs startsQuestion headAt afterPattern patternStepAt itemAt afterQuestion patternsAt questionStepAt questionsAt patternsCounted questionsCounted nameOf nameAt-base-spaces pastByte newlineAt partingAt linePartingAt closeAt digitsFrom pdfOf pdfAt bareAt quotedAt referenceAt yesAt branchesAt lineAt afterLine lineStepAt linesAt recordsOf linesCounted linesSurveyed pastStar numberAt stateAt bodyAt headAt-tree afterTree treeStepAt treesAt saidRecords saidSurvey textAt treesCounted surveyOf surveyAt widenFields widenOf wordsAt blockAt withBlocks pairsAt entryAt valuesAt askedAt lineWords linkResult treesEnd treeWords recordWords workAfter spanWords patternWords questionWords rowAt-model-questions textOf entriesOf planOf planned roomFor filled-model loadOf
 record-table = refl
 
 -- ---- the hypotheses of demand 3 hold of it

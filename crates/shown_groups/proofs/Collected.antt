@@ -22,11 +22,12 @@ use Rattle.error.specs.Numbers as error
 use Rattle.error.specs.declared.Refusal.{Refusal}
 use Rattle.head_record.specs.Empty.{noSpan}
 use Rattle.head_record.specs.Lists.{filled, spanOf}
-use Rattle.head_record.specs.declared.Span.{Span}
+use Rattle.text_parts.specs.declared.Span.{Span}
 use Rattle.head_record.proofs.Filled.{filled-with, filled-past}
 use Rattle.head_lines.specs.declared.Verdict.{Verdict}
 use Rattle.head_lines.specs.declared.Verdict.the-variants as verdict
-use Rattle.head_brackets.specs.Rows.{bytesOf, Going, on, stop-with, over, namesWith, knownFrom, knownIn}
+use Rattle.head_brackets.specs.Rows.{Going, on, stop-with, over, namesWith, knownFrom, knownIn}
+use Rattle.text_parts.specs.Parts.{bytesOf}
 use Rattle.head_brackets.specs.declared.Row.{Row}
 use Rattle.head_brackets.specs.declared.Names.{Names}
 use Rattle.head_brackets.proofs.Rows.{over-on, over-stop, over-none}

@@ -30,7 +30,8 @@ use Rattle.head_de.specs.declared.Text.the-variants as text
 use Rattle.head_de.proofs.Sound.{Answers, right, wrong, Bytes, text-sound}
 use Rattle.head_lines.specs.Lines.{keyOf, keyFrom, keyAt}
 use Rattle.head_lines.specs.declared.Key.the-variants as key
-use Rattle.head_brackets.specs.Rows.{bytesOf, splitOf, splitRow, keyRow, rowOf, rowAt, onwardRow, rowsFrom, rowsAt}
+use Rattle.head_brackets.specs.Rows.{splitOf, splitRow, keyRow, rowOf, rowAt, onwardRow, rowsFrom, rowsAt}
+use Rattle.text_parts.specs.Parts.{bytesOf}
 use Rattle.head_brackets.specs.declared.Split.{Split}
 use Rattle.head_brackets.specs.declared.Split.the-variants as split
 use Rattle.head_brackets.specs.declared.Row.{Row}

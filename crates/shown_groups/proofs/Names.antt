@@ -16,8 +16,9 @@ use Rattle.written.proofs.ApartFile.{same-same}
 use Rattle.written_total.proofs.Total.{same-true}
 use Rattle.head_record.specs.Empty.{noSpan}
 use Rattle.head_record.specs.Lists.{filled, spanOf}
-use Rattle.head_record.specs.declared.Span.{Span}
-use Rattle.head_brackets.specs.Rows.{bytesOf, knownFrom}
+use Rattle.text_parts.specs.declared.Span.{Span}
+use Rattle.head_brackets.specs.Rows.{knownFrom}
+use Rattle.text_parts.specs.Parts.{bytesOf}
 
 -- ---- rows of groups that are not known
 

@@ -29,7 +29,8 @@ use Rattle.head_lines.specs.Lines.{Next, entry, end, wrong, entryOf, stoodAt, k
 use Rattle.head_lines.proofs.Marks.{Marks, marks-none, stood-repeats, new-repeats, marks-more}
 use Rattle.head_lines.proofs.Kept.{Kinded, OfKind, reads-kind}
 use Rattle.head_lines.proofs.Going.{kept-more}
-use Rattle.head_brackets.specs.Rows.{bytesOf, fieldName, rowLineAt, Going, on, stop-with, overNext, over}
+use Rattle.head_brackets.specs.Rows.{fieldName, rowLineAt, Going, on, stop-with, overNext, over}
+use Rattle.text_parts.specs.Parts.{bytesOf}
 use Rattle.head_brackets.specs.declared.Row.{Row}
 use Rattle.head_brackets.proofs.Rows.{over-on, over-stop, over-none}
 use Rattle.shown_groups.specs.Said.{rowSaid}

@@ -3,8 +3,8 @@ use mathlib.Core.List.{List}
 use Prim.Native.Nat.{ℕ, _-_}
 use Rattle.written.specs.Bytes as written
 use Rattle.written.specs.Groups as says
-use Rattle.head_record.specs.declared.Span.{Span}
-use Rattle.head_brackets.specs.Rows.{bytesOf}
+use Rattle.text_parts.specs.declared.Span.{Span}
+use Rattle.text_parts.specs.Parts.{bytesOf}
 use Rattle.head_brackets.specs.declared.Row.{Row}
 
 abbrev pub spanSaid : Span → written.Span

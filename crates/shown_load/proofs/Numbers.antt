@@ -16,7 +16,7 @@ use Rattle.head_record.specs.declared.Range.{Range}
 use Rattle.head_record.specs.declared.StreamData.{StreamData}
 use Rattle.head_record.specs.declared.PositionData.{PositionData}
 use Rattle.head_record.specs.Empty.{noSpan}
-use Rattle.head_brackets.specs.Rows.{bytesOf}
+use Rattle.text_parts.specs.Parts.{bytesOf}
 use Rattle.head_record_fits.specs.Fits.{recordFits}
 use Rattle.link_search.specs.declared.Found.{Found}
 use Rattle.link_search.specs.declared.Found.the-variants as found

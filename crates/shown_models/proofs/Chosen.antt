@@ -21,12 +21,12 @@ use Rattle.error.specs.declared.Refusal.the-variants as refusal
 use Rattle.head_record.specs.Empty.{noSpan, emptyStream, emptyPosition}
 use Rattle.head_record.specs.Lists.{filled, spanOf, rangeOf}
 use Rattle.head_record.specs.Record.{there as present, rangeOr, globalRecord, streamRecord, positionRecord, headerRecord}
-use Rattle.head_record.specs.declared.Span.{Span}
+use Rattle.text_parts.specs.declared.Span.{Span}
 use Rattle.head_record.specs.declared.StreamData.{StreamData}
 use Rattle.head_record.specs.declared.PositionData.{PositionData}
 use Rattle.head_record_fits.specs.Fits.{recordFits}
 use Rattle.head_record_fits.proofs.Said.{says-fits}
-use Rattle.head_brackets.specs.Rows.{bytesOf}
+use Rattle.text_parts.specs.Parts.{bytesOf}
 use Rattle.load_choose.specs.Chosen.{modelOf, streamModel, gvModel}
 use Rattle.load_choose.specs.Entries as code
 use Rattle.load_choose.specs.Entries.{Numbered, no-number, no-position, no-stream, entries, Choice, unfit, duration, stream, gv}

@@ -33,7 +33,7 @@ use Rattle.pdf_blocks.specs.Values.{wordAt, wordsAt, valuesAt}
 use Rattle.pdf_blocks.proofs.Joined.{Small, fits-block}
 use Rattle.pdf_values.specs.Folded.{withBlocks, begun}
 use Rattle.pdf_values.proofs.Folded.{fold-stored}
-use Rattle.link_targets.specs.Lines.{natOf}
+use Rattle.text_parts.specs.Parts.{natOf}
 use Rattle.load_choose.specs.declared.Which.{Which}
 use Rattle.load_questions.specs.Words.{patternWords}
 use Rattle.load_tree.specs.Bodies.{Result, bodyResult}

@@ -11,7 +11,7 @@ use Rattle.written.proofs.ApartFile.{no-global-never, no-streams-never, no-posi
 use Rattle.head_record.specs.Empty.{emptyStream, emptyPosition}
 use Rattle.head_record.specs.Lists.{filled, rangeOf}
 use Rattle.head_record.specs.Record.{globalRecord, streamRecord, positionRecord}
-use Rattle.head_record.specs.declared.Span.{Span}
+use Rattle.text_parts.specs.declared.Span.{Span}
 use Rattle.head_de.proofs.Sound.{Bytes}
 use Rattle.head_lines.specs.declared.Verdict.the-variants as verdict
 use Rattle.head_global.specs.Global as global

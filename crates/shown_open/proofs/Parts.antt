@@ -21,7 +21,7 @@ use Rattle.text_utf8.proofs.Valid.{valid, bad}
 use Rattle.head_record.specs.Empty.{emptyStream, emptyPosition}
 use Rattle.head_record.specs.Lists.{filled, rangeOf}
 use Rattle.head_record.specs.Record.{globalRecord, streamRecord, positionRecord}
-use Rattle.head_record.specs.declared.Span.{Span}
+use Rattle.text_parts.specs.declared.Span.{Span}
 use Rattle.head_de.proofs.Sound.{Bytes}
 use Rattle.head_lines.specs.Lines.{Lines, whole, faulty, linesAt}
 use Rattle.head_lines.specs.declared.Verdict.{Verdict}

@@ -26,14 +26,15 @@ use Rattle.error.specs.declared.Refusal.the-variants as refusal
 use Rattle.head_record.specs.Empty.{emptyPosition}
 use Rattle.head_record.specs.Lists.{filled}
 use Rattle.head_record.specs.Record.{positionRecord}
-use Rattle.head_record.specs.declared.Span.{Span}
+use Rattle.text_parts.specs.declared.Span.{Span}
 use Rattle.head_record.specs.declared.PositionData.{PositionData}
 use Rattle.head_de.proofs.Sound.{Bytes}
 use Rattle.head_fields.specs.Fields.{anyMissing}
 use Rattle.head_lines.specs.declared.Verdict.{Verdict}
 use Rattle.head_lines.specs.declared.Verdict.the-variants as verdict
 use Rattle.head_lines.proofs.Kept.{missing-so, missing-not}
-use Rattle.head_brackets.specs.Rows.{bytesOf, rowsAt, Going, on, stop-with, over, noNames}
+use Rattle.head_brackets.specs.Rows.{rowsAt, Going, on, stop-with, over, noNames}
+use Rattle.text_parts.specs.Parts.{bytesOf}
 use Rattle.head_brackets.specs.declared.Row.{Row}
 use Rattle.head_position.specs.Group.{withLine, emptyOf, named, afterLine, withRow, groupIn}
 use Rattle.head_position.specs.Group as one

@@ -23,14 +23,15 @@ use Rattle.error.specs.declared.Refusal.the-variants as refusal
 use Rattle.head_record.specs.Empty.{emptyStream}
 use Rattle.head_record.specs.Lists.{filled}
 use Rattle.head_record.specs.Record.{streamRecord}
-use Rattle.head_record.specs.declared.Span.{Span}
+use Rattle.text_parts.specs.declared.Span.{Span}
 use Rattle.head_record.specs.declared.StreamData.{StreamData}
 use Rattle.head_de.proofs.Sound.{Bytes}
 use Rattle.head_fields.specs.Fields.{anyMissing}
 use Rattle.head_lines.specs.declared.Verdict.{Verdict}
 use Rattle.head_lines.specs.declared.Verdict.the-variants as verdict
 use Rattle.head_lines.proofs.Kept.{missing-so, missing-not}
-use Rattle.head_brackets.specs.Rows.{bytesOf, rowsAt, Going, on, stop-with, over, noNames}
+use Rattle.head_brackets.specs.Rows.{rowsAt, Going, on, stop-with, over, noNames}
+use Rattle.text_parts.specs.Parts.{bytesOf}
 use Rattle.head_brackets.specs.declared.Row.{Row}
 use Rattle.head_stream.specs.Group.{withLine, emptyOf, named, afterLine, withRow, groupIn}
 use Rattle.head_stream.specs.Group as one

@@ -19,7 +19,8 @@ use Rattle.head_record.specs.Record.{globalRecord, streamRecord, positionRecord
 use Rattle.head_de.specs.Values.{endsAt, textAt, numberAt, flagAt, delimiterAt, elementAt, pairAt}
 use Rattle.head_de_lists.specs.Lists.{itemsFrom, itemsAt, listAt, spansOf, rangesOf, spansWith, rangesWith, firsts}
 use Rattle.link_sort.specs.Sorted.{insert, sorted}
-use Rattle.link_order.specs.Keys.{keyOf, nameKey, partOr, nameAt, idAt}
+use Rattle.link_order.specs.Keys.{keyOf, nameKey, nameAt, idAt}
+use Rattle.text_parts.specs.Parts.{partInside}
 use Rattle.link_order.specs.Sides.{sideOf}
 use Rattle.link_search.specs.Found.{lastBelow, firstFrom, countFrom}
 use Rattle.link_targets.specs.Lines.{refOf, linesFrom, pdfsOf}
@@ -42,9 +43,9 @@ use Rattle.load_tree.specs.Bodies.{linkResult}
 use Rattle.load_trees.specs.Trees.{treesEnd, treeWords, recordWords, workAfter}
 
 five : Holds five-records
-unfolding bias leadingZeros littleEndian total rowsFrom paired bytes oneOf same letter digit wildcard mark inPattern inWord blank spaceOrTab inName byteAt between decimal run stop readFrom read larger total-laws largest anyOf eqZ widenFields widenOf classOf unsignedOf unsignedFrom unsignedAt signedAt patternOf patternAt emptyGlobal emptyStream emptyPosition emptyHeader filled globalRecord streamRecord positionRecord headerRecord endsAt textAt numberAt flagAt delimiterAt elementAt pairAt itemsFrom itemsAt listAt spansOf rangesOf spansWith rangesWith firsts insert sorted keyOf nameKey partOr nameAt idAt sideOf lastBelow firstFrom countFrom refOf linesFrom pdfsOf targetOf orderFrom leafRows lineRows leavesOf recordRows linkOutcome linkedRows stepQuestion outcome goals nameOf nameAt-base-spaces pastByte newlineAt partingAt linePartingAt closeAt pastQs startsQuestion headAt afterPattern patternStepAt itemAt afterQuestion patternsAt questionStepAt questionsAt digitsFrom pdfOf pdfAt bareAt quotedAt referenceAt yesAt branchesAt lineAt afterLine lineStepAt linesAt pastStar numberAt-tree stateAt bodyAt headAt-tree afterTree treeStepAt treesAt patternsCounted questionsCounted recordsOf linesCounted linesSurveyed saidRecords saidSurvey textAt-tree-survey treesCounted surveyOf surveyAt askedAt lineWords spanWords patternWords questionWords rowAt linkResult treesEnd treeWords recordWords workAfter
+unfolding bias leadingZeros littleEndian total rowsFrom paired bytes oneOf same letter digit wildcard mark inPattern inWord blank spaceOrTab inName byteAt between decimal run stop readFrom read larger total-laws largest anyOf eqZ widenFields widenOf classOf unsignedOf unsignedFrom unsignedAt signedAt patternOf patternAt emptyGlobal emptyStream emptyPosition emptyHeader filled globalRecord streamRecord positionRecord headerRecord endsAt textAt numberAt flagAt delimiterAt elementAt pairAt itemsFrom itemsAt listAt spansOf rangesOf spansWith rangesWith firsts insert sorted keyOf nameKey partInside nameAt idAt sideOf lastBelow firstFrom countFrom refOf linesFrom pdfsOf targetOf orderFrom leafRows lineRows leavesOf recordRows linkOutcome linkedRows stepQuestion outcome goals nameOf nameAt-base-spaces pastByte newlineAt partingAt linePartingAt closeAt pastQs startsQuestion headAt afterPattern patternStepAt itemAt afterQuestion patternsAt questionStepAt questionsAt digitsFrom pdfOf pdfAt bareAt quotedAt referenceAt yesAt branchesAt lineAt afterLine lineStepAt linesAt pastStar numberAt-tree stateAt bodyAt headAt-tree afterTree treeStepAt treesAt patternsCounted questionsCounted recordsOf linesCounted linesSurveyed saidRecords saidSurvey textAt-tree-survey treesCounted surveyOf surveyAt askedAt lineWords spanWords patternWords questionWords rowAt linkResult treesEnd treeWords recordWords workAfter
 five = (refl, refl)
 
 pub all : All Holds sums
-unfolding bias leadingZeros littleEndian total rowsFrom paired bytes oneOf same letter digit wildcard mark inPattern inWord blank spaceOrTab inName byteAt between decimal run stop readFrom read larger total-laws largest anyOf eqZ widenFields widenOf classOf unsignedOf unsignedFrom unsignedAt signedAt patternOf patternAt emptyGlobal emptyStream emptyPosition emptyHeader filled globalRecord streamRecord positionRecord headerRecord endsAt textAt numberAt flagAt delimiterAt elementAt pairAt itemsFrom itemsAt listAt spansOf rangesOf spansWith rangesWith firsts insert sorted keyOf nameKey partOr nameAt idAt sideOf lastBelow firstFrom countFrom refOf linesFrom pdfsOf targetOf orderFrom leafRows lineRows leavesOf recordRows linkOutcome linkedRows stepQuestion outcome goals nameOf nameAt-base-spaces pastByte newlineAt partingAt linePartingAt closeAt pastQs startsQuestion headAt afterPattern patternStepAt itemAt afterQuestion patternsAt questionStepAt questionsAt digitsFrom pdfOf pdfAt bareAt quotedAt referenceAt yesAt branchesAt lineAt afterLine lineStepAt linesAt pastStar numberAt-tree stateAt bodyAt headAt-tree afterTree treeStepAt treesAt patternsCounted questionsCounted recordsOf linesCounted linesSurveyed saidRecords saidSurvey textAt-tree-survey treesCounted surveyOf surveyAt askedAt lineWords spanWords patternWords questionWords rowAt linkResult treesEnd treeWords recordWords workAfter
+unfolding bias leadingZeros littleEndian total rowsFrom paired bytes oneOf same letter digit wildcard mark inPattern inWord blank spaceOrTab inName byteAt between decimal run stop readFrom read larger total-laws largest anyOf eqZ widenFields widenOf classOf unsignedOf unsignedFrom unsignedAt signedAt patternOf patternAt emptyGlobal emptyStream emptyPosition emptyHeader filled globalRecord streamRecord positionRecord headerRecord endsAt textAt numberAt flagAt delimiterAt elementAt pairAt itemsFrom itemsAt listAt spansOf rangesOf spansWith rangesWith firsts insert sorted keyOf nameKey partInside nameAt idAt sideOf lastBelow firstFrom countFrom refOf linesFrom pdfsOf targetOf orderFrom leafRows lineRows leavesOf recordRows linkOutcome linkedRows stepQuestion outcome goals nameOf nameAt-base-spaces pastByte newlineAt partingAt linePartingAt closeAt pastQs startsQuestion headAt afterPattern patternStepAt itemAt afterQuestion patternsAt questionStepAt questionsAt digitsFrom pdfOf pdfAt bareAt quotedAt referenceAt yesAt branchesAt lineAt afterLine lineStepAt linesAt pastStar numberAt-tree stateAt bodyAt headAt-tree afterTree treeStepAt treesAt patternsCounted questionsCounted recordsOf linesCounted linesSurveyed saidRecords saidSurvey textAt-tree-survey treesCounted surveyOf surveyAt askedAt lineWords spanWords patternWords questionWords rowAt linkResult treesEnd treeWords recordWords workAfter
 all = next refl (next refl (next refl (next refl (next refl (next refl (next refl (next refl (next refl (next refl (next refl (next refl (next five end))))))))))))

@@ -16,7 +16,7 @@ use Rattle.laws.proofs.Nth.{flatten-append}
 use Rattle.pdf_values.specs.Folded.{begun}
 use Rattle.link_order.specs.Keys.{nameAt}
 use Rattle.tree_body.specs.Trees.{treeOf}
-use Rattle.link_targets.specs.Lines.{natOf}
+use Rattle.text_parts.specs.Parts.{natOf}
 use Rattle.load_tree.specs.Bodies.{bodyResult}
 use Rattle.load_tree.specs.declared.Filled.{Filled}
 use Rattle.load_tree.specs.declared.Filled.the-variants as filled

@@ -10,7 +10,7 @@ use Rattle.laws.proofs.Tables.{part-sets}
 use Rattle.tree_question.specs.Questions.{questionsAt}
 use Rattle.tree_body.specs.Trees.{Body, lone, braces, Tree, treesAt}
 use Rattle.tree_survey.specs.Survey.{bodyRecords, treeRecords}
-use Rattle.link_targets.specs.Lines.{natOf}
+use Rattle.text_parts.specs.Parts.{natOf}
 use Rattle.load_tree.specs.Bodies.{bodyResult}
 use Rattle.load_tree.specs.declared.Filled.{Filled}
 use Rattle.load_tree.specs.declared.Filled.the-variants as filled

@@ -21,7 +21,8 @@ use Rattle.written.proofs.Decide.{question-le, parting-lt}
 use Rattle.laws.proofs.Runs.{byte-out, byte-in}
 use Rattle.laws.proofs.Tables.{sets-front}
 use Rattle.text_spaces.proofs.Joined.{no-name, run-inside}
-use Rattle.link_order.specs.Keys.{nameAt, partOr}
+use Rattle.link_order.specs.Keys.{nameAt}
+use Rattle.text_parts.specs.Parts.{partInside}
 use Rattle.link_search.specs.Found.{lastBelow}
 use Rattle.link_search.specs.declared.Found.{Found}
 use Rattle.link_search.specs.declared.Found.the-variants.{At, Nothing}
@@ -65,8 +66,8 @@ module _ (s : List ℕ) where
           let u : _≡_ {A = Bool} true false = sym y ∙ ap p (byte-out s i (omega arith)) ∙ n in
           let t : _≡_ {A = ℕ} 0 1 = cc in absurd (omega arith)
 
-  pub name-stands : {b c : ℕ} → Run₁ s inName b c → partOr s b (c - b) ≡ between s b c
-  unfolding partOr between
+  pub name-stands : {b c : ℕ} → Run₁ s inName b c → partInside s b (c - b) ≡ between s b c
+  unfolding partInside between
   name-stands {b} {c} r =
       let l : b < c = run₁-lt r in
       let h : c ≤ length s = run₁-inside no-name r in
@@ -74,7 +75,7 @@ module _ (s : List ℕ) where
 
   -- ---- questions
 
-  question-stands : {i j : ℕ} {x : Question} {y : QuestionPlace} → QuestionAt s i j x y → partOr s (y .name .start) (y .name .len) ≡ x .name
+  question-stands : {i j : ℕ} {x : Question} {y : QuestionPlace} → QuestionAt s i j x y → partInside s (y .name .start) (y .name .len) ≡ x .name
   question-stands (question q a n b c d ps e f) = name-stands n
 
   -- the name that linking finds in a question's row
@@ -116,10 +117,10 @@ module _ (s : List ℕ) where
 
   asked-small : (words : List ℕ) (n start len : ℕ) → n < 2 ^ 63 → mag (askedAt s words n start len) < 2 ^ 63
   unfolding askedAt
-  asked-small words n start len h = go (lastBelow (λ e. same (nameAt s words e) (partOr s start len)) n) refl
+  asked-small words n start len h = go (lastBelow (λ e. same (nameAt s words e) (partInside s start len)) n) refl
     where
-      go : (f : Found) → lastBelow (λ e. same (nameAt s words e) (partOr s start len)) n ≡ f → mag (askedOf f) < 2 ^ 63
-      go (At k) e = let f = last-found (λ e. same (nameAt s words e) (partOr s start len)) n k e in omega (arith, f .0)
+      go : (f : Found) → lastBelow (λ e. same (nameAt s words e) (partInside s start len)) n ≡ f → mag (askedOf f) < 2 ^ 63
+      go (At k) e = let f = last-found (λ e. same (nameAt s words e) (partInside s start len)) n k e in omega (arith, f .0)
       go Nothing e = omega arith
 
   -- ---- the words of lines

@@ -12,7 +12,8 @@ use Rattle.written.specs.Said.{Question}
 use Rattle.written.specs.Linking.{Row}
 use Rattle.written.specs.Writing.{Among, Spells, PatternsSay, QuestionsSay}
 use Rattle.laws.proofs.Every.{first-of, second-of}
-use Rattle.link_order.specs.Keys.{nameAt, partOr}
+use Rattle.link_order.specs.Keys.{nameAt}
+use Rattle.text_parts.specs.Parts.{partInside}
 use Rattle.table_rows.specs.Rows.{questionRows, questionStart, questionLen, questionFirst, questionPatterns, patternRows, patternStart, patternLen, questionRow, patternRow, rowsFrom, questionTable, patternTable}
 use Rattle.table_rows.proofs.Stand.{length-from}
 use Rattle.write_parts.specs.Parts.{each, patternOf, questionOf}
@@ -53,10 +54,10 @@ module _ (d : List ℕ) (a n : ℕ) (h : Among a n (length d)) where
 
 module _ (d Q : List ℕ) (q : ℕ) (l : q < questionRows Q) (h : Among (questionStart Q q) (questionLen Q q) (length d)) (z : 0 < questionLen Q q) where
   pub name-is : part d (questionStart Q q) (questionLen Q q) ≡ nameAt d Q q
-  unfolding nameAt partOr
+  unfolding nameAt partInside
   name-is =
       let e : questionStart Q q + questionLen Q q ≤ length d = omega (arith, h (questionLen Q q - 1) (omega arith)) in
-      sym (ap (λ (b : Bool). cond b (partOr d (questionStart Q q) (questionLen Q q)) []) (lt-ltb q (questionRows Q) l)
+      sym (ap (λ (b : Bool). cond b (partInside d (questionStart Q q) (questionLen Q q)) []) (lt-ltb q (questionRows Q) l)
       ∙ ap₂ (λ (b c : Bool). cond (b && c) (part d (questionStart Q q) (questionLen Q q)) []) (le-leb (questionStart Q q) (length d) (omega arith)) (le-leb (questionLen Q q) (length d - questionStart Q q) (omega arith)))
 
 -- what the test of one question says

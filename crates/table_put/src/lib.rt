@@ -1,12 +1,11 @@
 // Rows stored in lent tables, and tables made zero (01, 'Linking and tables'; 02, Wish 10).
+use table_rows::TREE_ROW;
 ghost use mathlib.Core.Path.{_≡_};
 ghost use mathlib.Core.List.{[], _∷_};
 ghost use Prim.Native.Nat.{_+_, _*_, _≤_};
 ghost use lib.ListN.{length, replicate};
 ghost use lib.Seq.{sets};
 ghost use lib.IntN.{pos};
-
-const TREE: usize = 6;
 
 // Two numbers from k on.
 pub fn put2(t: &mut [u64], k: usize, a: u64, b: u64)
@@ -33,8 +32,8 @@ pub fn put_tree(trees: &mut [u64], k: usize, state: u64, first: u64, records: u6
     requires { ⌜ 6 * k + 6 ≤ length (now trees) ⌝ }
     ensures { λ r. ⌜ now (trees .exit) ≡ sets (now (trees .entry)) (6 * k) (state ∷ first ∷ records ∷ lines ∷ 0 ∷ 0 ∷ []) ⌝ }
 {
-    put4(trees, TREE * k, state, first, records, lines);
-    put2(trees, TREE * k + 4, 0, 0);
+    put4(trees, TREE_ROW * k, state, first, records, lines);
+    put2(trees, TREE_ROW * k + 4, 0, 0);
 }
 
 // What the block says of tree k: its first value and its entries.
@@ -42,7 +41,7 @@ pub fn put_block(trees: &mut [u64], k: usize, first: u64, entries: u64)
     requires { ⌜ 6 * k + 6 ≤ length (now trees) ⌝ }
     ensures { λ r. ⌜ now (trees .exit) ≡ sets (now (trees .entry)) (6 * k + 4) (first ∷ entries ∷ []) ⌝ }
 {
-    put2(trees, TREE * k + 4, first, entries);
+    put2(trees, TREE_ROW * k + 4, first, entries);
 }
 
 // A table all zero.

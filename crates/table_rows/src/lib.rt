@@ -6,44 +6,58 @@ ghost use Prim.Native.Nat.{_+_, _<_};
 ghost use lib.Dec.{ltb};
 ghost use Rattle.table_rows.specs.Rows.{questionRows, patternRows, treeRows, recordRows, questionThere, questionStart, questionLen, questionFirst, questionPatterns, patternStart, patternLen, treeThere, treeState, treeLines, recordThere, recordsIn, treeFirst, treeRecords, treeValue, treeEntries, recordKind, recordQuestion, recordPdf, recordYes, recordNo};
 
-const QUESTION: usize = 4;
+// The numbers of a row of each table.
+pub const QUESTION_ROW: usize = 4;
 
-const PATTERN: usize = 2;
+pub const PATTERN_ROW: usize = 2;
 
-const TREE: usize = 6;
+pub const TREE_ROW: usize = 6;
 
-const RECORD: usize = 4;
+pub const RECORD_ROW: usize = 4;
+
+// The numbers of a line in the work: its id; kind and number of yes, and of no; one more than its question's row.
+pub const WORK_A_LINE: usize = 6;
+
+pub const LINE_YES: usize = 1;
+
+pub const LINE_YES_NUMBER: usize = 2;
+
+pub const LINE_NO: usize = 3;
+
+pub const LINE_NO_NUMBER: usize = 4;
+
+pub const LINE_QUESTION: usize = 5;
 
 // Whether there is a question q.
 pub fn question_there(questions: &[u64], q: u64) -> bool
     ensures { λ r. ⌜ r ≡ questionThere (now (questions .entry)) q ⌝ }
 {
-    q < (questions.len() / QUESTION) as u64
+    q < (questions.len() / QUESTION_ROW) as u64
 }
 
 // How many rows each table has.
 pub fn question_rows(questions: &[u64]) -> u64
     ensures { λ r. ⌜ r ≡ questionRows (now (questions .entry)) ⌝ }
 {
-    (questions.len() / QUESTION) as u64
+    (questions.len() / QUESTION_ROW) as u64
 }
 
 pub fn pattern_rows(patterns: &[u64]) -> u64
     ensures { λ r. ⌜ r ≡ patternRows (now (patterns .entry)) ⌝ }
 {
-    (patterns.len() / PATTERN) as u64
+    (patterns.len() / PATTERN_ROW) as u64
 }
 
 pub fn tree_rows(trees: &[u64]) -> u64
     ensures { λ r. ⌜ r ≡ treeRows (now (trees .entry)) ⌝ }
 {
-    (trees.len() / TREE) as u64
+    (trees.len() / TREE_ROW) as u64
 }
 
 pub fn record_rows(records: &[u64]) -> u64
     ensures { λ r. ⌜ r ≡ recordRows (now (records .entry)) ⌝ }
 {
-    (records.len() / RECORD) as u64
+    (records.len() / RECORD_ROW) as u64
 }
 
 // Whether row first + k is one of so many; the sum may be no number.
@@ -60,14 +74,14 @@ pub fn row_there(many: u64, first: u64, k: u64) -> bool
 pub fn tree_there(trees: &[u64], t: u64) -> bool
     ensures { λ r. ⌜ r ≡ treeThere (now (trees .entry)) t ⌝ }
 {
-    t < (trees.len() / TREE) as u64
+    t < (trees.len() / TREE_ROW) as u64
 }
 
 // Whether record k of a tree with `count` records from `first` on stands among them and in the table.
 pub fn record_there(records: &[u64], first: u64, count: u64, k: u64) -> bool
     ensures { λ r. ⌜ r ≡ recordThere (now (records .entry)) first count k ⌝ }
 {
-    let rows = (records.len() / RECORD) as u64;
+    let rows = (records.len() / RECORD_ROW) as u64;
     if count <= k {
         return false;
     }
@@ -81,7 +95,7 @@ pub fn record_there(records: &[u64], first: u64, count: u64, k: u64) -> bool
 pub fn records_in(records: &[u64], first: u64, count: u64) -> u64
     ensures { λ r. ⌜ r ≡ recordsIn (now (records .entry)) first count ⌝ }
 {
-    let rows = (records.len() / RECORD) as u64;
+    let rows = (records.len() / RECORD_ROW) as u64;
     if rows <= first {
         return 0;
     }
@@ -97,14 +111,14 @@ pub fn question_start(questions: &[u64], q: u64) -> u64
     requires { ⌜ q < questionRows (now questions) ⌝ }
     ensures { λ r. ⌜ r ≡ questionStart (now (questions .entry)) q ⌝ }
 {
-    questions[QUESTION * (q as usize)]
+    questions[QUESTION_ROW * (q as usize)]
 }
 
 pub fn question_len(questions: &[u64], q: u64) -> u64
     requires { ⌜ q < questionRows (now questions) ⌝ }
     ensures { λ r. ⌜ r ≡ questionLen (now (questions .entry)) q ⌝ }
 {
-    questions[QUESTION * (q as usize) + 1]
+    questions[QUESTION_ROW * (q as usize) + 1]
 }
 
 // A question's first pattern row.
@@ -112,56 +126,56 @@ pub fn question_first(questions: &[u64], q: u64) -> u64
     requires { ⌜ q < questionRows (now questions) ⌝ }
     ensures { λ r. ⌜ r ≡ questionFirst (now (questions .entry)) q ⌝ }
 {
-    questions[QUESTION * (q as usize) + 2]
+    questions[QUESTION_ROW * (q as usize) + 2]
 }
 
 pub fn question_patterns(questions: &[u64], q: u64) -> u64
     requires { ⌜ q < questionRows (now questions) ⌝ }
     ensures { λ r. ⌜ r ≡ questionPatterns (now (questions .entry)) q ⌝ }
 {
-    questions[QUESTION * (q as usize) + 3]
+    questions[QUESTION_ROW * (q as usize) + 3]
 }
 
 pub fn pattern_start(patterns: &[u64], p: u64) -> u64
     requires { ⌜ p < patternRows (now patterns) ⌝ }
     ensures { λ r. ⌜ r ≡ patternStart (now (patterns .entry)) p ⌝ }
 {
-    patterns[PATTERN * (p as usize)]
+    patterns[PATTERN_ROW * (p as usize)]
 }
 
 pub fn pattern_len(patterns: &[u64], p: u64) -> u64
     requires { ⌜ p < patternRows (now patterns) ⌝ }
     ensures { λ r. ⌜ r ≡ patternLen (now (patterns .entry)) p ⌝ }
 {
-    patterns[PATTERN * (p as usize) + 1]
+    patterns[PATTERN_ROW * (p as usize) + 1]
 }
 
 pub fn tree_state(trees: &[u64], t: u64) -> u64
     requires { ⌜ t < treeRows (now trees) ⌝ }
     ensures { λ r. ⌜ r ≡ treeState (now (trees .entry)) t ⌝ }
 {
-    trees[TREE * (t as usize)]
+    trees[TREE_ROW * (t as usize)]
 }
 
 pub fn tree_lines(trees: &[u64], t: u64) -> u64
     requires { ⌜ t < treeRows (now trees) ⌝ }
     ensures { λ r. ⌜ r ≡ treeLines (now (trees .entry)) t ⌝ }
 {
-    trees[TREE * (t as usize) + 3]
+    trees[TREE_ROW * (t as usize) + 3]
 }
 
 pub fn tree_first(trees: &[u64], t: u64) -> u64
     requires { ⌜ t < treeRows (now trees) ⌝ }
     ensures { λ r. ⌜ r ≡ treeFirst (now (trees .entry)) t ⌝ }
 {
-    trees[TREE * (t as usize) + 1]
+    trees[TREE_ROW * (t as usize) + 1]
 }
 
 pub fn tree_records(trees: &[u64], t: u64) -> u64
     requires { ⌜ t < treeRows (now trees) ⌝ }
     ensures { λ r. ⌜ r ≡ treeRecords (now (trees .entry)) t ⌝ }
 {
-    trees[TREE * (t as usize) + 2]
+    trees[TREE_ROW * (t as usize) + 2]
 }
 
 // The first value of a tree's first entry.
@@ -169,7 +183,7 @@ pub fn tree_value(trees: &[u64], t: u64) -> u64
     requires { ⌜ t < treeRows (now trees) ⌝ }
     ensures { λ r. ⌜ r ≡ treeValue (now (trees .entry)) t ⌝ }
 {
-    trees[TREE * (t as usize) + 4]
+    trees[TREE_ROW * (t as usize) + 4]
 }
 
 // How many entries a tree's block has.
@@ -177,7 +191,7 @@ pub fn tree_entries(trees: &[u64], t: u64) -> u64
     requires { ⌜ t < treeRows (now trees) ⌝ }
     ensures { λ r. ⌜ r ≡ treeEntries (now (trees .entry)) t ⌝ }
 {
-    trees[TREE * (t as usize) + 5]
+    trees[TREE_ROW * (t as usize) + 5]
 }
 
 // 0 is a line, 1 a leaf.
@@ -185,7 +199,7 @@ pub fn record_kind(records: &[u64], i: u64) -> u64
     requires { ⌜ i < recordRows (now records) ⌝ }
     ensures { λ r. ⌜ r ≡ recordKind (now (records .entry)) i ⌝ }
 {
-    records[RECORD * (i as usize)]
+    records[RECORD_ROW * (i as usize)]
 }
 
 // The question of a line.
@@ -193,7 +207,7 @@ pub fn record_question(records: &[u64], i: u64) -> u64
     requires { ⌜ i < recordRows (now records) ⌝ }
     ensures { λ r. ⌜ r ≡ recordQuestion (now (records .entry)) i ⌝ }
 {
-    records[RECORD * (i as usize) + 1]
+    records[RECORD_ROW * (i as usize) + 1]
 }
 
 // The PDF number of a leaf.
@@ -201,19 +215,19 @@ pub fn record_pdf(records: &[u64], i: u64) -> u64
     requires { ⌜ i < recordRows (now records) ⌝ }
     ensures { λ r. ⌜ r ≡ recordPdf (now (records .entry)) i ⌝ }
 {
-    records[RECORD * (i as usize) + 1]
+    records[RECORD_ROW * (i as usize) + 1]
 }
 
 pub fn record_yes(records: &[u64], i: u64) -> u64
     requires { ⌜ i < recordRows (now records) ⌝ }
     ensures { λ r. ⌜ r ≡ recordYes (now (records .entry)) i ⌝ }
 {
-    records[RECORD * (i as usize) + 2]
+    records[RECORD_ROW * (i as usize) + 2]
 }
 
 pub fn record_no(records: &[u64], i: u64) -> u64
     requires { ⌜ i < recordRows (now records) ⌝ }
     ensures { λ r. ⌜ r ≡ recordNo (now (records .entry)) i ⌝ }
 {
-    records[RECORD * (i as usize) + 3]
+    records[RECORD_ROW * (i as usize) + 3]
 }

@@ -8,7 +8,6 @@ ghost use mathlib.Core.Bool.{cond};
 ghost use Prim.Native.Nat.{_≤_, _<_, _^_};
 ghost use lib.Dec.{leb, ltb};
 ghost use lib.IntN.{pos, negℤ};
-ghost use Rattle.written.specs.Bytes.{same};
 ghost use Rattle.text_numbers.specs.Answers.{unsignedFrom, unsignedAt, signedOf, signedAt, patternOf, patternAt};
 
 // What decimal digits say.
@@ -179,21 +178,4 @@ pub fn parse_pattern(s: &[u8], at: usize) -> Pattern
     }
     let end = pattern_end(s, at);
     some_pattern(at, end, end)
-}
-
-// Whether two byte strings are the same, byte by byte.
-pub fn same_bytes(a: &[u8], b: &[u8]) -> bool
-    ensures { λ r. ⌜ r ≡ same (now (a .entry)) (now (b .entry)) ⌝ }
-{
-    let mut i = 0;
-    while i < a.len() {
-        if b.len() <= i {
-            return false;
-        }
-        if a[i] != b[i] {
-            return false;
-        }
-        i = i + 1;
-    }
-    b.len() <= i
 }

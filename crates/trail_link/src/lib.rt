@@ -9,6 +9,7 @@ use load_trees::all_linked;
 use load_trees::ended;
 use load_trees::fill_tree;
 use table_put::zero_work;
+use table_rows::QUESTION_ROW;
 ghost use mathlib.Core.Path.{_≡_};
 ghost use lib.ListN.{length};
 ghost use Rattle.trail_link.specs.One.{Fits, OneLinked, OneFilled};
@@ -30,7 +31,7 @@ fn link_one(
     ensures { λ r. ⌜ OneLinked (now (s .entry)) at star n k (now (questions .entry)) (now (patterns .entry)) (now (trees .entry)) (now (records .entry)) (now (work .entry)) r (now (questions .exit)) (now (patterns .exit)) (now (trees .exit)) (now (records .exit)) (now (work .exit)) ⌝ }
 {
     fill_questions(s, at, questions);
-    let words = 4 * n;
+    let words = QUESTION_ROW * n;
     index_names(s, &questions[0..words], n, patterns);
     let t = fill_tree(
         s,

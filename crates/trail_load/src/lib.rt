@@ -2,7 +2,6 @@
 // records and the values of its entries. Stages: what the tree needs (`trail_plan`), whether the rows fit beside the other task's (20), then rows and linking (21 to 23).
 // Any bytes, any record, any bounds and tables of any length.
 use error::Refusal;
-use head_brackets::up_to;
 use load_choose::Which;
 use load_model::Loaded;
 use load_model::answer;
@@ -17,6 +16,12 @@ use load_trees::all_linked;
 use pdf_values::fill_values;
 use table_put::put_block;
 use table_put::zero;
+use table_rows::PATTERN_ROW;
+use table_rows::QUESTION_ROW;
+use table_rows::RECORD_ROW;
+use table_rows::TREE_ROW;
+use table_rows::WORK_A_LINE;
+use text_parts::up_to;
 use trail_link::fill_one;
 use trail_plan::tree_needs;
 ghost use mathlib.Core.Path.{_≡_};
@@ -94,14 +99,14 @@ fn fill_own(
     ensures { λ r. ⌜ FillsOwnTree (sideOf top) (now (d .entry)) k p (lent (now (questions .entry)) (now (patterns .entry)) (now (trees .entry)) (now (records .entry)) (now (values .entry)) (now (work .entry))) r (lent (now (questions .exit)) (now (patterns .exit)) (now (trees .exit)) (now (records .exit)) (now (values .exit)) (now (work .exit))) ⌝ }
 {
     let n = (p.entries * p.width) as usize;
-    let q = 4 * first_row(top, questions.len() / 4, p.questions);
-    let q_end = q + 4 * p.questions;
-    let a = 2 * first_row(top, patterns.len() / 2, p.patterns);
-    let a_end = a + 2 * p.patterns;
-    let t = 6 * first_row(top, trees.len() / 6, p.trees);
-    let t_end = t + 6 * p.trees;
-    let r = 4 * first_row(top, records.len() / 4, p.records);
-    let r_end = r + 4 * p.records;
+    let q = QUESTION_ROW * first_row(top, questions.len() / QUESTION_ROW, p.questions);
+    let q_end = q + QUESTION_ROW * p.questions;
+    let a = PATTERN_ROW * first_row(top, patterns.len() / PATTERN_ROW, p.patterns);
+    let a_end = a + PATTERN_ROW * p.patterns;
+    let t = TREE_ROW * first_row(top, trees.len() / TREE_ROW, p.trees);
+    let t_end = t + TREE_ROW * p.trees;
+    let r = RECORD_ROW * first_row(top, records.len() / RECORD_ROW, p.records);
+    let r_end = r + RECORD_ROW * p.records;
     let v = first_row(top, values.len(), n);
     let v_end = v + n;
     fill_tree(
@@ -150,7 +155,7 @@ pub fn load_tree(
             ) {
                 return Loaded::Refused(Refusal::Room);
             }
-            if work.len() / 6 < p.lines {
+            if work.len() / WORK_A_LINE < p.lines {
                 return Loaded::Refused(Refusal::Room);
             }
             fill_own(

@@ -1,7 +1,6 @@
 // One tree of a model reached through a trailer's rows (02, Wish 7): the stages before tables are looked at, and what the tree needs of each table. Read are the last
 // 12 bytes, the rows, the model's questions, that tree and the counts of the block; no other tree. Nothing lent is written. Any bytes, any record, any numbers.
 use error::Refusal;
-use head_brackets::up_to;
 use head_words::DATA_LEN;
 use head_words_fit::record_fits;
 use link_search::Found;
@@ -17,6 +16,7 @@ use load_plan::data_of;
 use pdf_blocks::Block;
 use pdf_blocks::check_block;
 use pdf_blocks::word;
+use text_parts::up_to;
 use trail_find::Trail;
 use trail_find::count_offsets;
 use trail_find::find_offset;

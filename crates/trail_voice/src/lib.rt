@@ -1,13 +1,13 @@
 // The rows that a trailer has for a whole voice (02, Wish 7): model by model, the trees of each text in order. All texts are judged and their trees counted
 // before a row is stored or compared.
 use error::Refusal;
-use head_brackets::up_to;
 use load_choose::Which;
 use load_plan::data_of;
 use load_voice::NextModel;
 use load_voice::VoiceText;
 use load_voice::model_text;
 use load_voice::next_model;
+use text_parts::up_to;
 use trail_rows::put_rows;
 use trail_rows::same_rows;
 ghost use mathlib.Core.Path.{_≡_};

@@ -20,14 +20,15 @@ use Rattle.tree_line.specs.declared.Line as code
 use Rattle.tree_survey_lines.specs.Counts.{linesCounted}
 use Rattle.tree_survey_lines.specs.declared.LineCount.the-variants as count
 use Rattle.tree_survey_lines.proofs.Counting.{counted, not-counted}
-use Rattle.link_order.specs.Keys.{idKey, partOr}
+use Rattle.link_order.specs.Keys.{idKey}
+use Rattle.text_parts.specs.Parts.{partInside}
 use Rattle.link_search.specs.declared.Found.{Found}
 use Rattle.link_search.specs.declared.Found.the-variants.{At, Nothing}
 use Rattle.link_find.specs.Find.{asked, bearer, bearing}
 use Rattle.link_find.specs.declared.Borne.{Borne}
 use Rattle.link_find.specs.declared.Borne.the-variants as borne
 use Rattle.link_find.proofs.Finding.{Stands, nowhere, stands, kept}
-use Rattle.link_targets.specs.Lines.{natOf}
+use Rattle.text_parts.specs.Parts.{natOf}
 use Rattle.link_alone.specs.Alone.{singleIn}
 use Rattle.link_alone.specs.declared.Single.{Single}
 use Rattle.walk.specs.Walking.{walkFrom}
@@ -77,7 +78,7 @@ module _ (bytes : List ℕ) (q : ℕ) (y n : TreeIndex) where
   reply-none h = sym (ap (λ (b : Bool). cond b (Goes (chosen (isYes (getD bytes q 0)) y n)) Missing) (le-ltb q (length bytes) h))
 
 -- by the question that is found
-pub reply-at : (s : List ℕ) (qs : List QuestionPlace) (bytes : List ℕ) (l : code.Line) {f : Found} {r : Reply} → f ≡ asked s (partOr s (l .start) (l .len)) qs → r ≡ replyFound bytes (l .yes) (l .no) f → r ≡ replyTo s qs bytes l
+pub reply-at : (s : List ℕ) (qs : List QuestionPlace) (bytes : List ℕ) (l : code.Line) {f : Found} {r : Reply} → f ≡ asked s (partInside s (l .start) (l .len)) qs → r ≡ replyFound bytes (l .yes) (l .no) f → r ≡ replyTo s qs bytes l
 unfolding replyTo
 reply-at s qs bytes l e h = h ∙ ap (replyFound bytes (l .yes) (l .no)) e
 

@@ -20,10 +20,11 @@ use Rattle.tree_line.specs.declared.Line as code
 use Rattle.tree_body.specs.Trees.{headAt}
 use Rattle.tree_body.specs.declared.TreeHead.{TreeHead}
 use Rattle.tree_body.specs.declared.TreeHead.the-variants as head
-use Rattle.link_order.specs.Keys.{idKey, partOr}
+use Rattle.link_order.specs.Keys.{idKey}
+use Rattle.text_parts.specs.Parts.{partInside}
 use Rattle.link_search.specs.declared.Found.{Found}
 use Rattle.link_search.specs.declared.Found.the-variants.{At, Nothing}
-use Rattle.link_targets.specs.Lines.{natOf}
+use Rattle.text_parts.specs.Parts.{natOf}
 use Rattle.link_find.specs.Find.{asked, bearer, bearing}
 use Rattle.link_find.specs.declared.Borne.{Borne}
 use Rattle.link_find.specs.declared.Borne.the-variants as borne
@@ -60,7 +61,7 @@ replyFound bytes y n (At q) = replyIn bytes q y n
 replyFound bytes y n Nothing = Missing
 
 unfoldable pub replyTo : List ℕ → List QuestionPlace → List ℕ → code.Line → Reply
-replyTo s qs bytes l = replyFound bytes (l .yes) (l .no) (asked s (partOr s (l .start) (l .len)) qs)
+replyTo s qs bytes l = replyFound bytes (l .yes) (l .no) (asked s (partInside s (l .start) (l .len)) qs)
 
 abbrev pub borneGoal : Borne → Goal
 borneGoal (borne.Line l) = goal.Line l

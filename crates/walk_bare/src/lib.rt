@@ -7,11 +7,11 @@ use link_find::Borne;
 use link_find::last_bearing;
 use link_find::last_question;
 use link_order::id_key;
-use link_order::part_or;
 use link_search::Found;
-use link_targets::natural;
 use link_window::Linking;
 use link_window::link_tree;
+use text_parts::natural;
+use text_parts::part_inside;
 use tree_body::TreeHead;
 use tree_body::tree_head;
 use tree_line::Line;
@@ -76,7 +76,7 @@ fn ask(s: &[u8], at: usize, answers: &[u8], line: Line) -> Reply
 {
     let yes = line.yes;
     let no = line.no;
-    match last_question(s, at, part_or(s, line.start as u64, line.len as u64)) {
+    match last_question(s, at, part_inside(s, line.start as u64, line.len as u64)) {
         Found::At(question) => reply_of(answers, question, yes, no),
         Found::Nothing => Reply::Missing,
     }

@@ -10,6 +10,7 @@ use table_rows::tree_records;
 use table_rows::tree_there;
 use walk_reach::KNOWN;
 use walk_reach::WAY;
+use walk_reach::WORK_A_RECORD;
 use walk_reach::put_slot;
 use walk_reach::reach;
 use walk_reach::slot;
@@ -28,9 +29,6 @@ const ROOM: u64 = 20;
 
 // 24: no such tree, no record in it, or a record that a path can meet is outside or of another kind.
 const OUTSIDE: u64 = 24;
-
-// Numbers of work for each record of a tree.
-pub const WORK_A_RECORD: usize = 4;
 
 // Number; 1 where no path meets a record twice; the greatest number of questions on any path.
 #[repr(C)]

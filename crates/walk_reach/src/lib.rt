@@ -1,11 +1,11 @@
 // Which records of a tree paths can meet, each branch taken freely, and whether all of them are lines or leaves of the tree (02, Wish 8). Breadth first, with a mark and a
 // place in a queue for each record in the lent work, so that every record is looked at once. Any tables.
-use link_targets::natural;
 use table_rows::record_kind;
 use table_rows::record_no;
 use table_rows::record_there;
 use table_rows::record_yes;
 use table_rows::records_in;
+use text_parts::natural;
 ghost use mathlib.Core.Path.{_≡_};
 ghost use Prim.Native.Nat.{_+_, _*_, _<_, _≤_};
 ghost use lib.IntN.{pos};
@@ -16,7 +16,9 @@ ghost use Rattle.walk_reach.specs.Work.{slotAt, Pushed};
 ghost use Rattle.walk_reach.specs.Seeing.{treeRecordsOf, seenAt};
 ghost use Rattle.walk_reach.specs.Reaching.{Queue, Visits, Reaches};
 
-// Four numbers of work a record, by name: whether it is met; the i-th record met; one more than its depth, once that is known; the i-th record of a way.
+// Numbers of work for each record of a tree, and their places: whether it is met; the i-th record met; one more than its depth, once that is known; the i-th record of a way.
+pub const WORK_A_RECORD: usize = 4;
+
 pub const MARK: usize = 0;
 
 pub const QUEUE: usize = 1;
@@ -44,7 +46,7 @@ pub fn slot(work: &[i64], part: usize, i: u64) -> u64
     requires { ⌜ 4 * i + part < length (now work) ⌝ }
     ensures { λ r. ⌜ r ≡ slotAt part (now (work .entry)) i ⌝ }
 {
-    let at = 4 * i as usize + part;
+    let at = WORK_A_RECORD * i as usize + part;
     let v = work[at];
     natural(v)
 }
@@ -53,7 +55,7 @@ pub fn put_slot(work: &mut [i64], part: usize, i: u64, v: u64)
     requires { ⌜ (4 * i + part < length (now work)) × (v < 9223372036854775808) ⌝ }
     ensures { λ r. ⌜ now (work .exit) ≡ set (now (work .entry)) (4 * i + part) (pos v) ⌝ }
 {
-    let at = 4 * i as usize + part;
+    let at = WORK_A_RECORD * i as usize + part;
     let signed = v as i64;
     work[at] = signed;
 }

@@ -1,7 +1,7 @@
 -- `head_brackets::row_at` meets its contract.
 use Rattle.written.specs.Bytes.{part}
 use Rattle.laws.proofs.Runs.{read-in}
-use Rattle.head_lines.proofs.Parts.{part-in}
+use Rattle.text_parts.proofs.Parts.{part-in}
 use Rattle.head_brackets.proofs.Rows.{split-whole}
 use Rattle.head_brackets.specs.Rows.{rowAt, keyRow, splitOf}
 use lib.ListN.{length}

@@ -6,7 +6,8 @@ use native.Mathlib.Nat.{mul-le-mul-left}
 use native.Mathlib.Omega.{arith}
 use borrow.Author.Needs.{needs}
 use lib.ListN.{length}
-use Rattle.head_brackets.specs.Rows.{bytesOf, knownFrom, knownIn}
+use Rattle.head_brackets.specs.Rows.{knownFrom, knownIn}
+use Rattle.text_parts.specs.Parts.{bytesOf}
 use Rattle.head_brackets.proofs.Rows.{known-on, known-here, known-past, known-end}
 use Rattle.head_group_words.specs.Groups.{namesAt}
 use Rattle.head_group_words.proofs.Limits.{same-at}

@@ -3,7 +3,7 @@ use mathlib.Core.Path.{sym, ap, _∙_}
 use Prim.Native.Nat.{ℕ}
 use Rattle.tree_reference.specs.declared.TreeIndex.{TreeIndex}
 use Rattle.laws.proofs.Signed.{back}
-use Rattle.link_targets.specs.Lines.{natOf}
+use Rattle.text_parts.specs.Parts.{natOf}
 use Rattle.walk_leaves.specs.Conditions.{leafFits}
 use Rattle.house_text.specs.Text.{refFits}
 use borrow.Author.Needs.{needs}

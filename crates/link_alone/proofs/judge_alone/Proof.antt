@@ -4,7 +4,7 @@ use mathlib.Core.Bool.{Bool, _&&_}
 use Prim.Native.Nat.{ℕ}
 use lib.Dec.{eqb}
 use Rattle.laws.proofs.Signed.{back}
-use Rattle.link_targets.specs.Lines.{natOf}
+use Rattle.text_parts.specs.Parts.{natOf}
 use Rattle.link_alone.specs.Alone.{leafOf, judgedAlone}
 use Rattle.link_alone.specs.declared.Judged.the-variants.{Told}
 use borrow.Author.Needs.{needs}

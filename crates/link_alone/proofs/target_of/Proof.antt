@@ -4,7 +4,7 @@ use Prim.Native.Nat.{ℕ}
 use Rattle.laws.proofs.Signed.{back}
 use Rattle.tree_line.specs.Lines.{linesAt}
 use Rattle.link_order.specs.Keys.{idKey}
-use Rattle.link_targets.specs.Lines.{natOf}
+use Rattle.text_parts.specs.Parts.{natOf}
 use Rattle.link_find.specs.Find.{bearer}
 use Rattle.link_alone.specs.Alone.{toLine, targetIn}
 use Rattle.link_alone.specs.declared.Target.the-variants.{Leaf}

@@ -7,7 +7,7 @@ use native.Mathlib.Omega.{arith}
 use lib.ListN.{length}
 use Rattle.written.specs.Bytes.{same}
 use Rattle.tree_question.proofs.Filling.{questions-from}
-use Rattle.link_order.specs.Keys.{partOr}
+use Rattle.text_parts.specs.Parts.{partInside}
 use Rattle.link_search.specs.declared.Found.the-variants.{Nothing}
 use Rattle.link_find.specs.Find.{lastFrom, named}
 use Rattle.link_find.proofs.Finding.{named-next, named-last, named-none, last-on, last-end, last-over, Named, hit}
@@ -30,8 +30,8 @@ next-name-requires c κs = search needs
 enum-known-start : tie.Need-enum-known-start Inv-loop μ-loop
 enum-known-start c = search needs
 
-part-or-requires : tie.Need-part-or-requires Inv-loop μ-loop
-part-or-requires c κs = search needs
+part-inside-requires : tie.Need-part-inside-requires Inv-loop μ-loop
+part-inside-requires c κs = search needs
 
 same-name-requires : tie.Need-same-name-requires Inv-loop μ-loop
 same-name-requires c κs = search needs
@@ -46,13 +46,13 @@ loop-less : tie.Need-loop-less Inv-loop μ-loop
 loop-less c = omega (arith, named-next _ _ (sym (c .before .before .before .before .start .given .1) ∙ c .before .before .before .before .before .before .next-name .ensures))
 
 loop-again : tie.Need-loop-again Inv-loop μ-loop
-loop-again c = let w = named-next _ _ (sym (c .before .before .before .before .start .given .1) ∙ c .before .before .before .before .before .before .next-name .ensures) in (last-on (named _ _) _ _ (w .2 .items) (hit _ _ (w .2) (c .before .before .part-or .ensures) (c .before .same-name .ensures)) (c .found-after .ensures) ∙ c .before .before .before .before .before .before .before .loop .inv .0, omega (arith, w .0, c .before .before .before .before .before .before .before .loop .inv .1))
+loop-again c = let w = named-next _ _ (sym (c .before .before .before .before .start .given .1) ∙ c .before .before .before .before .before .before .next-name .ensures) in (last-on (named _ _) _ _ (w .2 .items) (hit _ _ (w .2) (c .before .before .part-inside .ensures) (c .before .same-name .ensures)) (c .found-after .ensures) ∙ c .before .before .before .before .before .before .before .loop .inv .0, omega (arith, w .0, c .before .before .before .before .before .before .before .loop .inv .1))
 
 enum-known-start-2 : tie.Need-enum-known-start-2 Inv-loop μ-loop
 enum-known-start-2 c = search needs
 
-part-or-requires-2 : tie.Need-part-or-requires-2 Inv-loop μ-loop
-part-or-requires-2 c κs = search needs
+part-inside-requires-2 : tie.Need-part-inside-requires-2 Inv-loop μ-loop
+part-inside-requires-2 c κs = search needs
 
 same-name-requires-2 : tie.Need-same-name-requires-2 Inv-loop μ-loop
 same-name-requires-2 c κs = search needs
@@ -61,7 +61,7 @@ found-after-requires-2 : tie.Need-found-after-requires-2 Inv-loop μ-loop
 found-after-requires-2 c κs = search needs
 
 returns : tie.Need-returns Inv-loop μ-loop
-returns c = let w = named-last _ _ (sym (c .before .before .before .before .start2 .given .1) ∙ c .before .before .before .before .before .before .next-name .ensures) in last-end (named _ _) _ _ (w .items) (hit _ _ w (c .before .before .part-or2 .ensures) (c .before .same-name2 .ensures)) (c .found-after2 .ensures) ∙ c .before .before .before .before .before .before .before .loop .inv .0
+returns c = let w = named-last _ _ (sym (c .before .before .before .before .start2 .given .1) ∙ c .before .before .before .before .before .before .next-name .ensures) in last-end (named _ _) _ _ (w .items) (hit _ _ w (c .before .before .part-inside2 .ensures) (c .before .same-name2 .ensures)) (c .found-after2 .ensures) ∙ c .before .before .before .before .before .before .before .loop .inv .0
 
 enum-told : tie.Need-enum-told Inv-loop μ-loop
 enum-told c = search needs
@@ -78,14 +78,14 @@ last-named-spec =
     loop-holds
     next-name-requires
     enum-known-start
-    part-or-requires
+    part-inside-requires
     same-name-requires
     found-after-requires
     add-row
     loop-less
     loop-again
     enum-known-start-2
-    part-or-requires-2
+    part-inside-requires-2
     same-name-requires-2
     found-after-requires-2
     returns

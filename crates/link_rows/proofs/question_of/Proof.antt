@@ -5,7 +5,7 @@ use native.Mathlib.Omega.{arith}
 use lib.IntN.{pos}
 use lib.ListN.{getD}
 use Rattle.laws.proofs.Signed.{back}
-use Rattle.link_targets.specs.Lines.{natOf}
+use Rattle.text_parts.specs.Parts.{natOf}
 use borrow.Author.Needs.{needs}
 use Rattle.link_rows.proofs.question_of.Statement.{statement}
 use Rattle.link_rows.proofs.question_of.Tie as tie

@@ -36,8 +36,8 @@ shared-slice-read-name-of c = search needs
 name-of-requires : tie.Need-name-of-requires Inv-loop μ-loop
 name-of-requires c κs = search needs
 
-up-to-requires : tie.Need-up-to-requires Inv-loop μ-loop
-up-to-requires c κs = search needs
+not-above-requires : tie.Need-not-above-requires Inv-loop μ-loop
+not-above-requires c κs = search needs
 
 add-lo : tie.Need-add-lo Inv-loop μ-loop
 add-lo c = search needs
@@ -49,7 +49,7 @@ loop-again : tie.Need-loop-again Inv-loop μ-loop
 loop-again c =
     let a = c .before .before .before .before .before .before .before .before .before .before .args in
     let l = c .before .before .before .before .before in
-    between-up (λ e. leb (nameKey (nameAt (a .s .now) (a .questions .now) e)) (nameKey (a .name .now))) (a .index .now) (c .before .before .before .before .before .before .before .before .before .before .pre) _ _ (l .loop .inv) (c .before .before .before .before .loop-test .taken) (sym (sym (c .if1 .taken) ∙ c .before .up-to .ensures ∙ ap (λ n. leb (nameKey n) (nameKey (a .name .now))) (c .before .before .name-of .ensures)))
+    between-up (λ e. leb (nameKey (nameAt (a .s .now) (a .questions .now) e)) (nameKey (a .name .now))) (a .index .now) (c .before .before .before .before .before .before .before .before .before .before .pre) _ _ (l .loop .inv) (c .before .before .before .before .loop-test .taken) (sym (sym (c .if1 .taken) ∙ c .before .not-above .ensures ∙ ap (λ n. leb (nameKey n) (nameKey (a .name .now))) (c .before .before .name-of .ensures)))
 
 loop-less-2 : tie.Need-loop-less-2 Inv-loop μ-loop
 loop-less-2 c = search needs
@@ -58,7 +58,7 @@ loop-again-2 : tie.Need-loop-again-2 Inv-loop μ-loop
 loop-again-2 c =
     let a = c .before .before .before .before .before .before .before .before .before .before .args in
     let l = c .before .before .before .before .before in
-    between-down (λ e. leb (nameKey (nameAt (a .s .now) (a .questions .now) e)) (nameKey (a .name .now))) (a .index .now) (c .before .before .before .before .before .before .before .before .before .before .pre) _ _ (l .loop .inv) (c .before .before .before .before .loop-test .taken) (sym (sym (c .if1 .left) ∙ c .before .up-to .ensures ∙ ap (λ n. leb (nameKey n) (nameKey (a .name .now))) (c .before .before .name-of .ensures)))
+    between-down (λ e. leb (nameKey (nameAt (a .s .now) (a .questions .now) e)) (nameKey (a .name .now))) (a .index .now) (c .before .before .before .before .before .before .before .before .before .before .pre) _ _ (l .loop .inv) (c .before .before .before .before .loop-test .taken) (sym (sym (c .if1 .left) ∙ c .before .not-above .ensures ∙ ap (λ n. leb (nameKey n) (nameKey (a .name .now))) (c .before .before .name-of .ensures)))
 
 returns : tie.Need-returns Inv-loop μ-loop
 returns c = between-done _ _ _ _ (c .before .loop .inv) (c .loop-test .left)
@@ -75,7 +75,7 @@ after-name-spec =
     mul-name-of
     shared-slice-read-name-of
     name-of-requires
-    up-to-requires
+    not-above-requires
     add-lo
     loop-less
     loop-again

@@ -4,7 +4,7 @@ use lib.IntN.{pos}
 use lib.ListN.{getD}
 use Prim.Native.Nat.{_+_}
 use Rattle.laws.proofs.Signed.{back}
-use Rattle.link_targets.specs.Lines.{natOf}
+use Rattle.text_parts.specs.Parts.{natOf}
 use Rattle.link_targets.proofs.Refs.{pushed-none, pushed-one, room-one}
 use borrow.Author.Needs.{needs}
 use Rattle.link_targets.proofs.push_pdf.Statement.{statement}

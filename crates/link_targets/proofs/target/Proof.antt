@@ -9,7 +9,7 @@ use Rattle.laws.proofs.Signed.{back}
 use Rattle.link_order.specs.Keys.{idKey, idAt}
 use Rattle.link_search.specs.Found.{lastBelow, firstFrom}
 use Rattle.link_search.specs.Index.{Ascends}
-use Rattle.link_targets.specs.Lines.{natOf}
+use Rattle.text_parts.specs.Parts.{natOf}
 use Rattle.link_targets.specs.Targets.{moved}
 use Rattle.link_targets.proofs.Refs.{is-node, is-pdf}
 use Rattle.link_targets.proofs.Find.{first-inside, target-line, target-leaf}

@@ -4,7 +4,8 @@ use Prim.Native.Nat.{_+_, _*_}
 use lib.IntN.{pos}
 use lib.ListN.{getD, take, drop}
 use Rattle.laws.proofs.Signed.{back}
-use Rattle.link_targets.specs.Lines.{natOf, lineIn}
+use Rattle.link_targets.specs.Lines.{lineIn}
+use Rattle.text_parts.specs.Parts.{natOf}
 use Rattle.link_targets.specs.Targets.{targetOf}
 use Rattle.link_tree.proofs.Laws.{step-unasked, step-goes, step-no, step-yes}
 use borrow.Author.Needs.{needs}

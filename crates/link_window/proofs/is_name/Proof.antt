@@ -23,23 +23,23 @@ shared-slice-read-len c = search needs
 returns : tie.Need-returns
 returns c = let a = c .before .before .before .before .before .before .args in other-length (a .s .now) (a .name .now) _ _ (c .before .if1 .taken) (c .if2 .taken)
 
-mul-part-or : tie.Need-mul-part-or
-mul-part-or c = search needs
+mul-part-inside : tie.Need-mul-part-inside
+mul-part-inside c = search needs
 
-mul-part-or-2 : tie.Need-mul-part-or-2
-mul-part-or-2 c = search needs
+mul-part-inside-2 : tie.Need-mul-part-inside-2
+mul-part-inside-2 c = search needs
 
-shared-slice-read-part-or : tie.Need-shared-slice-read-part-or
-shared-slice-read-part-or c = search needs
+shared-slice-read-part-inside : tie.Need-shared-slice-read-part-inside
+shared-slice-read-part-inside c = search needs
 
-part-or-requires : tie.Need-part-or-requires
-part-or-requires c κs = search needs
+part-inside-requires : tie.Need-part-inside-requires
+part-inside-requires c κs = search needs
 
 same-name-requires : tie.Need-same-name-requires
 same-name-requires c κs = search needs
 
 returns-2 : tie.Need-returns-2
-returns-2 c = c .same-name .ensures ∙ ap (λ (x : List ℕ). same (c .before .before .before .before .before .before .before .before .args .name .now) x) (c .before .part-or .ensures)
+returns-2 c = c .same-name .ensures ∙ ap (λ (x : List ℕ). same (c .before .before .before .before .before .before .before .before .args .name .now) x) (c .before .part-inside .ensures)
 
 pub is-name-spec : {M : Type 1} → statement M
 is-name-spec =
@@ -50,9 +50,9 @@ is-name-spec =
     mul-len-2
     shared-slice-read-len
     returns
-    mul-part-or
-    mul-part-or-2
-    shared-slice-read-part-or
-    part-or-requires
+    mul-part-inside
+    mul-part-inside-2
+    shared-slice-read-part-inside
+    part-inside-requires
     same-name-requires
     returns-2)

@@ -24,8 +24,8 @@ next-name-requires c κs = search needs
 enum-known-start : tie.Need-enum-known-start Inv-loop μ-loop
 enum-known-start c = search needs
 
-part-or-requires : tie.Need-part-or-requires Inv-loop μ-loop
-part-or-requires c κs = search needs
+part-inside-requires : tie.Need-part-inside-requires Inv-loop μ-loop
+part-inside-requires c κs = search needs
 
 mark-requires : tie.Need-mark-requires Inv-loop μ-loop
 mark-requires c κs = (omega (arith, c .before .before .before .before .before .before .before .before .before .before .pre .0, c .before .before .before .before .before .before .loop .inv .long), c .before .before .before .before .before .before .before .before .before .before .pre .1)
@@ -34,13 +34,13 @@ loop-less : tie.Need-loop-less Inv-loop μ-loop
 loop-less c = omega (arith, named-next _ _ (sym (c .before .before .before .before .before .before .start .given .1) ∙ c .before .before .before .before .before .before .before .before .next-name .ensures))
 
 loop-again : tie.Need-loop-again Inv-loop μ-loop
-loop-again c = hearing-on (c .before .before .before .before .before .before .before .before .before .loop .inv) (named-next _ _ (sym (c .before .before .before .before .before .before .start .given .1) ∙ c .before .before .before .before .before .before .before .before .next-name .ensures) .2) (c .before .before .before .part-or .ensures) (c .before .before .mark .ensures)
+loop-again c = hearing-on (c .before .before .before .before .before .before .before .before .before .loop .inv) (named-next _ _ (sym (c .before .before .before .before .before .before .start .given .1) ∙ c .before .before .before .before .before .before .before .before .next-name .ensures) .2) (c .before .before .before .part-inside .ensures) (c .before .before .mark .ensures)
 
 enum-known-start-2 : tie.Need-enum-known-start-2 Inv-loop μ-loop
 enum-known-start-2 c = search needs
 
-part-or-requires-2 : tie.Need-part-or-requires-2 Inv-loop μ-loop
-part-or-requires-2 c κs = search needs
+part-inside-requires-2 : tie.Need-part-inside-requires-2 Inv-loop μ-loop
+part-inside-requires-2 c κs = search needs
 
 mark-requires-2 : tie.Need-mark-requires-2 Inv-loop μ-loop
 mark-requires-2 c κs = (omega (arith, c .before .before .before .before .before .before .before .before .before .before .pre .0, c .before .before .before .before .before .before .loop .inv .long), c .before .before .before .before .before .before .before .before .before .before .pre .1)
@@ -49,7 +49,7 @@ same-length : tie.Need-same-length Inv-loop μ-loop
 same-length c = c .before .before .mark2 .ensures .long ∙ c .before .before .before .before .before .before .before .before .before .loop .inv .long
 
 returns : tie.Need-returns Inv-loop μ-loop
-returns c = hearing-last (c .before .before .before .before .before .before .before .before .before .loop .inv) (named-last _ _ (sym (c .before .before .before .before .before .before .start2 .given .1) ∙ c .before .before .before .before .before .before .before .before .next-name .ensures)) (c .before .before .before .part-or2 .ensures) (c .before .before .mark2 .ensures) refl
+returns c = hearing-last (c .before .before .before .before .before .before .before .before .before .loop .inv) (named-last _ _ (sym (c .before .before .before .before .before .before .start2 .given .1) ∙ c .before .before .before .before .before .before .before .before .next-name .ensures)) (c .before .before .before .part-inside2 .ensures) (c .before .before .mark2 .ensures) refl
 
 enum-told : tie.Need-enum-told Inv-loop μ-loop
 enum-told c = search needs
@@ -69,12 +69,12 @@ mark-all-spec =
     loop-holds
     next-name-requires
     enum-known-start
-    part-or-requires
+    part-inside-requires
     mark-requires
     loop-less
     loop-again
     enum-known-start-2
-    part-or-requires-2
+    part-inside-requires-2
     mark-requires-2
     same-length
     returns

@@ -3,7 +3,7 @@ use borrow.Author.Needs.{needs}
 use Prim.Native.Nat.{_+_, _*_, _-_}
 use Rattle.written.specs.Bytes.{same}
 use Rattle.head_words.specs.Words.{spanAt}
-use Rattle.head_brackets.specs.Rows.{bytesOf}
+use Rattle.text_parts.specs.Parts.{bytesOf}
 use Rattle.load_choose.proofs.Search.{Down, down-none, down-here, down-on}
 use native.Mathlib.Omega.{arith}
 use mathlib.Core.Path.{refl, sym, ap, _∙_}

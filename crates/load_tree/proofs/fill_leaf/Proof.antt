@@ -3,7 +3,7 @@ use mathlib.Core.Path.{_≡_, refl, sym, ap, ap₂, _∙_}
 use mathlib.Core.List.{[], _∷_}
 use lib.Seq.{sets}
 use Rattle.laws.proofs.Signed.{back}
-use Rattle.link_targets.specs.Lines.{natOf}
+use Rattle.text_parts.specs.Parts.{natOf}
 use Rattle.load_tree.specs.Bodies.{leafResult}
 use borrow.Author.Needs.{needs}
 use Rattle.load_tree.proofs.fill_leaf.Statement.{statement}

@@ -1,7 +1,7 @@
 -- `load_trees::state_of`: the state of each head.
 use mathlib.Core.Path.{sym, ap, _∙_}
 use Rattle.laws.proofs.Signed.{back}
-use Rattle.link_targets.specs.Lines.{natOf}
+use Rattle.text_parts.specs.Parts.{natOf}
 use Rattle.load_trees.specs.Trees.{headState}
 use borrow.Author.Needs.{needs}
 use Rattle.load_trees.proofs.state_of.Statement.{statement}

@@ -2,7 +2,7 @@
 use mathlib.Core.Path.{_≡_, refl, sym, ap, ap₂, _∙_}
 use Prim.Native.Nat.{ℕ}
 use Rattle.laws.proofs.Signed.{back}
-use Rattle.link_targets.specs.Lines.{natOf}
+use Rattle.text_parts.specs.Parts.{natOf}
 use Rattle.walk_bare.specs.Bare.{aloneOf}
 use Rattle.walk_bare.specs.declared.Bare.the-variants as bare
 use borrow.Author.Needs.{needs}

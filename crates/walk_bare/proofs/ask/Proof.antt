@@ -9,8 +9,8 @@ use borrow.Author.Needs.{needs}
 use Rattle.walk_bare.proofs.ask.Statement.{statement}
 use Rattle.walk_bare.proofs.ask.Tie as tie
 
-part-or-requires : tie.Need-part-or-requires
-part-or-requires c κs = search needs
+part-inside-requires : tie.Need-part-inside-requires
+part-inside-requires c κs = search needs
 
 last-question-requires : tie.Need-last-question-requires
 last-question-requires c κs = search needs
@@ -25,16 +25,16 @@ enum-told : tie.Need-enum-told
 enum-told c = search needs
 
 returns : tie.Need-returns
-returns c = reply-at _ _ _ _ (sym (c .before .before .question .given .1) ∙ c .before .before .before .before .last-question .ensures ∙ ap (λ (w : List ℕ). asked (c .before .before .before .before .before .before .before .before .args .s .now) w (questionsAt (c .before .before .before .before .before .before .before .before .args .s .now) (c .before .before .before .before .before .before .before .before .args .at) .items)) (c .before .before .before .before .before .part-or .ensures)) (c .reply-of .ensures)
+returns c = reply-at _ _ _ _ (sym (c .before .before .question .given .1) ∙ c .before .before .before .before .last-question .ensures ∙ ap (λ (w : List ℕ). asked (c .before .before .before .before .before .before .before .before .args .s .now) w (questionsAt (c .before .before .before .before .before .before .before .before .args .s .now) (c .before .before .before .before .before .before .before .before .args .at) .items)) (c .before .before .before .before .before .part-inside .ensures)) (c .reply-of .ensures)
 
 returns-2 : tie.Need-returns-2
-returns-2 c = reply-at _ _ _ _ (sym (c .enum-told .given .1) ∙ c .before .before .last-question .ensures ∙ ap (λ (w : List ℕ). asked (c .before .before .before .before .before .before .args .s .now) w (questionsAt (c .before .before .before .before .before .before .args .s .now) (c .before .before .before .before .before .before .args .at) .items)) (c .before .before .before .part-or .ensures)) refl
+returns-2 c = reply-at _ _ _ _ (sym (c .enum-told .given .1) ∙ c .before .before .last-question .ensures ∙ ap (λ (w : List ℕ). asked (c .before .before .before .before .before .before .args .s .now) w (questionsAt (c .before .before .before .before .before .before .args .s .now) (c .before .before .before .before .before .before .args .at) .items)) (c .before .before .before .part-inside .ensures)) refl
 
 pub ask-spec : {M : Type 1} → statement M
 ask-spec =
     tie.close
     (tie.spec
-    part-or-requires
+    part-inside-requires
     last-question-requires
     enum-known-question
     reply-of-requires

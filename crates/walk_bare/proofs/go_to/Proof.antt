@@ -3,7 +3,7 @@ use mathlib.Core.Path.{_≡_, refl, sym, ap, ap₂, _∙_}
 use Prim.Native.Nat.{ℕ}
 use Rattle.laws.proofs.Signed.{back}
 use Rattle.link_order.specs.Keys.{idKey}
-use Rattle.link_targets.specs.Lines.{natOf}
+use Rattle.text_parts.specs.Parts.{natOf}
 use Rattle.tree_line.specs.Lines.{linesAt}
 use Rattle.link_find.specs.Find.{bearing}
 use Rattle.walk_bare.specs.Bare.{goalOf, borneGoal}

@@ -4,7 +4,7 @@ use Prim.Native.Nat.{_+_, _*_}
 use lib.IntN.{pos}
 use lib.ListN.{getD}
 use Rattle.laws.proofs.Signed.{back}
-use Rattle.link_targets.specs.Lines.{natOf}
+use Rattle.text_parts.specs.Parts.{natOf}
 use borrow.Author.Needs.{needs}
 use Rattle.walk_reach.proofs.slot.Statement.{statement}
 use Rattle.walk_reach.proofs.slot.Tie as tie
