@@ -40,16 +40,13 @@ void stop(const char *sentence);
 
 /* ---- memory to lend (lend.c) -------------------------------------------------------------------------------------------------- */
 
-/* Everything that a call of the library reads or writes is lent by these: LARSAVIM_GUARD in the environment puts guards beside it. */
+/* Everything that a call of the library reads or writes is lent by these. */
 void *lend(uint64_t len); /* bytes */
 void give_back(const void *slice, uint64_t len);
 struct bytes lend_copy(struct bytes s); /* a copy of some bytes */
 
 /* The slice for answers of so many numbers: one for all calls, so that an answer stands there until the next call. */
 uint64_t *answer_slice(uint64_t numbers);
-
-/* Whether lent memory stands between guards. */
-int guarded(void);
 
 /* ---- lines (lines.c) ---------------------------------------------------------------------------------------------------------- */
 
@@ -305,7 +302,10 @@ void put_text_hex(struct bytes file, uint64_t which);
 /* `larsavim: FILE: model 1, stream "MCP": ` on standard error. */
 void complain_model(const char *path, const struct voice *v, uint64_t which);
 
-/* ---- two tasks in the same tables (share.c, pair.c) ------------------------------------------------------------------------------ */
+/* ---- two tasks in the same tables (shared.c, pair.c) ------------------------------------------------------------------------------ */
+
+enum { SIDES = 2 };
+extern const char *const side_name[SIDES];
 
 /* Tables that two tasks share, and each task's bounds. */
 struct shared {
@@ -336,7 +336,7 @@ int read_side(const char *word, uint64_t *side); /* `bottom` or `top` */
 /* Why a task's call was refused with 20, 24 or 29, of a model that needs so much. */
 void explain_shared(FILE *to, const struct shared *s, uint64_t side, const uint64_t *needs, uint64_t number);
 
-/* The bytes of a word of hex, in lent memory (hex.c). 0 where it is none. */
+/* The bytes of a word of hex, in lent memory (rig/hex.c). 0 where it is none. */
 int bytes_of_hex(const char *word, struct bytes *out);
 
 /* ---- the verbs ---------------------------------------------------------------------------------------------------------------- */
@@ -347,9 +347,7 @@ int tables(int files, char **paths); /* tables.c */
 int dump(const char *path);         /* dump.c */
 void dump_voice(struct bytes file); /* dump.c */
 void put_tables(const struct voice *v, const struct larsavim_model *m); /* dump.c: the rows of a loaded model */
-int hex(void);                      /* hex.c */
 int walk(char **words);             /* walk.c */
-int walks(const char *path);        /* walks.c */
 int sentence(char **words);         /* sentence.c */
 int write_text(char **words);       /* write.c */
 int save(char **words);             /* save.c */
@@ -358,7 +356,6 @@ int answers(char **words);          /* label.c */
 int say(char **words);              /* label.c */
 int depth(int n, char **words);     /* depth.c */
 int pair_up(char **words);          /* pair.c */
-int share(void);                    /* share.c */
 int accept_rows(char **words);      /* accept.c */
 int trail(char **words);            /* trail.c */
 int trailer(const char *path);      /* trail.c */
@@ -366,5 +363,19 @@ int one_tree(char **words);         /* tree.c */
 void explain_text_refusal(FILE *to, const struct voice *v, uint64_t which, const uint64_t *out); /* accept.c */
 int bare(char **words);             /* bare.c */
 void show_depth(const struct larsavim_model *m); /* depth.c: of `inspect` */
+
+/* ---- the test rig (rig/), or nothing (plain.c) ----------------------------------------------------------------------------------- */
+
+/* Whether lent memory stands between guards: LARSAVIM_GUARD in the environment. */
+int guarded(void);
+void *lend_between(uint64_t len); /* NULL: there is not enough memory */
+void take_between(uint8_t *slice, uint64_t len);
+
+/* Runs one of the rig's verbs; NOT_SO where there is none of that name. And what its help says of them. */
+int rig_verb(const char *verb, int n, char **words);
+const char *rig_usage(void);
+int hex(void);               /* rig/hex.c */
+int walks(const char *path); /* rig/walks.c */
+int share(void);             /* rig/share.c */
 
 #endif

@@ -11,7 +11,6 @@ static const char usage[] =
     "                                                      --answers ANSWERS or --label LABEL: the way of that walk in it\n"
     "       larsavim tables FILE..                         the sizes of the tables that voices need, as a C header; the greatest of several\n"
     "       larsavim walk FILE MODEL TREE ANSWERS LIMIT    one walk; ANSWERS is a 0 or 1 for each question, - for none\n"
-    "       larsavim walks FILE                            many walks: lines MODEL TREE ANSWERS LIMIT on standard input\n"
     "       larsavim sentence FILE MODEL ANSWERS           the walks of a sentence in one call: lines TREE LIMIT START on standard input\n"
     "       larsavim answers FILE MODEL LABEL              the answers of a model's questions to a label, as walk takes them\n"
     "       larsavim say FILE LABEL                        where a label leads in every tree of every model\n"
@@ -19,23 +18,21 @@ static const char usage[] =
     "       larsavim save FILE OUT                         the voice with every tree text so written, in another file\n"
     "       larsavim depth FILE [MODEL]                    how many questions a walk of each tree can ask, whatever the answers\n"
     "       larsavim pair DAY NIGHT                        what the models of two voices need in the same tables, and whether each walks there as alone\n"
-    "       larsavim share                                 two tasks in the same tables, call by call: a script on standard input, an answer a line\n"
     "       larsavim accept FILE MODEL TREE ROWS           whether record rows that somebody else linked belong to a tree; ROWS is a file, - standard input\n"
     "       larsavim trail FILE OUT                        the voice with its trailer, one row a tree, in another file; a trailer that is there is replaced\n"
     "       larsavim trailer FILE                          whether the voice ends in its trailer, and the rows: model, where the tree stands, lines\n"
     "       larsavim tree FILE MODEL TREE                  one tree, loaded through the trailer behind the data: its rows and values, as dump has them\n"
     "       larsavim bare FILE MODEL TREE ANSWERS LIMIT    a walk straight over the tree text, without tables, and how many lines it read\n"
     "       larsavim dump FILE                             everything, one fact a line, for comparing\n"
-    "       larsavim hex                                   the dump of each line of hex on standard input, then END\n"
     "       larsavim demo FILE                             a voice in which two lines bear one id, and which of them wins\n"
     "MODEL counts from 0: duration, then each stream of STREAM_TYPE and its GV in turn. TREE counts from 0.\n"
-    "LARSAVIM_GUARD=above or below in the environment: memory that can't be touched stands just above or below everything lent to the library.\n"
     "--strict: a warning is status 1 too. --json: one object a line, and a verdict for each file, for machines.\n"
     "version, --version: the version. help, --help: this.\n"
     "Exit status: 0 nothing was refused, 1 something was, 2 wrong arguments or a file that can't be read.\n";
 
 static int wrong(const char *sentence, const char *word) {
     fprintf(stderr, "larsavim: %s%s%s\n%s", sentence, word == NULL ? "" : ": ", word == NULL ? "" : word, usage);
+    fputs(rig_usage(), stderr);
     return TROUBLE;
 }
 
@@ -77,8 +74,6 @@ static int run(const char *verb, int n, char **words) {
         return n >= 1 ? tables(n, words) : wrong("tables takes one FILE or more", NULL);
     if (strcmp(verb, "walk") == 0)
         return n == 5 ? walk(words) : wrong("walk takes FILE MODEL TREE ANSWERS LIMIT", NULL);
-    if (strcmp(verb, "walks") == 0)
-        return n == 1 ? walks(words[0]) : wrong("walks takes one FILE; its lines stand on standard input", NULL);
     if (strcmp(verb, "sentence") == 0)
         return n == 3 ? sentence(words) : wrong("sentence takes FILE MODEL ANSWERS; its lines stand on standard input", NULL);
     if (strcmp(verb, "answers") == 0)
@@ -93,8 +88,6 @@ static int run(const char *verb, int n, char **words) {
         return n == 1 || n == 2 ? depth(n, words) : wrong("depth takes FILE and perhaps MODEL", NULL);
     if (strcmp(verb, "pair") == 0)
         return n == 2 ? pair_up(words) : wrong("pair takes DAY NIGHT, two files", NULL);
-    if (strcmp(verb, "share") == 0)
-        return n == 0 ? share() : wrong("share takes no word: its script stands on standard input", NULL);
     if (strcmp(verb, "accept") == 0)
         return n == 4 ? accept_rows(words) : wrong("accept takes FILE MODEL TREE ROWS", NULL);
     if (strcmp(verb, "trail") == 0)
@@ -107,11 +100,12 @@ static int run(const char *verb, int n, char **words) {
         return n == 5 ? bare(words) : wrong("bare takes FILE MODEL TREE ANSWERS LIMIT", NULL);
     if (strcmp(verb, "dump") == 0)
         return n == 1 ? dump(words[0]) : wrong("dump takes one FILE", NULL);
-    if (strcmp(verb, "hex") == 0)
-        return n == 0 ? hex() : wrong("hex takes no word: its input stands on standard input", NULL);
     if (strcmp(verb, "demo") == 0)
         return n == 1 ? demo(words[0]) : wrong("demo takes one FILE", NULL);
-    return wrong("there is no such command", verb);
+    {
+        int status = rig_verb(verb, n, words);
+        return status != NOT_SO ? status : wrong("there is no such command", verb);
+    }
 }
 
 /* A pipe that is closed or a disk that is full must not pass for a good answer. */
@@ -128,6 +122,7 @@ int main(int argc, char **argv) {
         return wrong("what is to be done?", NULL);
     if (strcmp(argv[1], "help") == 0 || strcmp(argv[1], "--help") == 0 || strcmp(argv[1], "-h") == 0) {
         fputs(usage, stdout);
+        fputs(rig_usage(), stdout);
         return output_failed() ? TROUBLE : ALL_WELL;
     }
     if (strcmp(argv[1], "version") == 0 || strcmp(argv[1], "--version") == 0) {

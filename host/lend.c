@@ -1,54 +1,15 @@
-/* lend.c: the memory of every slice that the program lends to the library.
- *
- * The library is proved to stay inside its slices. LARSAVIM_GUARD in the environment is for seeing that the built code does: each slice then stands
- * between two guards, which is memory that can't be touched. With `above` it ends exactly where the upper guard begins, with `below` it begins exactly
- * where the lower one ends, and a slice of length 0 stands where the two meet. A byte read or written on that side ends the run by SIGSEGV. */
-#define _DEFAULT_SOURCE /* for MAP_ANONYMOUS */
+/* lend.c: the memory of every slice that the program lends to the library; between guards where the test rig says so (rig/guards.c). */
 #include <stdlib.h>
 #include <string.h>
-#include <sys/mman.h>
 
 #include "host.h"
 
-enum { GUARD = 65536 }; /* bytes: whole pages, also where an emulator's are larger than the program's */
-
-enum side { NOWHERE, ABOVE, BELOW };
-
-/* A word that is neither must not pass for a run without guards. */
-static enum side guard(void) {
-    const char *word = getenv("LARSAVIM_GUARD");
-    if (word == NULL)
-        return NOWHERE;
-    if (strcmp(word, "above") != 0 && strcmp(word, "below") != 0)
-        stop("LARSAVIM_GUARD is neither `above` nor `below`");
-    return *word == 'a' ? ABOVE : BELOW;
-}
-
-int guarded(void) {
-    return guard() != NOWHERE;
-}
-
-/* Bytes between the guards of a slice. */
-static size_t room_for(uint64_t len) {
-    return ((size_t)len + GUARD - 1) / GUARD * GUARD;
-}
-
-/* Where a slice stands behind the start of its lower guard. */
-static size_t place_of(uint64_t len) {
-    return GUARD + (guard() == ABOVE ? room_for(len) - (size_t)len : 0);
-}
-
-static void *lend_guarded(uint64_t len) {
-    uint8_t *low = mmap(NULL, room_for(len) + 2 * GUARD, PROT_NONE, MAP_PRIVATE | MAP_ANONYMOUS, -1, 0);
-    if (low == MAP_FAILED || (len > 0 && mprotect(low + GUARD, room_for(len), PROT_READ | PROT_WRITE) != 0))
-        return NULL;
-    return low + place_of(len);
-}
-
 void *lend(uint64_t len) {
     void *at = NULL;
-    if (len < SIZE_MAX - 3 * GUARD)
-        at = guarded() ? lend_guarded(len) : malloc((size_t)len + 1); /* 1 more, so that no bytes are no null pointer either */
+    if (guarded())
+        at = lend_between(len);
+    else if (len < SIZE_MAX)
+        at = malloc((size_t)len + 1); /* 1 more, so that no bytes are no null pointer either */
     if (at == NULL)
         stop("there is not enough memory to lend to the library");
     return at;
@@ -61,7 +22,7 @@ void give_back(const void *slice, uint64_t len) {
     } at;
     at.lent = slice; /* free and munmap take pointers that aren't const */
     if (guarded())
-        munmap(at.own - place_of(len), room_for(len) + 2 * GUARD);
+        take_between(at.own, len);
     else
         free(at.own);
 }

@@ -6,7 +6,7 @@ use Rattle.load_plan.proofs.plan_block.Statement.{statement}
 use Rattle.load_plan.proofs.plan_block.Tie as tie
 use Rattle.load_plan.proofs.plan_block.Reads as reads
 use Rattle.load_plan.proofs.plan_block.Lts as lts
-use Rattle.head_brackets.proofs.up_to.Reads as up-to-reads
+use Rattle.text_parts.proofs.up_to.Reads as up-to-reads
 use Rattle.load_plan.proofs.plan_entries.Reads as plan-entries-reads
 use Rattle.load_choose.proofs.within.Reads as within-reads
 

@@ -6,7 +6,7 @@ use Rattle.load_plan.proofs.plan_model.Statement.{statement}
 use Rattle.load_plan.proofs.plan_model.Tie as tie
 use Rattle.load_plan.proofs.plan_model.Reads as reads
 use Rattle.load_plan.proofs.plan_model.Lts as lts
-use Rattle.head_brackets.proofs.up_to.Reads as up-to-reads
+use Rattle.text_parts.proofs.up_to.Reads as up-to-reads
 use Rattle.load_plan.proofs.plan_block.Reads as plan-block-reads
 use Rattle.load_plan.proofs.read_text.Reads as read-text-reads
 use Rattle.load_choose.proofs.within.Reads as within-reads

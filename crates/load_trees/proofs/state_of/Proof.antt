@@ -8,7 +8,7 @@ use Rattle.load_trees.proofs.state_of.Statement.{statement}
 use Rattle.load_trees.proofs.state_of.Tie as tie
 use Rattle.load_trees.proofs.state_of.Reads as reads
 use Rattle.load_trees.proofs.state_of.Lts as lts
-use Rattle.link_targets.proofs.natural.Reads as natural-reads
+use Rattle.text_parts.proofs.natural.Reads as natural-reads
 
 enum-known-head : tie.Need-enum-known-head
 enum-known-head c = search needs

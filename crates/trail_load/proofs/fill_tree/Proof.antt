@@ -8,7 +8,7 @@ use Rattle.trail_load.proofs.fill_tree.Statement.{statement}
 use Rattle.trail_load.proofs.fill_tree.Tie as tie
 use Rattle.trail_load.proofs.fill_tree.Reads as reads
 use Rattle.trail_load.proofs.fill_tree.Lts as lts
-use Rattle.head_brackets.proofs.up_to.Reads as up-to-reads
+use Rattle.text_parts.proofs.up_to.Reads as up-to-reads
 use Rattle.load_model.proofs.answer.Reads as answer-reads
 use Rattle.load_trees.proofs.all_linked.Reads as all-linked-reads
 use Rattle.table_put.proofs.zero.Reads as zero-reads

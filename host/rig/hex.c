@@ -4,7 +4,7 @@
  * of its tables, as hex; where it goes on with a model, a tree, answers as hex (or -) and a limit, that of `walk`; and a line END. */
 #include <string.h>
 
-#include "host.h"
+#include "../host.h"
 
 static int hex_digit(char c) {
     if (c >= '0' && c <= '9')

@@ -3,7 +3,7 @@
 #include <inttypes.h>
 #include <stdlib.h>
 
-#include "host.h"
+#include "../host.h"
 
 /* A voice and the models of it that are loaded (those of a table). The last one is for numbers that the voice has no model of. */
 struct kept {
