@@ -1,8 +1,17 @@
-"""What bench/size reads of an object file (ELF, 64 bits, little-endian, any processor): sections, functions, what each one calls, and the stack that the compiler says it takes."""
-import struct
+"""What bench/size reads of an object file (ELF, 64 bits, any processor) by Debian's pyelftools: sections, functions, what each one calls, and the stack that the compiler says it takes."""
+import io
+import os
+import subprocess
+import sys
+
+DEBIAN = '/usr/lib/python3/dist-packages'  # where Debian's packages stand, whichever python3 runs this
+subprocess.run([os.path.join(os.path.dirname(os.path.abspath(__file__)), '..', 'tools', 'need'), os.path.join(DEBIAN, 'elftools'), 'python3-pyelftools'], check=True)
+sys.path.append(DEBIAN)
+from elftools.elf.constants import SH_FLAGS  # noqa: E402
+from elftools.elf.elffile import ELFFile  # noqa: E402
 
 TEXT, CONSTANTS, OTHER = 'code', 'constants', 'other'
-RELA, FUNC, SECTION, UNDEFINED = 4, 2, 3, 0
+FUNC, SECTION, UNDEFINED = 'STT_FUNC', 'STT_SECTION', 'SHN_UNDEF'
 
 
 def objects(path):
@@ -22,40 +31,26 @@ def objects(path):
 
 class Object:
     def __init__(self, b):
-        self.b = b
-        start, = struct.unpack_from('<Q', b, 40)
-        self.early = 4 if struct.unpack_from('<H', b, 18)[0] == 62 else 0  # x86-64 counts a call's goal from the call's end
-        size, count, names = struct.unpack_from('<HHH', b, 58)
-        self.sections = [dict(zip(('name', 'type', 'flags', 'addr', 'offset', 'size', 'link', 'info', 'align', 'entry'), struct.unpack_from('<IIQQQQIIQQ', b, start + size * i))) for i in range(count)]
-        strings = self.sections[names]['offset']
-        for s in self.sections:
-            s['name'] = self.string(strings + s['name'])
-        self.symbols = [y for s in self.sections if s['type'] == 2 for y in self.read_symbols(s)]
+        elf = ELFFile(io.BytesIO(b))
+        self.early = 4 if elf.get_machine_arch() == 'x64' else 0  # x86-64 counts a call's goal from the call's end
+        self.sections = list(elf.iter_sections())
+        self.symbols = [{'name': y.name, 'type': y['st_info']['type'], 'local': y['st_info']['bind'] == 'STB_LOCAL', 'section': y['st_shndx'], 'at': y['st_value'], 'size': y['st_size']}
+                        for s in self.sections if s['sh_type'] == 'SHT_SYMTAB' for y in s.iter_symbols()]
         self.functions = {y['name']: y for y in self.symbols if y['type'] == FUNC}
-
-    def string(self, at):
-        return self.b[at:self.b.index(b'\0', at)].decode()
-
-    def content(self, s):
-        return self.b[s['offset']:s['offset'] + s['size']]
-
-    def read_symbols(self, s):
-        for at in range(s['offset'], s['offset'] + s['size'], 24):
-            name, info, _, section, value, size = struct.unpack_from('<IBBHQQ', self.b, at)
-            yield {'name': self.string(self.sections[s['link']]['offset'] + name), 'type': info & 15, 'local': info >> 4 == 0, 'section': section, 'at': value, 'size': size}
 
     def kind(self, s):
         """Code and constants go into the display's flash; the rest of what is loaded would be variables."""
-        if not s['flags'] & 2 or s['size'] == 0 or s['name'].startswith('.eh_frame'):
+        flags = s['sh_flags']
+        if not flags & SH_FLAGS.SHF_ALLOC or s['sh_size'] == 0 or s.name.startswith('.eh_frame'):
             return None
-        return TEXT if s['flags'] & 4 else OTHER if s['flags'] & 1 else CONSTANTS
+        return TEXT if flags & SH_FLAGS.SHF_EXECINSTR else OTHER if flags & SH_FLAGS.SHF_WRITE else CONSTANTS
 
     def sizes(self):
         """Bytes of code, of constants, of variables."""
         out = {TEXT: 0, CONSTANTS: 0, OTHER: 0}
         for s in self.sections:
             if self.kind(s):
-                out[self.kind(s)] += s['size']
+                out[self.kind(s)] += s['sh_size']
         return out
 
     def exported(self):
@@ -74,11 +69,9 @@ class Object:
     def references(self):
         """Of each place that code refers to: the function it stands in, the symbol, and what is added to it."""
         for s in self.sections:
-            if s['type'] != RELA or self.kind(self.sections[s['info']]) != TEXT:
-                continue
-            for at in range(s['offset'], s['offset'] + s['size'], 24):
-                place, info, add = struct.unpack_from('<QQq', self.b, at)
-                yield self.holder(s['info'], place), self.symbols[info >> 32], add
+            if s['sh_type'] == 'SHT_RELA' and self.kind(self.sections[s['sh_info']]) == TEXT:
+                for r in s.iter_relocations():
+                    yield self.holder(s['sh_info'], r['r_offset']), self.symbols[r['r_info_sym']], r['r_addend']
 
     def calls(self):
         """Function: names of the functions and outer symbols that its code refers to."""
@@ -92,16 +85,16 @@ class Object:
     def tabled(self):
         """The functions whose code refers to constants. A jump through a table needs one, and so does a look into a table. A single number that riscv64 keeps in memory
         (.LCPI, of the compiler's pool) is none."""
-        inside = lambda y: 0 < y['section'] < len(self.sections) and self.kind(self.sections[y['section']]) == CONSTANTS and not y['name'].startswith('.LCPI')
+        inside = lambda y: isinstance(y['section'], int) and self.kind(self.sections[y['section']]) == CONSTANTS and not y['name'].startswith('.LCPI')
         return {user for user, y, _ in self.references() if user and inside(y)}
 
     def frames(self):
         """Function: bytes of its frame, from .stack_sizes (a function's place, by relocation, and a number in groups of 7 bits)."""
         out = {}
         for i, s in enumerate(self.sections):
-            if s['name'] != '.stack_sizes':
+            if s.name != '.stack_sizes':
                 continue
-            b, at, place = self.content(s), 8, self.places(i, s)
+            b, at, place = s.data(), 8, self.places(i)
             while at < len(b):
                 size = shift = 0
                 more, start = True, at - 8
@@ -112,15 +105,14 @@ class Object:
                 out[place[start]] = size + 2 * self.early  # and the return address, which x86-64 puts on the stack
         return out
 
-    def places(self, i, stack_sizes):
+    def places(self, i):
         """The functions that the relocations of a section name."""
         out = {}
         for s in self.sections:
-            if s['type'] == RELA and s['info'] == i:
-                for at in range(s['offset'], s['offset'] + s['size'], 24):
-                    place, info, add = struct.unpack_from('<QQq', self.b, at)
-                    y = self.symbols[info >> 32]
-                    out[place] = y['name'] if y['type'] == FUNC else self.holder(y['section'], y['at'] + add)
+            if s['sh_type'] == 'SHT_RELA' and s['sh_info'] == i:
+                for r in s.iter_relocations():
+                    y = self.symbols[r['r_info_sym']]
+                    out[r['r_offset']] = y['name'] if y['type'] == FUNC else self.holder(y['section'], y['at'] + r['r_addend'])
         return out
 
     def deepest(self, name):

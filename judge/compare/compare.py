@@ -18,6 +18,7 @@ Prints figures, and up to ten differences that no rule explains; the exit status
 
 What is compared with the oracle is left out, and counted, where 01's domain of equality ends: a header number of 2^64 or more, a limit exceeded, a range
 end of 2^64 - 1. Known differences are recognised by rule and counted. NaNs are compared as NaNs; the oracle prints the first of equal leaves."""
+import argparse
 import collections
 import itertools
 import os
@@ -254,22 +255,15 @@ def walks(first, last):
         yield '%s %d %d %s %d' % (b.hex(), which, r.choice((0, 0, 0, 1, 2)), answers.hex() or '-', r.choice((0, 1, 2, 3, 5, 100)))
 
 
-def taken(argv, option):
-    """The words of an option's value, taken out of the arguments."""
-    if option not in argv:
-        return None
-    k = argv.index(option)
-    value = argv[k + 1].split()
-    del argv[k:k + 2]
-    return value
-
-
-def main(argv):
-    product, walker = taken(argv, '--product'), taken(argv, '--walker')
-    oracle = '--no-oracle' not in argv
-    argv = [a for a in argv if a != '--no-oracle']
-    judge = Judge(product, walker, oracle)
-    what, rest = argv[1], argv[2:]
+def main():
+    parser = argparse.ArgumentParser(description=__doc__, formatter_class=argparse.RawDescriptionHelpFormatter)
+    parser.add_argument('what', choices=['headers', 'trees', 'texts', 'voices', 'trails', 'walks', 'byhand', 'large', 'short', 'utf8', 'files'])
+    parser.add_argument('rest', nargs='*', help='FROM TO, a length, or files')
+    parser.add_argument('--product', type=str.split)
+    parser.add_argument('--walker', type=str.split)
+    parser.add_argument('--no-oracle', action='store_true')
+    asked = parser.parse_intermixed_args()
+    judge, what, rest = Judge(asked.product, asked.walker, not asked.no_oracle), asked.what, asked.rest
     modes = {'headers': ('open', headers.header), 'trees': ('tree', treetexts.tree_text), 'voices': ('dump', voices.voice), 'trails': ('dump', trailing.trailed), 'texts': ('dump', lambda n: voices.around(treetexts.tree_text(n)))}
     if what in modes:
         mode, make = modes[what]
@@ -291,12 +285,8 @@ def main(argv):
         for path in rest:
             with open(path, 'rb') as f:
                 judge.batch('dump', [f.read().hex()])
-    else:
-        sys.exit(__doc__)
     sys.exit(judge.report())
 
 
 if __name__ == '__main__':
-    if len(sys.argv) < 2:
-        sys.exit(__doc__)
-    main(sys.argv)
+    main()

@@ -9,6 +9,7 @@
 A relation `R a b` of the crate is here a generator that yields every b for which a rule gives R a b; a rule that asks for a place tries all places. So a text has
 as many answers here as the rules allow. Counted: texts with no answer, with more than one, with one that is derived twice, and with one that isn't the
 oracle's (through reading.py, which is compared with the oracle in the same run)."""
+import argparse
 import collections
 import itertools
 import os
@@ -1115,19 +1116,22 @@ class Held:
         return self.judge.report() or any(n for key, n in self.counts.items() if ':' in key and key.split(': ')[1].startswith(('no ', 'more', 'another')))
 
 
-def main(argv):
-    held = Held()
-    what = argv[1]
+def main():
+    parser = argparse.ArgumentParser(description=__doc__, formatter_class=argparse.RawDescriptionHelpFormatter)
+    parser.add_argument('what', choices=['headers', 'trees', 'voices', 'short', 'tables', 'byhand'])
+    parser.add_argument('rest', nargs='*', type=int)
+    asked = parser.parse_args()
+    held, what, rest = Held(), asked.what, asked.rest
     if what in ('headers', 'trees', 'voices'):
         make = {'headers': headers.header, 'trees': treetexts.tree_text, 'voices': voices.voice}[what]
-        getattr(held, what)(make(n) for n in range(int(argv[2]), int(argv[3])))
+        getattr(held, what)(make(n) for n in range(*rest))
     elif what == 'short':
-        length = int(argv[2]) if len(argv) > 2 else 3
+        length = rest[0] if rest else 3
         held.headers(headers.short_values(length))
         for before, alphabet, after in treetexts.SEAMS:
             held.trees(before + t + after for t in treetexts.short_texts(alphabet, length + 2))
     elif what == 'tables':
-        held.tables(int(argv[2]), int(argv[3]))
+        held.tables(*rest)
     elif what == 'byhand':
         held.headers(headers.at_limits() + headers.by_hand())
         held.trees(store.tree_inputs()[:400])
@@ -1135,6 +1139,4 @@ def main(argv):
 
 
 if __name__ == '__main__':
-    if len(sys.argv) < 2:
-        sys.exit(__doc__)
-    main(sys.argv)
+    main()
