@@ -13,8 +13,9 @@ use Rattle.error.specs.declared.Refusal.{Refusal}
 use Rattle.head_record.specs.declared.Header.{Header}
 use Rattle.head_words.specs.Words.{headerAt}
 use Rattle.load_model.specs.Load.{Tables as Lent}
-use Rattle.load_shared.specs.Beside.{rowsOf, standsAt}
-use Rattle.load_shared.specs.declared.Held.{Held as Bounds}
+use Rattle.load_shared.specs.Beside.{rowsOf}
+use Rattle.load_bounds.specs.Bounds.{standsAt}
+use Rattle.load_bounds.specs.declared.Held.{Held as Bounds}
 use Rattle.house_types.specs.Types.{typesRule}
 use Rattle.house_voice.specs.Voice.{After as VoiceAfter, voiceOf}
 use Rattle.house_voice.specs.declared.Broken.{Broken}

@@ -2,12 +2,12 @@
 use face_model::Rows;
 use face_model::which_of;
 use face_open::judged;
+use load_bounds::Held;
 use load_model::Loaded;
-use load_shared::Held;
 use load_shared::load;
 ghost use mathlib.Core.Path.{_≡_};
 ghost use Rattle.load_model.specs.Load.{lent};
-ghost use Rattle.load_shared.specs.Beside.{sideOf, heldOf};
+ghost use Rattle.load_bounds.specs.Bounds.{sideOf, heldOf};
 ghost use Rattle.face_model.specs.Answers.{noRows, rowsBy};
 ghost use Rattle.face_load.specs.Answers.{LoadSaid};
 

@@ -11,9 +11,11 @@ use Rattle.written.specs.Sharing.{Side, Table, questions, patterns, trees, reco
 use Rattle.error.specs.declared.Refusal.{Refusal}
 use Rattle.load_model.specs.Load.{Tables as Lent}
 use Rattle.load_apart.specs.Loads.{Done, Overlap, After, untouched as asItWas, unloadOf}
-use Rattle.load_shared.specs.Beside.{sideOf, heldOf, tablesOf, rowsOf, standsAt, Tabled, Unloads}
-use Rattle.load_shared.specs.declared.Held.{Held as Bounds}
-use Rattle.load_shared.proofs.Laws.{stands-at}
+use Rattle.load_shared.specs.Beside.{rowsOf}
+use Rattle.load_bounds.specs.Bounds.{sideOf, heldOf, tablesOf, standsAt}
+use Rattle.load_unload.specs.Unloads.{Tabled, Unloads}
+use Rattle.load_bounds.specs.declared.Held.{Held as Bounds}
+use Rattle.load_bounds.proofs.Laws.{stands-at}
 use Rattle.face_model.specs.declared.Rows.{Rows}
 use Rattle.face_load.specs.Answers.{Filled, untouched, filledOf, Is, LoadSaid}
 use Rattle.face_shared.specs.Answers.{heldAt, sideAt, standing, sharedOf, SharedSaid, unloadedOf, UnloadSaid}

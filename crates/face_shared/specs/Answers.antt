@@ -7,7 +7,9 @@ use lib.Dec.{leb, eqb}
 use lib.ListN.{getD}
 use Rattle.written.specs.Sharing.{Side, Table, questions, patterns, trees, records, values, Tables, Held, holds, stands, cleared}
 use Rattle.load_model.specs.Load.{Tables as Lent}
-use Rattle.load_shared.specs.Beside.{sideOf, tablesOf, rowsOf, Tabled}
+use Rattle.load_shared.specs.Beside.{rowsOf}
+use Rattle.load_bounds.specs.Bounds.{sideOf, tablesOf}
+use Rattle.load_unload.specs.Unloads.{Tabled}
 use Rattle.face_model.specs.declared.Rows.{Rows}
 use Rattle.face_load.specs.Answers.{Filled, untouched, filledOf, Is}
 

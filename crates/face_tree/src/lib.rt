@@ -8,15 +8,15 @@ use face_model::which_of;
 use face_open::judged;
 use face_shared::bounds;
 use face_shared::standing;
+use load_bounds::Held;
+use load_bounds::holding;
 use load_model::Loaded;
-use load_shared::Held;
-use load_shared::holding;
 use trail_load::load_tree;
 ghost use mathlib.Core.Path.{_≡_};
 ghost use Prim.Native.Nat.{_≤_};
 ghost use lib.ListN.{length};
 ghost use Rattle.load_model.specs.Load.{lent};
-ghost use Rattle.load_shared.specs.Beside.{sideOf, heldOf};
+ghost use Rattle.load_bounds.specs.Bounds.{sideOf, heldOf};
 ghost use Rattle.face_shared.specs.Answers.{heldAt};
 ghost use Rattle.face_tree.specs.Answers.{TreeLoadSaid, TreeSaid};
 

@@ -12,7 +12,7 @@ use Rattle.written.specs.Sharing.{Side, own}
 use Rattle.tree_question.specs.Questions.{questionsAt}
 use Rattle.load_questions.specs.Words.{patternWords}
 use Rattle.load_plan.specs.declared.Plan.{Plan}
-use Rattle.load_shared.proofs.Laws.{Cut, cut-own, cut-length}
+use Rattle.load_bounds.proofs.Laws.{Cut, cut-own, cut-length}
 use Rattle.house_model.specs.Model.{ruleOf, Loaded}
 use Rattle.house_own.specs.Own.{ruleIn, LoadedIn}
 

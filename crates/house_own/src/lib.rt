@@ -1,14 +1,14 @@
 // The first of the house's rules that the model in a task's rows breaks (02, Wishes 9 and 11): the task's own rows are cut out of the tables that two tasks share.
 // Nothing is changed in the end.
 use house_model::judge_model;
+use load_bounds::first_row;
 use load_plan::Plan;
-use load_shared::first_row;
 use table_rows::PATTERN_ROW;
 use table_rows::QUESTION_ROW;
 use table_rows::TREE_ROW;
 ghost use mathlib.Core.Path.{_≡_};
 ghost use lib.ListN.{length};
-ghost use Rattle.load_shared.specs.Beside.{sideOf};
+ghost use Rattle.load_bounds.specs.Bounds.{sideOf};
 ghost use Rattle.house_own.specs.Own.{ruleIn, LoadedIn};
 
 // The rule, or 0.

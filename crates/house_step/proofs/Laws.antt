@@ -31,7 +31,9 @@ use Rattle.load_model.proofs.Laws.{same-lent}
 use Rattle.load_apart.specs.Loads.{unloadOf}
 use Rattle.load_apart.proofs.Rows.{length-own, own-put}
 use Rattle.load_apart.proofs.Tests.{stands-is}
-use Rattle.load_shared.specs.Beside.{needOf, rowsOf, withWork, placedIn, roomBy, besideFor, Tabled}
+use Rattle.load_shared.specs.Beside.{rowsOf, withWork, placedIn, roomBy, besideFor}
+use Rattle.load_bounds.specs.Bounds.{needOf}
+use Rattle.load_unload.specs.Unloads.{Tabled}
 use Rattle.house_own.specs.Own.{ruleIn, LoadedIn}
 use Rattle.house_step.specs.Steps.{boundsOf, ruledAs, stepFor, emptied, stepOf, Is, StepsPlanned, Steps}
 use Rattle.house_step.specs.declared.Step.{Step}

@@ -15,7 +15,7 @@ use Rattle.load_model.specs.Load.{Tables as Lent, After}
 use Rattle.load_model.specs.declared.Loaded.{Loaded}
 use Rattle.load_model.specs.declared.Loaded.the-variants as loaded
 use Rattle.load_shared.specs.Beside.{rowsOf, withWork, besideFor}
-use Rattle.load_shared.specs.declared.Held.{Held as Bounds}
+use Rattle.load_bounds.specs.declared.Held.{Held as Bounds}
 use Rattle.house_own.specs.Own.{ruleIn}
 use Rattle.house_step.specs.declared.Step.{Step}
 use Rattle.house_step.specs.declared.Step.the-variants.{Judged, Refused}

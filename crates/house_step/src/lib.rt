@@ -2,22 +2,22 @@
 // Takes any bytes, any record, any bounds and tables of any length. A refused load leaves what a load leaves; a model that breaks a rule stays loaded.
 use error::Refusal;
 use house_own::judge_own;
+use load_bounds::Held;
 use load_choose::Which;
 use load_model::Loaded;
 use load_plan::Plan;
 use load_plan::Planned;
 use load_plan::data_of;
 use load_plan::needs;
-use load_shared::Held;
 use load_shared::load_planned;
-use load_shared::unload;
+use load_unload::unload;
 ghost use mathlib.Core.Path.{_≡_};
 ghost use Prim.Native.Nat.{_≤_};
 ghost use lib.ListN.{length};
 ghost use Rattle.head_words.specs.Words.{headerAt};
 ghost use Rattle.load_plan.specs.Plans.{Sound};
 ghost use Rattle.load_model.specs.Load.{lent};
-ghost use Rattle.load_shared.specs.Beside.{sideOf, heldOf};
+ghost use Rattle.load_bounds.specs.Bounds.{sideOf, heldOf};
 ghost use Rattle.house_step.specs.Steps.{StepsPlanned, Steps};
 
 // The rule that a loaded model breaks, 0 for none, and the bounds that it stands in; or why it isn't loaded.

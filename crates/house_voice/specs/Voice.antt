@@ -8,8 +8,8 @@ use Rattle.written.specs.Sharing.{Side, Held}
 use Rattle.head_record.specs.declared.Header.{Header}
 use Rattle.load_choose.specs.declared.Which.{Which}
 use Rattle.load_model.specs.Load.{Tables as Lent}
-use Rattle.load_shared.specs.Beside.{heldOf}
-use Rattle.load_shared.specs.declared.Held.{Held as Bounds}
+use Rattle.load_bounds.specs.Bounds.{heldOf}
+use Rattle.load_bounds.specs.declared.Held.{Held as Bounds}
 use Rattle.load_voice.specs.Voice.{modelsOf}
 use Rattle.trail_voice.specs.Voice.{whichNumber}
 use Rattle.house_step.specs.Steps.{boundsOf, stepOf}

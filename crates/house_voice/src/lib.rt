@@ -3,9 +3,9 @@
 use error::Refusal;
 use house_step::Step;
 use house_step::judge_next;
+use load_bounds::Held;
+use load_bounds::nobody;
 use load_choose::Which;
-use load_shared::Held;
-use load_shared::nobody;
 use load_voice::NextModel;
 use load_voice::next_model;
 use trail_voice::number_of;
@@ -14,7 +14,7 @@ ghost use Prim.Native.Nat.{_≤_};
 ghost use lib.ListN.{length};
 ghost use Rattle.head_words.specs.Words.{headerAt};
 ghost use Rattle.load_model.specs.Load.{lent};
-ghost use Rattle.load_shared.specs.Beside.{sideOf, heldOf};
+ghost use Rattle.load_bounds.specs.Bounds.{sideOf, heldOf};
 ghost use Rattle.house_voice.specs.Voice.{firstOf, JudgesVoice};
 
 // A rule that is broken, and the number of the model that breaks it; both 0 for none.

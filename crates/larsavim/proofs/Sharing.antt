@@ -9,7 +9,7 @@ use lib.ListN.{length}
 use lib.Seq.{sets}
 use Rattle.written.specs.Sharing as sharing
 use Rattle.load_model.specs.Load.{Tables}
-use Rattle.load_shared.specs.Beside.{Tabled}
+use Rattle.load_unload.specs.Unloads.{Tabled}
 use Rattle.face_model.specs.declared.Rows.{Rows}
 use Rattle.face_shared.specs.Answers.{heldAt, UnloadSaid}
 use Rattle.larsavim.specs.Face.{rowsNumbers}

@@ -9,7 +9,8 @@ use lib.Dec.{eqb}
 use lib.ListN.{length}
 use lib.Seq.{sets}
 use Rattle.load_model.specs.Load.{Tables}
-use Rattle.load_shared.specs.Beside.{tablesOf, Tabled}
+use Rattle.load_bounds.specs.Bounds.{tablesOf}
+use Rattle.load_unload.specs.Unloads.{Tabled}
 use Rattle.face_model.specs.declared.Rows.{Rows}
 use Rattle.face_shared.specs.Answers.{heldAt, SharedSaid, UnloadSaid}
 use Rattle.face_tree.specs.Answers.{TreeSaid}

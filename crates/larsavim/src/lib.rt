@@ -19,7 +19,7 @@ use face_tree::tree_said;
 use face_write::length_said;
 use face_write::write_said;
 use label_answers::answers_said;
-use load_shared::nobody;
+use load_bounds::nobody;
 use table_put::put2;
 use table_put::put4;
 use walk_accepts::accepts_said;

@@ -1,18 +1,16 @@
 -- A part that is cut out of a table and comes back is the task's rows put there, at any width; and each way through the functions.
-use mathlib.Core.Path.{_≡_, refl, sym, ap, _∙_, subst, fun-ext}
+use mathlib.Core.Path.{_≡_, refl, sym, ap, _∙_, subst}
 use mathlib.Core.Bool.{Bool, true, false, not, cond, _&&_}
 use mathlib.Core.List.{List}
-use Prim.Native.Nat.{ℕ, _+_, _-_, _*_, _/_, _≤_, _<_}
-use native.Mathlib.Nat.{one-mul, div-one}
+use Prim.Native.Nat.{ℕ, _-_, _*_, _/_, _≤_, _<_}
+use native.Mathlib.Nat.{one-mul}
 use native.Mathlib.Omega.{arith}
 use lib.Dec.{leb}
 use lib.IntN.{ℤ}
-use lib.ListN.{length, take, drop, replicate, length-replicate}
-use lib.Seq.{sets}
-use borrow.Author.Tests.{leb-true, leb-false, le-leb, lt-leb, not-true, not-false}
+use lib.ListN.{length, take, drop}
+use borrow.Author.Tests.{le-leb, lt-leb, not-true, not-false}
 use borrow.Rule.Slice.PartMut.{putMid}
-use Rattle.laws.proofs.Tables.{part-put}
-use Rattle.written.specs.Sharing.{Side, Table, questions, patterns, trees, records, values, width, Tables, Held, nothing, startOf, firstRow, own, putRows, seen, cleared, Stand, stands}
+use Rattle.written.specs.Sharing.{Side, questions, patterns, trees, records, values, width, Held, own, putRows, seen, Stand, stands}
 use Rattle.error.specs.declared.Refusal.{Refusal}
 use Rattle.error.specs.declared.Refusal.the-variants as refusal
 use Rattle.head_record.specs.declared.Header.{Header}
@@ -25,79 +23,11 @@ use Rattle.load_model.specs.declared.Loaded.{Loaded}
 use Rattle.load_model.specs.declared.Loaded.the-variants as loaded
 use Rattle.load_model.specs.Load.{Tables as Lent, lent, After as FillAfter, roomFor, filled, untouched as asLent, Is}
 use Rattle.load_model.proofs.Laws.{same-lent}
-use Rattle.load_apart.specs.Loads.{Done as Done′, Overlap, After, untouched, unloadOf}
-use Rattle.load_apart.proofs.Rows.{length-part, within, length-own}
 use Rattle.load_apart.proofs.Tests.{stands-is}
-use Rattle.load_apart.proofs.Apart.{unload-is}
-use Rattle.load_shared.specs.declared.Held.{Held as Bounds}
-use Rattle.load_shared.specs.Beside.{needOf, heldOf, tablesOf, rowsOf, withWork, standsAt, Fits, putBack, placedIn, roomBy, besideFor, besideOf, FillsOwn, PlacesBeside, LoadsBeside, Tabled, Unloads}
-
--- ---- tests
-
-pub beside-is : (rows a b : ℕ) → b ≤ rows → leb a (rows - b) ≡ leb (a + b) rows
-beside-is rows a b h = go (leb (a + b) rows) refl
-  where
-    go : (x : Bool) → leb (a + b) rows ≡ x → leb a (rows - b) ≡ leb (a + b) rows
-    go true e = let f : a + b ≤ rows = leb-true _ _ e in le-leb a (rows - b) (omega arith) ∙ sym e
-    go false e = let f : rows < a + b = leb-false _ _ e in lt-leb a (rows - b) (omega arith) ∙ sym e
-
-pub nobody-is : heldOf (record { questions = 0; patterns = 0; trees = 0; records = 0; values = 0 }) ≡ nothing
-nobody-is = fun-ext at
-  where
-    at : (k : Table) → heldOf (record { questions = 0; patterns = 0; trees = 0; records = 0; values = 0 }) k ≡ nothing k
-    at questions = refl
-    at patterns = refl
-    at trees = refl
-    at records = refl
-    at values = refl
-
-pub need-is : (p : Plan) → heldOf (record { questions = p .questions; patterns = p .patterns; trees = p .trees; records = p .records; values = p .entries * p .width }) ≡ needOf p
-need-is p = fun-ext at
-  where
-    at : (k : Table) → heldOf (record { questions = p .questions; patterns = p .patterns; trees = p .trees; records = p .records; values = p .entries * p .width }) k ≡ needOf p k
-    at questions = refl
-    at patterns = refl
-    at trees = refl
-    at records = refl
-    at values = refl
-
--- ---- a part that is cut out
-
--- from a up to e are the n rows of a task
-pub record Cut (x : Side) (w : ℕ) (t : List ℕ) (n a e : ℕ) : Type 0 where
-  pub start : a ≡ startOf x w (length t) n
-  pub end : e ≡ a + w * n
-  pub room : n ≤ length t / w
-
-module _ (x : Side) (w : ℕ) (t : List ℕ) (n a e : ℕ) (c : Cut x w t n a e) where
-  pub cut-long : e - a ≡ w * n
-  cut-long = omega (arith, c .end)
-
-  pub cut-within : a + w * n ≤ length t
-  cut-within = subst (λ (b : ℕ). b + w * n ≤ length t) (sym (c .start)) (within x w (length t) n (c .room))
-
-  pub cut-own : take (e - a) (drop a t) ≡ own x w t n
-  cut-own = ap (λ (m : ℕ). take m (drop a t)) cut-long ∙ ap (λ (b : ℕ). take (w * n) (drop b t)) (c .start)
-
-  pub cut-length : length (take (e - a) (drop a t)) ≡ w * n
-  cut-length = ap length cut-own ∙ length-own x w t n (c .room)
-
-  pub cut-back : (ys : List ℕ) → length ys ≡ length (take (e - a) (drop a t)) → putMid a (e - a) t ys ≡ putRows x w t n ys
-  cut-back ys l =
-      ap (λ (m : ℕ). putMid a m t ys) cut-long ∙ part-put t a (w * n) ys (l ∙ cut-length) cut-within
-      ∙ ap (λ (b : ℕ). sets t b ys) (c .start)
-
--- the rows of a task from the first on, in numbers
-pub cut-rows : (x : Side) (w : ℕ) (t : List ℕ) (n : ℕ) {r : ℕ} → r ≡ firstRow x (length t / w) n → n ≤ length t / w → Cut x w t n (w * r) (w * r + w * n)
-cut-rows x w t n e h = record { start = ap (λ (r : ℕ). w * r) e; end = refl; room = h }
-
-pub cut-ones : (x : Side) (t : List ℕ) (n : ℕ) {r : ℕ} → r ≡ firstRow x (length t) n → n ≤ length t → Cut x 1 t n r (r + n)
-cut-ones x t n {r} e h =
-    record {
-      start = e ∙ ap (λ (l : ℕ). firstRow x l n) (sym (div-one (length t))) ∙ sym (one-mul (firstRow x (length t / 1) n));
-      end = ap (λ (m : ℕ). r + m) (sym (one-mul n));
-      room = omega arith;
-    }
+use Rattle.load_bounds.specs.declared.Held.{Held as Bounds}
+use Rattle.load_shared.specs.Beside.{rowsOf, withWork, Fits, putBack, placedIn, roomBy, besideFor, besideOf, FillsOwn, PlacesBeside, LoadsBeside}
+use Rattle.load_bounds.proofs.Laws.{Cut, cut-own, cut-length, cut-back, stands-at}
+use Rattle.load_bounds.specs.Bounds.{needOf, heldOf, tablesOf, standsAt}
 
 -- ---- a plan filled into the parts
 
@@ -149,20 +79,6 @@ module _ (x : Side) (d : List ℕ) (p : Plan) (q a t c v : List ℕ) (w : List �
 
 -- ---- each way through a load
 
-pub stands-at : (x y : Held) (q a t c v : List ℕ) → standsAt x y (length q) (length a) (length t) (length c) (length v) ≡ stands (tablesOf q a t c v) x y
-unfolding standsAt stands
-stands-at x y q a t c v = refl
-
--- what the test in the code tells
-pub stood : (x y : Held) (q a t c v : List ℕ) {b : Bool} → b ≡ standsAt x y (length q) (length a) (length t) (length c) (length v) → not b ≡ false → stands (tablesOf q a t c v) x y ≡ true
-stood x y q a t c v {b} e h = sym (stands-at x y q a t c v) ∙ sym e ∙ not-false b h
-
-pub not-stood : (x y : Held) (q a t c v : List ℕ) {b : Bool} → b ≡ standsAt x y (length q) (length a) (length t) (length c) (length v) → not b ≡ true → stands (tablesOf q a t c v) x y ≡ false
-not-stood x y q a t c v {b} e h = sym (stands-at x y q a t c v) ∙ sym e ∙ not-true b h
-
-pub stood-rows : (x y : Held) (q a t c v : List ℕ) {b : Bool} → b ≡ standsAt x y (length q) (length a) (length t) (length c) (length v) → not b ≡ false → Stand (tablesOf q a t c v) x y
-stood-rows x y q a t c v e h = stands-is (tablesOf q a t c v) x y (stood x y q a t c v e h)
-
 -- of a plan in the data d
 module _ (x : Side) (d : List ℕ) (p : Plan) (other : Held) (T : Lent) where
   by-room : (b : Bool) → roomBy p other T ≡ b → {l : Loaded} {T₁ : Lent} → Is (cond b (placedIn x d p T) (asLent refusal.Room T)) l T₁ → PlacesBeside x d p other T l T₁
@@ -208,33 +124,3 @@ module _ (x : Side) (s : List ℕ) (h : Header) (which : Which) (other : Held) (
   unfolding besideOf
   load-model p e {d} {l} {T₁} y z =
       subst (λ (o : Planned). Is (besideFor x other (dataOf s h) o T) l T₁) e (subst (λ (d : List ℕ). Is (besideFor x other d (plan.Model p) T) l T₁) y z)
-
--- ---- unloading
-
-pub cleared-part : (t : List ℕ) (a e : ℕ) → a ≤ e → e ≤ length t → {ys : List ℕ} → ys ≡ replicate (length (take (e - a) (drop a t))) 0 → putMid a (e - a) t ys ≡ sets t a (replicate (e - a) 0)
-cleared-part t a e h g {ys} f =
-    let l : length (take (e - a) (drop a t)) ≡ e - a = length-part t a (e - a) (omega arith) in
-    let z : ys ≡ replicate (e - a) 0 = f ∙ ap (λ (m : ℕ). replicate m 0) l in
-    ap (putMid a (e - a) t) z ∙ part-put t a (e - a) (replicate (e - a) 0) (length-replicate (e - a) 0) (omega arith)
-
-pub cleared-is : (x : Side) (w : ℕ) (t : List ℕ) (n a e : ℕ) → Cut x w t n a e → {t₁ : List ℕ} → t₁ ≡ sets t a (replicate (e - a) 0) → t₁ ≡ putRows x w t n (replicate (w * n) 0)
-cleared-is x w t n a e c f = f ∙ ap (λ (m : ℕ). sets t a (replicate m 0)) (cut-long x w t n a e c) ∙ ap (λ (b : ℕ). sets t b (replicate (w * n) 0)) (c .start)
-
-module _ (x : Side) (mine other : Held) (q a t c v : List ℕ) where
-  pub unload-not : stands (tablesOf q a t c v) mine other ≡ false → Unloads x mine other q a t c v false q a t c v
-  unfolding unloadOf
-  unload-not s =
-      record {
-        done = sym s;
-        tables =
-            subst (λ (b : Bool). Tabled (cond b (record { answer = Done′ nothing; tables = cleared x mine (tablesOf q a t c v); held = nothing }) (untouched {R = Refusal} Overlap mine (tablesOf q a t c v)) .tables) q a t c v) (sym s)
-            (record { questions = refl; patterns = refl; trees = refl; records = refl; values = refl });
-      }
-
-  pub unload-done : stands (tablesOf q a t c v) mine other ≡ true → {q₁ a₁ t₁ c₁ v₁ : List ℕ} → Tabled (cleared x mine (tablesOf q a t c v)) q₁ a₁ t₁ c₁ v₁ → Unloads x mine other q a t c v true q₁ a₁ t₁ c₁ v₁
-  unload-done s {q₁} {a₁} {t₁} {c₁} {v₁} l =
-      record {
-        done = sym s;
-        tables =
-            subst (λ (o : After Refusal). Tabled (o .tables) q₁ a₁ t₁ c₁ v₁) (sym (unload-is Refusal x mine other (tablesOf q a t c v) (stands-is (tablesOf q a t c v) mine other s))) l;
-      }

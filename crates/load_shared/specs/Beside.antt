@@ -1,13 +1,13 @@
 -- What a load into one task's rows answers and leaves, by the file's bytes, the record, the other task's bounds and the slices before it (01, 'Linking and tables'; 02,
--- Wish 9); and what an unload leaves. Refusals up to 20 leave the slices as they were; 21 to 23 leave the rows needed zero, and all of the work.
+-- Wish 9). Refusals up to 20 leave the slices as they were; 21 to 23 leave the rows needed zero, and all of the work.
 use mathlib.Core.Path.{_≡_}
-use mathlib.Core.Bool.{Bool, true, false, cond, _&&_}
+use mathlib.Core.Bool.{Bool, cond, _&&_}
 use mathlib.Core.List.{List}
-use Prim.Native.Nat.{ℕ, _+_, _*_, _/_, _≤_}
+use Prim.Native.Nat.{ℕ, _*_, _/_, _≤_}
 use lib.Dec.{leb}
 use lib.IntN.{ℤ}
 use lib.ListN.{length}
-use Rattle.written.specs.Sharing.{Side, bottom, top, Table, questions, patterns, trees, records, values, width, wholeRows, Tables, Held, seen, placed, everyTable, stands}
+use Rattle.written.specs.Sharing.{Side, questions, patterns, trees, records, values, Tables, Held, seen, placed, stands}
 use Rattle.error.specs.declared.Refusal.{Refusal}
 use Rattle.error.specs.declared.Refusal.the-variants as refusal
 use Rattle.head_record.specs.declared.Header.{Header}
@@ -18,33 +18,7 @@ use Rattle.load_plan.specs.declared.Planned.{Planned}
 use Rattle.load_plan.specs.declared.Planned.the-variants as plan
 use Rattle.load_model.specs.declared.Loaded.{Loaded}
 use Rattle.load_model.specs.Load.{Tables as Lent, lent, After, filled, untouched, Is}
-use Rattle.load_apart.specs.Loads.{unloadOf}
-use Rattle.load_shared.specs.declared.Held.{Held as Bounds}
-
-abbrev pub sideOf : Bool → Side
-sideOf true = top
-sideOf false = bottom
-
-abbrev pub heldOf : Bounds → Held
-heldOf h questions = h .questions
-heldOf h patterns = h .patterns
-heldOf h trees = h .trees
-heldOf h records = h .records
-heldOf h values = h .values
-
-abbrev pub needOf : Plan → Held
-needOf p questions = p .questions
-needOf p patterns = p .patterns
-needOf p trees = p .trees
-needOf p records = p .records
-needOf p values = p .entries * p .width
-
-abbrev pub tablesOf : List ℕ → List ℕ → List ℕ → List ℕ → List ℕ → Tables
-tablesOf q a t c v questions = q
-tablesOf q a t c v patterns = a
-tablesOf q a t c v trees = t
-tablesOf q a t c v records = c
-tablesOf q a t c v values = v
+use Rattle.load_bounds.specs.Bounds.{needOf, tablesOf}
 
 -- the five tables of what is lent
 abbrev pub rowsOf : Lent → Tables
@@ -53,18 +27,6 @@ rowsOf T = tablesOf (T .questions) (T .patterns) (T .trees) (T .records) (T .val
 -- five tables, and the work
 abbrev pub withWork : Tables → List ℤ → Lent
 withWork t w = lent (t questions) (t patterns) (t trees) (t records) (t values) w
-
--- the same of lengths
-abbrev pub lengthsOf : ℕ → ℕ → ℕ → ℕ → ℕ → Table → ℕ
-lengthsOf q a t c v questions = q
-lengthsOf q a t c v patterns = a
-lengthsOf q a t c v trees = t
-lengthsOf q a t c v records = c
-lengthsOf q a t c v values = v
-
--- bounds stand beside each other in tables of so many numbers
-unfoldable pub standsAt : Held → Held → ℕ → ℕ → ℕ → ℕ → ℕ → Bool
-standsAt x y q a t c v = everyTable (λ k. leb (x k + y k) (wholeRows (width k) (lengthsOf q a t c v k)))
 
 -- ---- a load
 
@@ -108,16 +70,3 @@ PlacesBeside x d p other T = Is (besideFor x other d (plan.Model p) T)
 
 abbrev pub LoadsBeside : Side → List ℕ → Header → Which → Held → Lent → Loaded → Lent → Type 0
 LoadsBeside x s h which other T = Is (besideOf x s h which other T)
-
--- the slices are these tables
-pub record Tabled (x : Tables) (q a t c v : List ℕ) : Type 0 where
-  pub questions : q ≡ x questions
-  pub patterns : a ≡ x patterns
-  pub trees : t ≡ x trees
-  pub records : c ≡ x records
-  pub values : v ≡ x values
-
--- an unload: whether it was done, and the tables after it
-pub record Unloads (x : Side) (mine other : Held) (q a t c v : List ℕ) (r : Bool) (q₁ a₁ t₁ c₁ v₁ : List ℕ) : Type 0 where
-  pub done : r ≡ stands (tablesOf q a t c v) mine other
-  pub tables : Tabled (unloadOf {R = Refusal} x mine other (tablesOf q a t c v) .tables) q₁ a₁ t₁ c₁ v₁

@@ -1,8 +1,12 @@
-// Two tasks in one set of tables (02, Wish 9): where a task's rows begin, a load into just these rows, an unload. A plan is filled into parts of the five tables that
+// Two tasks in one set of tables (02, Wish 9): a load into one task's rows. A plan is filled into parts of the five tables that
 // have exactly the rows that it needs, so that filling in front and zeroing whole slices touch nothing else. Stages of a load in 01's order: what the model needs
 // (`load_plan`: 16, 13 to 15, 12, 16 to 19), whether the rows fit beside the other task's (20), then rows and linking (21 to 23). Takes any bytes, any record,
 // any bounds and tables of any length.
 use error::Refusal;
+use load_bounds::Held;
+use load_bounds::first_row;
+use load_bounds::need;
+use load_bounds::stand;
 use load_choose::Which;
 use load_model::Loaded;
 use load_model::fill;
@@ -10,123 +14,18 @@ use load_plan::Plan;
 use load_plan::Planned;
 use load_plan::data_of;
 use load_plan::needs;
-use table_put::zero;
 use table_rows::PATTERN_ROW;
 use table_rows::QUESTION_ROW;
 use table_rows::RECORD_ROW;
 use table_rows::TREE_ROW;
 use table_rows::WORK_A_LINE;
-ghost use mathlib.Core.Path.{_≡_};
-ghost use Prim.Native.Nat.{_+_, _*_, _-_, _≤_, _<_, _^_};
-ghost use lib.Dec.{leb};
-ghost use lib.ListN.{length, replicate};
-ghost use lib.Seq.{sets};
-ghost use Rattle.written.specs.Sharing.{nothing, firstRow, holds};
+ghost use Prim.Native.Nat.{_≤_};
+ghost use lib.ListN.{length};
 ghost use Rattle.head_words.specs.Words.{headerAt};
 ghost use Rattle.load_plan.specs.Plans.{Sound};
+ghost use Rattle.load_bounds.specs.Bounds.{sideOf, heldOf};
 ghost use Rattle.load_model.specs.Load.{lent};
-ghost use Rattle.load_shared.specs.Beside.{sideOf, heldOf, needOf, standsAt, Fits, FillsOwn, PlacesBeside, LoadsBeside, Unloads};
-
-// A task's bounds: the rows that it holds of each table, and the values. All 0: it holds nothing.
-pub struct Held {
-    pub questions: usize,
-    pub patterns: usize,
-    pub trees: usize,
-    pub records: usize,
-    pub values: usize,
-}
-
-// The bounds of a task that holds nothing.
-pub fn nobody() -> Held
-    ensures { λ r. ⌜ heldOf r ≡ nothing ⌝ }
-{
-    Held {
-        questions: 0,
-        patterns: 0,
-        trees: 0,
-        records: 0,
-        values: 0,
-    }
-}
-
-// The first of a task's n rows in a table of so many.
-pub fn first_row(top: bool, rows: usize, n: usize) -> usize
-    requires { ⌜ n ≤ rows ⌝ }
-    ensures { λ r. ⌜ (r ≡ firstRow (sideOf top) rows n) × (r + n ≤ rows) ⌝ }
-{
-    if top { rows - n } else { 0 }
-}
-
-// Whether a table of so many rows has a and b of them, one beside the other.
-fn beside(rows: usize, a: usize, b: usize) -> bool
-    ensures { λ r. ⌜ r ≡ leb (a + b) rows ⌝ }
-{
-    if rows < b {
-        return false;
-    }
-    a <= rows - b
-}
-
-// Whether bounds stand beside each other in tables of so many numbers.
-pub fn stand(
-    a: Held,
-    b: Held,
-    questions: usize,
-    patterns: usize,
-    trees: usize,
-    records: usize,
-    values: usize,
-) -> bool
-    ensures { λ r. ⌜ r ≡ standsAt (heldOf a) (heldOf b) questions patterns trees records values ⌝ }
-{
-    if !beside(questions / QUESTION_ROW, a.questions, b.questions) {
-        return false;
-    }
-    if !beside(patterns / PATTERN_ROW, a.patterns, b.patterns) {
-        return false;
-    }
-    if !beside(trees / TREE_ROW, a.trees, b.trees) {
-        return false;
-    }
-    if !beside(records / RECORD_ROW, a.records, b.records) {
-        return false;
-    }
-    beside(values, a.values, b.values)
-}
-
-// Whether a task holds a model: some number is not 0.
-pub fn holding(h: Held) -> bool
-    ensures { λ r. ⌜ r ≡ holds (heldOf h) ⌝ }
-{
-    if h.questions != 0 {
-        return true;
-    }
-    if h.patterns != 0 {
-        return true;
-    }
-    if h.trees != 0 {
-        return true;
-    }
-    if h.records != 0 {
-        return true;
-    }
-    h.values != 0
-}
-
-// The rows that a plan needs.
-pub fn need(p: Plan) -> Held
-    requires { ⌜ p .entries * p .width < 2 ^ 63 ⌝ }
-    ensures { λ r. ⌜ heldOf r ≡ needOf p ⌝ }
-{
-    let values = (p.entries * p.width) as usize;
-    Held {
-        questions: p.questions,
-        patterns: p.patterns,
-        trees: p.trees,
-        records: p.records,
-        values: values,
-    }
-}
+ghost use Rattle.load_shared.specs.Beside.{Fits, FillsOwn, PlacesBeside, LoadsBeside};
 
 // A plan into a task's own rows.
 fn fill_own(
@@ -231,54 +130,4 @@ pub fn load(
             work,
         ),
     }
-}
-
-// Zeros from a up to e.
-fn clear(t: &mut [u64], a: usize, e: usize)
-    requires { ⌜ (a ≤ e) × (e ≤ length (now t)) ⌝ }
-    ensures { λ r. ⌜ now (t .exit) ≡ sets (now (t .entry)) a (replicate (e - a) 0) ⌝ }
-{
-    zero(&mut t[a..e]);
-}
-
-// Zeroes a task's rows. False, and nothing changed, where bounds overlap or pass a table (24).
-pub fn unload(
-    top: bool,
-    mine: Held,
-    other: Held,
-    questions: &mut [u64],
-    patterns: &mut [u64],
-    trees: &mut [u64],
-    records: &mut [u64],
-    values: &mut [u64],
-) -> bool
-    ensures { λ r. ⌜ Unloads (sideOf top) (heldOf mine) (heldOf other) (now (questions .entry)) (now (patterns .entry)) (now (trees .entry)) (now (records .entry)) (now (values .entry)) r (now (questions .exit)) (now (patterns .exit)) (now (trees .exit)) (now (records .exit)) (now (values .exit)) ⌝ }
-{
-    if !stand(
-        mine,
-        other,
-        questions.len(),
-        patterns.len(),
-        trees.len(),
-        records.len(),
-        values.len(),
-    ) {
-        return false;
-    }
-    let q = QUESTION_ROW * first_row(top, questions.len() / QUESTION_ROW, mine.questions);
-    let q_end = q + QUESTION_ROW * mine.questions;
-    let a = PATTERN_ROW * first_row(top, patterns.len() / PATTERN_ROW, mine.patterns);
-    let a_end = a + PATTERN_ROW * mine.patterns;
-    let t = TREE_ROW * first_row(top, trees.len() / TREE_ROW, mine.trees);
-    let t_end = t + TREE_ROW * mine.trees;
-    let r = RECORD_ROW * first_row(top, records.len() / RECORD_ROW, mine.records);
-    let r_end = r + RECORD_ROW * mine.records;
-    let v = first_row(top, values.len(), mine.values);
-    let v_end = v + mine.values;
-    clear(questions, q, q_end);
-    clear(patterns, a, a_end);
-    clear(trees, t, t_end);
-    clear(records, r, r_end);
-    clear(values, v, v_end);
-    true
 }

@@ -18,7 +18,9 @@ use Rattle.error.specs.declared.Refusal.the-variants as refusal
 use Rattle.load_model.specs.Load.{Tables as Lent}
 use Rattle.load_apart.specs.Loads.{Answer, Done, Refused, NoRoom, Overlap, Holding, Model, Planned, refused, model, heldAfter, untouched, filledIn, besideFor, sharedOf, unloadOf}
 use Rattle.load_apart.proofs.Apart as apart
-use Rattle.load_shared.specs.Beside.{tablesOf, rowsOf, Tabled}
+use Rattle.load_shared.specs.Beside.{rowsOf}
+use Rattle.load_bounds.specs.Bounds.{tablesOf}
+use Rattle.load_unload.specs.Unloads.{Tabled}
 use Rattle.walk.specs.Walking.{walkOf}
 use Rattle.walk_leaves.specs.Checks.{leavesFit}
 use Rattle.face_model.specs.declared.Rows.{Rows}

@@ -49,7 +49,8 @@ use Rattle.load_model.specs.declared.Loaded.{Loaded}
 use Rattle.load_model.specs.declared.Loaded.the-variants as ending
 use Rattle.load_apart.proofs.Tests.{both, stands-is, is-stands}
 use Rattle.load_apart.proofs.Apart.{exactly-seen}
-use Rattle.load_shared.specs.Beside.{needOf, rowsOf, withWork, putBack, placedIn, roomBy, besideFor, besideOf}
+use Rattle.load_shared.specs.Beside.{rowsOf, withWork, putBack, placedIn, roomBy, besideFor, besideOf}
+use Rattle.load_bounds.specs.Bounds.{needOf}
 use Rattle.load_shared.proofs.Laws.{room-true}
 use Rattle.face_model.specs.Answers.{rowsBy}
 use Rattle.face_load.specs.Answers.{filledBy, filledIn, filledOf}

@@ -14,7 +14,9 @@ use Rattle.written.specs.Sharing.{Table, questions, patterns, trees, records, v
 use Rattle.head_de.proofs.Sound.{Bytes}
 use Rattle.load_model.specs.Load.{Tables as Lent}
 use Rattle.load_apart.proofs.Tests.{both, stands-is, is-stands, holds-nothing, nothing-holds}
-use Rattle.load_shared.specs.Beside.{tablesOf, rowsOf, Tabled}
+use Rattle.load_shared.specs.Beside.{rowsOf}
+use Rattle.load_bounds.specs.Bounds.{tablesOf}
+use Rattle.load_unload.specs.Unloads.{Tabled}
 use Rattle.face_model.specs.declared.Rows.{Rows}
 use Rattle.face_load.specs.Answers as load
 use Rattle.face_load.specs.Answers.{Filled, filledOf}

@@ -87,7 +87,8 @@ use Rattle.write_text.specs.Text.{textOf as textOf-write-text-text}
 use Rattle.write_tables.specs.Answers.{judgedOf, bytesOf, measureOf}
 use Rattle.written.specs.Bytes.{part}
 use Rattle.written.specs.Sharing.{bottom, nothing, holds, stands, roomBeside}
-use Rattle.load_shared.specs.Beside.{standsAt, placedIn, besideOf}
+use Rattle.load_shared.specs.Beside.{placedIn, besideOf}
+use Rattle.load_bounds.specs.Bounds.{standsAt}
 use Rattle.written.specs.Writing.{figuresIn, spelledLine, spelledTree, spelledPatterns, spelledQuestion, spelled}
 use Rattle.written.specs.Record as record-of
 use Rattle.written.specs.Models as models

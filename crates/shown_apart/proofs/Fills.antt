@@ -34,7 +34,8 @@ use Rattle.load_plan.proofs.Laws.{Was, was, needs-sound}
 use Rattle.load_model.specs.Load.{answerFor, blocksOf, filled}
 use Rattle.load_model.proofs.Laws.{length-values}
 use Rattle.load_apart.specs.Loads.{linked, unlinked, Filled, Planned, Keeps, Whole, Zeroes, Fills, Every, none, one}
-use Rattle.load_shared.specs.Beside.{needOf, tablesOf, rowsOf, withWork}
+use Rattle.load_shared.specs.Beside.{rowsOf, withWork}
+use Rattle.load_bounds.specs.Bounds.{needOf, tablesOf}
 use Rattle.shown_text.proofs.Tables.{stored-length}
 use Rattle.face_open.specs.Answers.{judgedOf}
 use Rattle.face_model.specs.Answers.{whichOf}

@@ -11,7 +11,7 @@ use Rattle.load_apart.specs.Loads.{Refused, Model, Planned, model, After, Keeps
 use Rattle.load_apart.proofs.Apart as apart
 use Rattle.load_apart.proofs.Alone as alone
 use Rattle.load_apart.proofs.Alone.{AsAlone, Reached, SameRoom, Agree}
-use Rattle.load_shared.specs.Beside.{needOf}
+use Rattle.load_bounds.specs.Bounds.{needOf}
 use Rattle.shown_apart.specs.Real.{modelOf, plannedOf}
 use Rattle.shown_apart.proofs.Fills.{model-fills, words-fill}
 

@@ -26,7 +26,8 @@ use Rattle.load_apart.specs.Loads.{Answer, Done, Refused, NoRoom, Overlap, Hold
 use Rattle.load_apart.proofs.Tests.{stands-is, room-stands-same, holds-nothing}
 use Rattle.load_apart.proofs.Alone.{shared-held, shared-beside}
 use Rattle.load_apart.proofs.Apart.{unload-is}
-use Rattle.load_shared.specs.Beside.{needOf, tablesOf, rowsOf, withWork, putBack, placedIn, roomBy, besideOf}
+use Rattle.load_shared.specs.Beside.{rowsOf, withWork, putBack, placedIn, roomBy, besideOf}
+use Rattle.load_bounds.specs.Bounds.{needOf, tablesOf}
 use Rattle.load_shared.specs.Beside as beside
 use Rattle.face_open.specs.Answers.{judgedOf}
 use Rattle.face_model.specs.declared.Rows.{Rows}

@@ -17,7 +17,8 @@ use Rattle.load_model.specs.declared.Loaded.{Loaded}
 use Rattle.load_model.specs.declared.Loaded.the-variants as loaded
 use Rattle.load_model.specs.Load.{filled}
 use Rattle.load_apart.specs.Loads.{Answer, Done, Refused, NoRoom, Overlap, Holding, Linked, linked, unlinked, Model, Planned, refused, model}
-use Rattle.load_shared.specs.Beside.{needOf, rowsOf, withWork}
+use Rattle.load_shared.specs.Beside.{rowsOf, withWork}
+use Rattle.load_bounds.specs.Bounds.{needOf}
 use Rattle.face_open.specs.Answers.{judgedOf}
 use Rattle.face_model.specs.declared.Rows.{Rows}
 use Rattle.face_model.specs.Answers.{whichOf, noRows, rowsBy}

@@ -26,7 +26,8 @@ use Rattle.load_plan.specs.declared.Planned.the-variants as plan
 use Rattle.load_model.specs.declared.Loaded.{Loaded}
 use Rattle.load_model.specs.declared.Loaded.the-variants as loaded
 use Rattle.load_model.specs.Load.{Tables, lent, After, answerFor, untouched}
-use Rattle.load_shared.specs.Beside.{needOf, rowsOf, withWork, putBack, roomBy}
+use Rattle.load_shared.specs.Beside.{rowsOf, withWork, putBack, roomBy}
+use Rattle.load_bounds.specs.Bounds.{needOf}
 use Rattle.trail_link.specs.One.{oneEnd}
 use Rattle.trail_plan.specs.Plans.{treePlanned}
 use Rattle.trail_load.specs.Load.{treeFilledBy, treeFilled, treePlacedIn, treeBesideFor, treeBeside}

@@ -31,9 +31,10 @@ use Rattle.load_model.specs.declared.Loaded.the-variants as loaded
 use Rattle.load_model.specs.Load.{Tables, lent, roomFor, answerFor, keptTrees, untouched, Is}
 use Rattle.load_model.proofs.Laws.{length-values, room-is, take-short, same-lent}
 use Rattle.load_apart.proofs.Tests.{stands-is}
-use Rattle.load_shared.specs.declared.Held.{Held as Bounds}
-use Rattle.load_shared.specs.Beside.{needOf, heldOf, rowsOf, standsAt, Fits as Room, roomBy}
-use Rattle.load_shared.proofs.Laws.{stands-at}
+use Rattle.load_bounds.specs.declared.Held.{Held as Bounds}
+use Rattle.load_shared.specs.Beside.{rowsOf, Fits as Room, roomBy}
+use Rattle.load_bounds.specs.Bounds.{needOf, heldOf, standsAt}
+use Rattle.load_bounds.proofs.Laws.{stands-at}
 use Rattle.trail_link.specs.One.{Fits, oneResult, oneEnd, oneRow, OneFilled}
 use Rattle.trail_plan.specs.Plans.{treePlanned, SoundTree}
 use Rattle.trail_load.specs.Load.{ValueRoom, onlyBlock, treeFilled, treePlacedIn, treeBesideFor, treeBeside, FillsTree, FillsOwnTree, LoadsTree}

@@ -22,7 +22,8 @@ use Rattle.load_trees.specs.declared.Linked.{Linked}
 use Rattle.load_text.specs.Text.{wordsAt, kept}
 use Rattle.load_model.specs.declared.Loaded.{Loaded}
 use Rattle.load_model.specs.Load.{Tables, lent, After, answerFor, keptTrees, untouched, Is}
-use Rattle.load_shared.specs.Beside.{needOf, rowsOf, withWork, putBack, roomBy}
+use Rattle.load_shared.specs.Beside.{rowsOf, withWork, putBack, roomBy}
+use Rattle.load_bounds.specs.Bounds.{needOf}
 use Rattle.trail_link.specs.One.{oneResult, oneEnd, oneRow}
 use Rattle.trail_plan.specs.Plans.{treePlanned}
 

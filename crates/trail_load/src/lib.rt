@@ -2,16 +2,16 @@
 // records and the values of its entries. Stages: what the tree needs (`trail_plan`), whether the rows fit beside the other task's (20), then rows and linking (21 to 23).
 // Any bytes, any record, any bounds and tables of any length.
 use error::Refusal;
+use load_bounds::Held;
+use load_bounds::first_row;
+use load_bounds::need;
+use load_bounds::stand;
 use load_choose::Which;
 use load_model::Loaded;
 use load_model::answer;
 use load_plan::Plan;
 use load_plan::Planned;
 use load_plan::data_of;
-use load_shared::Held;
-use load_shared::first_row;
-use load_shared::need;
-use load_shared::stand;
 use load_trees::all_linked;
 use pdf_values::fill_values;
 use table_put::put_block;
@@ -33,7 +33,8 @@ ghost use Rattle.pdf_blocks.specs.Values.{valuesAt};
 ghost use Rattle.pdf_values.specs.Folded.{withBlocks};
 ghost use Rattle.head_words.specs.Words.{headerAt};
 ghost use Rattle.load_model.specs.Load.{lent, roomIn};
-ghost use Rattle.load_shared.specs.Beside.{sideOf, heldOf, Fits};
+ghost use Rattle.load_shared.specs.Beside.{Fits};
+ghost use Rattle.load_bounds.specs.Bounds.{sideOf, heldOf};
 ghost use Rattle.trail_plan.specs.Plans.{SoundTree};
 ghost use Rattle.trail_load.specs.Load.{ValueRoom, onlyBlock, FillsTree, FillsOwnTree, LoadsTree};
 

@@ -1,8 +1,8 @@
 -- `house_own::judge_own` meets its contract.
 use Prim.Native.Nat.{_*_}
 use native.Mathlib.Omega.{arith}
-use Rattle.load_shared.specs.Beside.{sideOf}
-use Rattle.load_shared.proofs.Laws.{cut-rows, cut-ones}
+use Rattle.load_bounds.specs.Bounds.{sideOf}
+use Rattle.load_bounds.proofs.Laws.{cut-rows, cut-ones}
 use Rattle.house_own.proofs.Laws.{own-loaded, own-rule, own-back}
 use borrow.Author.Needs.{needs}
 use Rattle.house_own.proofs.judge_own.Statement.{statement}

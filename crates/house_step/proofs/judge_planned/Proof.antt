@@ -1,7 +1,7 @@
 -- `house_step::judge_planned`: a load that is refused, or judged where it stands.
 use mathlib.Core.Path.{sym, _∙_}
 use Rattle.load_model.specs.Load.{lent}
-use Rattle.load_shared.specs.Beside.{sideOf, heldOf}
+use Rattle.load_bounds.specs.Bounds.{sideOf, heldOf}
 use Rattle.house_step.proofs.Laws.{loaded-in, step-refused, step-judged}
 use borrow.Author.Needs.{needs}
 use Rattle.house_step.proofs.judge_planned.Statement.{statement}

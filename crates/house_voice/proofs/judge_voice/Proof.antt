@@ -4,7 +4,7 @@ use Rattle.house_voice.proofs.judge_voice.Reads as reads
 use Rattle.house_voice.proofs.judge_voice.Lts as lts
 use Rattle.house_step.proofs.judge_next.Reads as judge-next-reads
 use Rattle.house_voice.proofs.first_of.Reads as first-of-reads
-use Rattle.load_shared.proofs.nobody.Reads as nobody-reads
+use Rattle.load_bounds.proofs.nobody.Reads as nobody-reads
 use Rattle.load_voice.proofs.next_model.Reads as next-model-reads
 use Rattle.trail_voice.proofs.number_of.Reads as number-of-reads
 

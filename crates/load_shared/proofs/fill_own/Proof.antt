@@ -2,8 +2,9 @@
 use Prim.Native.Nat.{_*_}
 use native.Mathlib.Omega.{arith}
 use Rattle.load_model.proofs.Laws.{small-values}
-use Rattle.load_shared.specs.Beside.{sideOf}
-use Rattle.load_shared.proofs.Laws.{cut-rows, cut-ones, parts-room, own-filled}
+use Rattle.load_bounds.specs.Bounds.{sideOf}
+use Rattle.load_shared.proofs.Laws.{parts-room, own-filled}
+use Rattle.load_bounds.proofs.Laws.{cut-rows, cut-ones}
 use borrow.Author.Needs.{needs}
 use Rattle.load_shared.proofs.fill_own.Statement.{statement}
 use Rattle.load_shared.proofs.fill_own.Tie as tie

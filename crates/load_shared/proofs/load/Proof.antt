@@ -4,7 +4,7 @@ use Rattle.head_words.specs.Words.{headerAt}
 use Rattle.load_plan.specs.Plans.{Sound}
 use Rattle.load_plan.proofs.Laws.{needs-sound}
 use Rattle.load_model.specs.Load.{lent}
-use Rattle.load_shared.specs.Beside.{sideOf, heldOf}
+use Rattle.load_bounds.specs.Bounds.{sideOf, heldOf}
 use Rattle.load_shared.proofs.Laws.{load-refused, load-model}
 use borrow.Author.Needs.{needs}
 use Rattle.load_shared.proofs.load.Statement.{statement}

@@ -2,7 +2,7 @@
 use native.Mathlib.Omega.{arith}
 use Rattle.load_model.specs.Load.{lent}
 use Rattle.load_model.proofs.Laws.{small-values}
-use Rattle.load_shared.specs.Beside.{sideOf, heldOf}
+use Rattle.load_bounds.specs.Bounds.{sideOf, heldOf}
 use Rattle.load_shared.proofs.Laws.{load-no-rows, load-no-lines, load-filled, load-fits}
 use borrow.Author.Needs.{needs}
 use Rattle.load_shared.proofs.load_planned.Statement.{statement}

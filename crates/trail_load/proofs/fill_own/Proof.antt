@@ -2,8 +2,9 @@
 use Prim.Native.Nat.{_*_}
 use native.Mathlib.Omega.{arith}
 use borrow.Rule.Slice.PartMut.{same-len-mid}
-use Rattle.load_shared.specs.Beside.{sideOf}
-use Rattle.load_shared.proofs.Laws.{cut-rows, cut-ones, parts-room, own-put}
+use Rattle.load_bounds.specs.Bounds.{sideOf}
+use Rattle.load_shared.proofs.Laws.{parts-room, own-put}
+use Rattle.load_bounds.proofs.Laws.{cut-rows, cut-ones}
 use Rattle.trail_load.specs.Load.{treeFilled, treePlacedIn}
 use Rattle.trail_load.proofs.Laws.{small-values}
 use borrow.Author.Needs.{needs}

@@ -6,7 +6,7 @@ use Rattle.trail_plan.specs.Plans.{SoundTree}
 use Rattle.trail_plan.proofs.Sound.{needs-sound}
 use Rattle.load_model.specs.Load.{lent}
 use Rattle.load_model.proofs.Laws.{part-short}
-use Rattle.load_shared.specs.Beside.{sideOf, heldOf}
+use Rattle.load_bounds.specs.Bounds.{sideOf, heldOf}
 use Rattle.trail_load.proofs.Laws.{small-values, load-refused, load-no-rows, load-no-lines, load-filled, load-fits}
 use borrow.Author.Needs.{needs}
 use Rattle.trail_load.proofs.load_tree.Statement.{statement}

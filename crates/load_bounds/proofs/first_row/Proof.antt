@@ -1,12 +1,12 @@
--- `load_shared::first_row`: on either side.
+-- `load_bounds::first_row`: on either side.
 use mathlib.Core.Path.{sym, ap}
 use mathlib.Core.Bool.{Bool}
 use native.Mathlib.Omega.{arith}
 use Rattle.written.specs.Sharing.{firstRow}
-use Rattle.load_shared.specs.Beside.{sideOf}
+use Rattle.load_bounds.specs.Bounds.{sideOf}
 use borrow.Author.Needs.{needs}
-use Rattle.load_shared.proofs.first_row.Statement.{statement}
-use Rattle.load_shared.proofs.first_row.Tie as tie
+use Rattle.load_bounds.proofs.first_row.Statement.{statement}
+use Rattle.load_bounds.proofs.first_row.Tie as tie
 
 sub-result : tie.Need-sub-result
 sub-result c = search needs

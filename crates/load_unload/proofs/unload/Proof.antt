@@ -1,11 +1,12 @@
--- `load_shared::unload`: zeros in the rows of each table.
+-- `load_unload::unload`: zeros in the rows of each table.
 use native.Mathlib.Omega.{arith}
 use Rattle.written.specs.Sharing.{questions, patterns, trees, records, values}
-use Rattle.load_shared.specs.Beside.{sideOf, heldOf}
-use Rattle.load_shared.proofs.Laws.{stood, not-stood, stood-rows, cut-rows, cut-ones, cleared-is, unload-not, unload-done}
+use Rattle.load_bounds.specs.Bounds.{sideOf, heldOf}
+use Rattle.load_bounds.proofs.Laws.{stood, not-stood, stood-rows, cut-rows, cut-ones}
+use Rattle.load_unload.proofs.Laws.{cleared-is, unload-not, unload-done}
 use borrow.Author.Needs.{needs}
-use Rattle.load_shared.proofs.unload.Statement.{statement}
-use Rattle.load_shared.proofs.unload.Tie as tie
+use Rattle.load_unload.proofs.unload.Statement.{statement}
+use Rattle.load_unload.proofs.unload.Tie as tie
 
 stand-requires : tie.Need-stand-requires
 stand-requires c κs = search needs

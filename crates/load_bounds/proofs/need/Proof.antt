@@ -1,8 +1,8 @@
--- `load_shared::need`: field by field.
+-- `load_bounds::need`: field by field.
 use borrow.Author.Needs.{needs}
-use Rattle.load_shared.proofs.Laws.{need-is}
-use Rattle.load_shared.proofs.need.Statement.{statement}
-use Rattle.load_shared.proofs.need.Tie as tie
+use Rattle.load_bounds.proofs.Laws.{need-is}
+use Rattle.load_bounds.proofs.need.Statement.{statement}
+use Rattle.load_bounds.proofs.need.Tie as tie
 
 mul-values : tie.Need-mul-values
 mul-values c = search needs

@@ -1,11 +1,11 @@
--- `load_shared::stand`: table by table.
+-- `load_bounds::stand`: table by table.
 use mathlib.Core.Path.{refl, sym, _∙_}
 use native.Mathlib.Nat.{div-one}
 use borrow.Author.Tests.{not-true, not-false}
-use Rattle.load_shared.specs.Beside.{standsAt}
+use Rattle.load_bounds.specs.Bounds.{standsAt}
 use borrow.Author.Needs.{needs}
-use Rattle.load_shared.proofs.stand.Statement.{statement}
-use Rattle.load_shared.proofs.stand.Tie as tie
+use Rattle.load_bounds.proofs.stand.Statement.{statement}
+use Rattle.load_bounds.proofs.stand.Tie as tie
 
 beside-requires : tie.Need-beside-requires
 beside-requires c κs = search needs

@@ -1,9 +1,9 @@
--- `load_shared::clear`: the part comes back zero.
+-- `load_unload::clear`: the part comes back zero.
 use native.Mathlib.Omega.{arith}
-use Rattle.load_shared.proofs.Laws.{cleared-part}
+use Rattle.load_unload.proofs.Laws.{cleared-part}
 use borrow.Author.Needs.{needs}
-use Rattle.load_shared.proofs.clear.Statement.{statement}
-use Rattle.load_shared.proofs.clear.Tie as tie
+use Rattle.load_unload.proofs.clear.Statement.{statement}
+use Rattle.load_unload.proofs.clear.Tie as tie
 
 mul-zero : tie.Need-mul-zero
 mul-zero c = omega (arith, c .before .good, c .before .pre .0, c .before .pre .1)

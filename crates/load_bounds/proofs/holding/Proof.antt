@@ -1,9 +1,9 @@
--- `load_shared::holding`: number by number.
+-- `load_bounds::holding`: number by number.
 use mathlib.Core.Path.{refl}
 use borrow.Author.Tests.{eq-eqb, ne-eqb}
 use Rattle.written.specs.Sharing.{holds}
-use Rattle.load_shared.proofs.holding.Statement.{statement}
-use Rattle.load_shared.proofs.holding.Tie as tie
+use Rattle.load_bounds.proofs.holding.Statement.{statement}
+use Rattle.load_bounds.proofs.holding.Tie as tie
 
 returns : tie.Need-returns
 unfolding holds

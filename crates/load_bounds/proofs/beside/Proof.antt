@@ -1,11 +1,11 @@
--- `load_shared::beside`: one sum, and no overflow.
+-- `load_bounds::beside`: one sum, and no overflow.
 use mathlib.Core.Path.{sym}
 use Prim.Native.Nat.{_+_}
 use native.Mathlib.Omega.{arith}
 use borrow.Author.Tests.{lt-leb}
-use Rattle.load_shared.proofs.Laws.{beside-is}
-use Rattle.load_shared.proofs.beside.Statement.{statement}
-use Rattle.load_shared.proofs.beside.Tie as tie
+use Rattle.load_bounds.proofs.Laws.{beside-is}
+use Rattle.load_bounds.proofs.beside.Statement.{statement}
+use Rattle.load_bounds.proofs.beside.Tie as tie
 
 returns : tie.Need-returns
 returns c = let a = c .before .args in sym (lt-leb (a .a + a .b) (a .rows) (omega (arith, c .if1 .taken)))
