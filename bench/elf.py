@@ -53,6 +53,10 @@ class Object:
                 out[self.kind(s)] += s['sh_size']
         return out
 
+    def loaded(self):
+        """Bytes of all that is loaded, variables and frames for unwinding too."""
+        return sum(s['sh_size'] for s in self.sections if s['sh_flags'] & SH_FLAGS.SHF_ALLOC)
+
     def exported(self):
         return sorted(n for n, y in self.functions.items() if not y['local'] and y['section'] != UNDEFINED)
 

@@ -15,7 +15,7 @@ const char *rig_usage(void) {
 }
 
 static int wrong(const char *sentence) {
-    fprintf(stderr, "larsavim: %s\n%s", sentence, usage);
+    fprintf(stderr, "larsavim: %s\nusage:\n%s", sentence, usage);
     return TROUBLE;
 }
 

@@ -405,7 +405,7 @@ def bare(t, core, source, library, name):
 def loaded_bytes(path):
     """Code, constants, variables and what is zero at the start, of an object."""
     o = elf.Object(elf.objects(path)[0])
-    return sum(s['size'] for s in o.sections if s['flags'] & 2)
+    return o.loaded()
 
 
 def passes_on(t, core, source, library, name):
