@@ -10,10 +10,10 @@ use Rattle.written.specs.Bytes.{same}
 use Rattle.laws.specs.Every.{all}
 use Rattle.laws.proofs.Every.{Passing, passing-none, passing-on, passing-off, passing-end}
 use Rattle.head_record.specs.Empty.{noSpan}
-use Rattle.head_record.specs.declared.Span.{Span}
+use Rattle.text_parts.specs.declared.Span.{Span}
 use Rattle.head_words.specs.Words.{wordAt, spanAt, globalAt, headerAt}
 use Rattle.head_words.proofs.Items.{getD-run}
-use Rattle.head_brackets.specs.Rows.{bytesOf}
+use Rattle.text_parts.specs.Parts.{bytesOf}
 use Rattle.house_types.specs.Types.{typeName, newName, typesOnce, typesRule}
 
 module _ (s w : List ℕ) where

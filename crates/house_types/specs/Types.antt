@@ -8,7 +8,7 @@ use Rattle.written.specs.Bytes.{same}
 use Rattle.laws.specs.Every.{all}
 use Rattle.head_record.specs.Empty.{noSpan}
 use Rattle.head_record.specs.declared.Header.{Header}
-use Rattle.head_brackets.specs.Rows.{bytesOf}
+use Rattle.text_parts.specs.Parts.{bytesOf}
 
 -- the i-th name
 abbrev pub typeName : List ℕ → Header → ℕ → List ℕ

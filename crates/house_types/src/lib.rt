@@ -1,9 +1,9 @@
 // The house's two rules on a voice as a whole (02, Wish 11): NUM_STREAMS is the number of names in STREAM_TYPE (30), and no name stands twice there (31).
-use head_brackets::same_part;
-use head_record::Span;
 use head_words::NUM_STREAMS;
 use head_words::STREAM_TYPE;
 use head_words::STREAM_TYPE_COUNT;
+use text_parts::Span;
+use text_parts::same_part;
 ghost use mathlib.Core.Path.{_≡_};
 ghost use Prim.Native.Nat.{_+_, _*_, _≤_, _<_};
 ghost use lib.ListN.{length};

@@ -1,19 +1,21 @@
+-- `house_voice::first_of`: what is known, or the rule behind it.
+use Rattle.house_voice.proofs.Laws.{first-kept, first-none, first-new}
 use Rattle.house_voice.proofs.first_of.Statement.{statement}
 use Rattle.house_voice.proofs.first_of.Tie as tie
-use Rattle.house_voice.proofs.first_of.Reads as reads
-use Rattle.house_voice.proofs.first_of.Lts as lts
 
--- src/lib.rt:37:9
 returns : tie.Need-returns
-returns c = ?
+returns c = first-kept _ _ _ (c .if1 .taken)
 
--- src/lib.rt:40:9
 returns-2 : tie.Need-returns-2
-returns-2 c = ?
+returns-2 c = first-none _ _ _ (c .before .if1 .left) (c .if2 .taken)
 
--- src/lib.rt:33:1
 returns-3 : tie.Need-returns-3
-returns-3 c = ?
+returns-3 c = first-new _ _ _ (c .before .if1 .left) (c .if2 .left)
 
 pub first-of-spec : {M : Type 1} → statement M
-first-of-spec = tie.close (tie.spec returns returns-2 returns-3)
+first-of-spec =
+    tie.close
+    (tie.spec
+    returns
+    returns-2
+    returns-3)
