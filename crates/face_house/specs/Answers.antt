@@ -21,7 +21,7 @@ use Rattle.house_voice.specs.Voice.{After as VoiceAfter, voiceOf}
 use Rattle.house_voice.specs.declared.Broken.{Broken}
 use Rattle.house_voice.specs.declared.VoiceJudged.{VoiceJudged}
 use Rattle.house_voice.specs.declared.VoiceJudged.the-variants as voice
-use Rattle.face_open.specs.declared.Said.{Said}
+use Rattle.face_record.specs.declared.Said.{Said}
 use Rattle.face_open.specs.Answers.{openSaid, openWords}
 use Rattle.face_shared.specs.Answers.{heldAt, sideAt, standing}
 use Rattle.face_house.specs.declared.House.{House}

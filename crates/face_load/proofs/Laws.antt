@@ -5,8 +5,8 @@ use mathlib.Core.List.{List}
 use Prim.Native.Nat.{ℕ}
 use Rattle.head_words.specs.Words.{headerAt}
 use Rattle.load_choose.specs.declared.Which.{Which}
-use Rattle.face_open.specs.Answers.{judgedOf}
-use Rattle.face_open.proofs.Laws.{fit, unfit}
+use Rattle.face_record.specs.Answers.{judgedOf}
+use Rattle.face_record.proofs.Laws.{fit, unfit}
 use Rattle.written.specs.Sharing.{Side, Held}
 use Rattle.load_model.specs.Load.{Tables}
 use Rattle.load_shared.specs.Beside.{besideOf, LoadsBeside}

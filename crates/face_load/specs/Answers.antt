@@ -6,7 +6,7 @@ use mathlib.Core.List.{List}
 use Prim.Native.Nat.{ℕ}
 use lib.Dec.{eqb}
 use Rattle.head_words.specs.Words.{headerAt}
-use Rattle.face_open.specs.Answers.{judgedOf}
+use Rattle.face_record.specs.Answers.{judgedOf}
 use Rattle.written.specs.Sharing.{Side, Held}
 use Rattle.load_model.specs.Load.{Tables, After}
 use Rattle.load_shared.specs.Beside.{besideOf}

@@ -1,7 +1,7 @@
 // A load by the words of a record into one task's rows, its answer in numbers (host/larsavim.h). Any file, any words, any bounds, any tables, any numbers.
 use face_model::Rows;
 use face_model::which_of;
-use face_open::judged;
+use face_record::judged;
 use load_bounds::Held;
 use load_model::Loaded;
 use load_shared::load;

@@ -11,8 +11,8 @@ use Rattle.error.specs.Numbers.{numberOf, placeOf, lineOf}
 use Rattle.error.specs.declared.Refusal.{Refusal}
 use Rattle.head_record.specs.declared.Header.{Header}
 use Rattle.head_words.specs.Words.{headerAt}
-use Rattle.face_open.specs.Answers.{judgedOf}
-use Rattle.face_open.proofs.Laws.{fit, unfit}
+use Rattle.face_record.specs.Answers.{judgedOf}
+use Rattle.face_record.proofs.Laws.{fit, unfit}
 use Rattle.load_choose.specs.declared.Which.{Which}
 use Rattle.load_choose.specs.declared.Which.the-variants.{Duration, Stream, Gv}
 use Rattle.load_plan.specs.Plans.{dataOf, planned}

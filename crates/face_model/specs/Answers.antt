@@ -6,7 +6,7 @@ use lib.Dec.{ltb, eqb}
 use lib.IntN.{ℤ}
 use Rattle.error.specs.Numbers.{numberOf, placeOf, lineOf}
 use Rattle.head_words.specs.Words.{headerAt}
-use Rattle.face_open.specs.Answers.{judgedOf}
+use Rattle.face_record.specs.Answers.{judgedOf}
 use Rattle.load_choose.specs.declared.Which.{Which}
 use Rattle.load_choose.specs.declared.Which.the-variants.{Duration, Stream, Gv}
 use Rattle.load_plan.specs.Plans.{planned}

@@ -1,6 +1,6 @@
 // The calls on a model and on loaded tables, their answers in numbers (host/larsavim.h): what a model needs, a load, a walk. The exports of `larsavim` write
 // these answers out. Any file, any words, any tables, any numbers.
-use face_open::judged;
+use face_record::judged;
 use load_choose::Which;
 use load_plan::Plan;
 use load_plan::Planned;

@@ -15,7 +15,8 @@ use Rattle.head_lines.specs.declared.Verdict.{Verdict}
 use Rattle.head_lines.specs.declared.Verdict.the-variants.{Accepted, Refused}
 use Rattle.head_words.specs.Words.{headerWords}
 use Rattle.head_open.specs.Open.{openOf}
-use Rattle.face_open.specs.Answers.{said, openSaidBy, openSaid, openWordsBy, openWords}
+use Rattle.face_open.specs.Answers.{openSaidBy, openSaid, openWordsBy, openWords}
+use Rattle.face_record.specs.Answers.{said}
 
 pub above-zero : (r : Refusal) → 0 < numberOf r
 above-zero refusal.Split = omega arith

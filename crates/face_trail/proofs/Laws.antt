@@ -25,7 +25,7 @@ use Rattle.trail_voice.specs.declared.VoiceTrees.{VoiceTrees}
 use Rattle.trail_voice.specs.declared.VoiceTrees.the-variants.{Trees, Refused}
 use Rattle.trail_voice.proofs.Laws.{counted}
 use Rattle.face_open.specs.Answers.{openSaid, openWords}
-use Rattle.face_open.specs.declared.Said.{Said}
+use Rattle.face_record.specs.declared.Said.{Said}
 use Rattle.face_trail.specs.Answers.{wrote, hasRoom, allRows, trailerBytes, writtenBy, writtenOf, leftBy, writtenLeft, trailerBy, trailerSaid, trailerLeft, found, summedOf, rowsStand, rowsFound, foundBy, foundOf, trailedBy, trailedSaid}
 use Rattle.face_trail.specs.declared.Written.{Written}
 use Rattle.face_trail.specs.declared.Found.{Found}

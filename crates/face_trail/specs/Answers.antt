@@ -18,7 +18,7 @@ use Rattle.trail_voice.specs.Voice.{voiceRows, voiceTrees}
 use Rattle.trail_voice.specs.declared.VoiceTrees.{VoiceTrees}
 use Rattle.trail_voice.specs.declared.VoiceTrees.the-variants.{Trees, Refused}
 use Rattle.face_open.specs.Answers.{openSaid, openWords}
-use Rattle.face_open.specs.declared.Said.{Said}
+use Rattle.face_record.specs.declared.Said.{Said}
 use Rattle.face_trail.specs.declared.Written.{Written}
 use Rattle.face_trail.specs.declared.Found.{Found}
 

@@ -10,8 +10,8 @@ use Rattle.load_model.specs.Load.{Tables}
 use Rattle.load_model.specs.declared.Loaded.{Loaded}
 use Rattle.load_shared.specs.Beside.{rowsOf}
 use Rattle.trail_load.specs.Load.{treeBeside, LoadsTree}
-use Rattle.face_open.specs.Answers.{judgedOf}
-use Rattle.face_open.proofs.Laws.{fit, unfit}
+use Rattle.face_record.specs.Answers.{judgedOf}
+use Rattle.face_record.proofs.Laws.{fit, unfit}
 use Rattle.face_model.specs.declared.Rows.{Rows}
 use Rattle.face_model.specs.Answers.{whichOf, noRows, rowsBy}
 use Rattle.face_load.specs.Answers.{Filled, filledBy, untouched}

@@ -9,7 +9,7 @@ use Rattle.written.specs.Sharing.{Side, Held, holds}
 use Rattle.load_model.specs.Load.{Tables}
 use Rattle.load_shared.specs.Beside.{rowsOf}
 use Rattle.trail_load.specs.Load.{treeBeside}
-use Rattle.face_open.specs.Answers.{judgedOf}
+use Rattle.face_record.specs.Answers.{judgedOf}
 use Rattle.face_model.specs.declared.Rows.{Rows}
 use Rattle.face_model.specs.Answers.{whichOf}
 use Rattle.face_load.specs.Answers.{Filled, filledBy, untouched, Is}

@@ -5,7 +5,7 @@ use face_load::no_rows;
 use face_load::rows_of;
 use face_model::Rows;
 use face_model::which_of;
-use face_open::judged;
+use face_record::judged;
 use face_shared::bounds;
 use face_shared::standing;
 use load_bounds::Held;

@@ -2,7 +2,7 @@
 use mathlib.Core.Path.{_≡_, sym, _∙_}
 use mathlib.Core.List.{List}
 use Prim.Native.Nat.{ℕ}
-use Rattle.face_open.specs.Answers.{commentSaid, getSaid, pairSaid}
+use Rattle.face_record.specs.Answers.{commentSaid, getSaid, pairSaid}
 use Rattle.face_model.specs.Answers.{neededOf, endedOf}
 use Rattle.load_model.specs.Load.{Tables}
 use Rattle.larsavim.specs.Face.{saidNumbers, partNumbers, pairNumbers, neededNumbers, endedNumbers, Answers, Opens, Comments, Gets, Pairs, Needs, Loads, Walks, Leaves}

@@ -7,9 +7,9 @@ use Prim.Native.Nat.{ℕ, _<_}
 use lib.Dec.{ltb}
 use lib.ListN.{length, getD}
 use lib.Seq.{sets}
-use Rattle.face_open.specs.declared.Said.{Said}
-use Rattle.face_open.specs.declared.Part.{Part}
-use Rattle.face_open.specs.declared.Pair.{Pair}
+use Rattle.face_record.specs.declared.Said.{Said}
+use Rattle.face_record.specs.declared.Part.{Part}
+use Rattle.face_record.specs.declared.Pair.{Pair}
 use Rattle.face_model.specs.declared.Needed.{Needed}
 use Rattle.face_model.specs.declared.Rows.{Rows}
 use Rattle.face_model.specs.declared.Ended.{Ended}
@@ -17,7 +17,8 @@ use Rattle.head_words.specs.Words.{flagWord}
 use Rattle.written.specs.Sharing.{bottom, nothing}
 use Rattle.load_model.specs.Load.{Tables}
 use Rattle.walk_leaves.specs.Checks.{leavesFit}
-use Rattle.face_open.specs.Answers.{openSaid, openWords, commentSaid, getSaid, pairSaid}
+use Rattle.face_open.specs.Answers.{openSaid, openWords}
+use Rattle.face_record.specs.Answers.{commentSaid, getSaid, pairSaid}
 use Rattle.face_model.specs.Answers.{neededOf, endedOf}
 use Rattle.face_load.specs.Answers.{filledOf}
 

@@ -11,8 +11,8 @@ use lib.Seq.{sets, length-sets}
 use Rattle.written.specs.Record.{Header}
 use Rattle.head_record.specs.Record.{headerRecord}
 use Rattle.shown_words.proofs.Back.{written-flags}
-use Rattle.face_open.specs.Answers.{judgedOf}
-use Rattle.face_open.proofs.Laws.{judged-fit}
+use Rattle.face_record.specs.Answers.{judgedOf}
+use Rattle.face_record.proofs.Laws.{judged-fit}
 use Rattle.face_model.specs.Answers as face
 use Rattle.load_choose.specs.declared.Which.{Which}
 use Rattle.load_choose.specs.declared.Which.the-variants.{Duration, Stream, Gv}

@@ -20,8 +20,9 @@ use Rattle.head_open.specs.Open.{openOf, refusedWith}
 use Rattle.head_open.specs.declared.Opened.{Opened}
 use Rattle.shown_open.proofs.Opened.{OpenAnswer, open-sound}
 use Rattle.shown_open.proofs.Opened as answer
-use Rattle.face_open.specs.declared.Said.{Said}
-use Rattle.face_open.specs.Answers.{said, openSaidBy, openSaid, openWordsBy, openWords}
+use Rattle.face_record.specs.declared.Said.{Said}
+use Rattle.face_open.specs.Answers.{openSaidBy, openSaid, openWordsBy, openWords}
+use Rattle.face_record.specs.Answers.{said}
 use Rattle.larsavim.specs.Face.{answered, written, left, saidNumbers, Opens}
 use Rattle.face_trail.proofs.Above.{above-zero}
 use Rattle.promises.proofs.Moved.{moved₃}

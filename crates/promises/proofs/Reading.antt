@@ -18,10 +18,10 @@ use Rattle.head_record.specs.Record.{there, spanOr, globalRecord, headerRecord}
 use Rattle.head_record.specs.declared.Header.{Header}
 use Rattle.head_words.specs.Words.{wordAt, flagAt, isFlag, flagsFit, headerWords, headerAt, globalAt}
 use Rattle.head_words.proofs.Lengths.{length-header}
-use Rattle.face_open.specs.declared.Part.{Part}
-use Rattle.face_open.specs.declared.Said.{Said}
-use Rattle.face_open.specs.declared.Pair.{Pair}
-use Rattle.face_open.specs.Answers.{commentSaid, commentBy, commentIn, partOf, getSaid, getBy, pairSaid, pairBy, said, pairOf}
+use Rattle.face_record.specs.declared.Part.{Part}
+use Rattle.face_record.specs.declared.Said.{Said}
+use Rattle.face_record.specs.declared.Pair.{Pair}
+use Rattle.face_record.specs.Answers.{commentSaid, commentBy, commentIn, partOf, getSaid, getBy, pairSaid, pairBy, said, pairOf}
 use Rattle.larsavim.specs.Face.{answered, written, partNumbers, saidNumbers, pairNumbers, Comments, Gets, Pairs}
 use Rattle.shown_words.proofs.Shaped.{record-back}
 use Rattle.shown_words.proofs.Back.{written-flags}

@@ -32,7 +32,7 @@ use Rattle.load_model.specs.declared.Loaded.the-variants as loaded
 use Rattle.load_shared.specs.Beside.{rowsOf, roomBy}
 use Rattle.trail_plan.specs.Plans.{treePlanned}
 use Rattle.trail_load.specs.Load.{treePlacedIn, treeBesideFor, treeBeside}
-use Rattle.face_open.specs.Answers.{judgedOf}
+use Rattle.face_record.specs.Answers.{judgedOf}
 use Rattle.face_model.specs.declared.Rows.{Rows}
 use Rattle.face_model.specs.Answers.{whichOf as whichAt, noRows, rowsBy}
 use Rattle.face_load.specs.Answers.{Filled, filledBy, untouched}

@@ -37,7 +37,7 @@ use Rattle.load_apart.specs.Loads.{linked, unlinked, Filled, Planned, Keeps, Wh
 use Rattle.load_shared.specs.Beside.{rowsOf, withWork}
 use Rattle.load_bounds.specs.Bounds.{needOf, tablesOf}
 use Rattle.shown_text.proofs.Tables.{stored-length}
-use Rattle.face_open.specs.Answers.{judgedOf}
+use Rattle.face_record.specs.Answers.{judgedOf}
 use Rattle.face_model.specs.Answers.{whichOf}
 use Rattle.shown_apart.specs.Real.{endingOf, modelOf, plannedBy, unfit, plannedOf}
 

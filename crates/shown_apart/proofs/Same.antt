@@ -29,7 +29,7 @@ use Rattle.load_apart.proofs.Apart.{unload-is}
 use Rattle.load_shared.specs.Beside.{rowsOf, withWork, putBack, placedIn, roomBy, besideOf}
 use Rattle.load_bounds.specs.Bounds.{needOf, tablesOf}
 use Rattle.load_shared.specs.Beside as beside
-use Rattle.face_open.specs.Answers.{judgedOf}
+use Rattle.face_record.specs.Answers.{judgedOf}
 use Rattle.face_model.specs.declared.Rows.{Rows}
 use Rattle.face_model.specs.Answers.{whichOf, noRows, rowsBy}
 use Rattle.face_load.specs.Answers.{Filled, filledBy, filledIn as filledWords, filledOf}

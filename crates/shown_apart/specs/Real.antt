@@ -19,7 +19,7 @@ use Rattle.load_model.specs.Load.{filled}
 use Rattle.load_apart.specs.Loads.{Answer, Done, Refused, NoRoom, Overlap, Holding, Linked, linked, unlinked, Model, Planned, refused, model}
 use Rattle.load_shared.specs.Beside.{rowsOf, withWork}
 use Rattle.load_bounds.specs.Bounds.{needOf}
-use Rattle.face_open.specs.Answers.{judgedOf}
+use Rattle.face_record.specs.Answers.{judgedOf}
 use Rattle.face_model.specs.declared.Rows.{Rows}
 use Rattle.face_model.specs.Answers.{whichOf, noRows, rowsBy}
 

@@ -17,9 +17,10 @@ use Rattle.head_lines.specs.declared.Verdict.the-variants.{Accepted}
 use Rattle.head_words.specs.Words.{wordAt, isFlag, groupFlags, flagsFit, headerWords, globalAt, headerAt}
 use Rattle.shown_words.proofs.Back.{Shaped, read-written, written-flags}
 use Rattle.head_open.specs.Open.{openOf, commentPart, commentOf}
-use Rattle.face_open.specs.declared.Part.{Part}
-use Rattle.face_open.specs.Answers.{openWordsBy, openWords, judgedOf, partOf, commentIn, commentSaid}
-use Rattle.face_open.proofs.Laws.{judged-fit}
+use Rattle.face_record.specs.declared.Part.{Part}
+use Rattle.face_open.specs.Answers.{openWordsBy, openWords}
+use Rattle.face_record.specs.Answers.{judgedOf, partOf, commentIn, commentSaid}
+use Rattle.face_record.proofs.Laws.{judged-fit}
 
 -- ---- opening
 

@@ -35,7 +35,8 @@ use Rattle.trail_voice.specs.Voice.{voiceRows, voiceTrees}
 use Rattle.trail_voice.specs.declared.VoiceTrees.{VoiceTrees}
 use Rattle.trail_voice.specs.declared.VoiceTrees.the-variants as trees
 use Rattle.trail_voice.proofs.Laws.{counted}
-use Rattle.face_open.specs.Answers.{said, openSaidBy, openSaid, openWordsBy, openWords}
+use Rattle.face_open.specs.Answers.{openSaidBy, openSaid, openWordsBy, openWords}
+use Rattle.face_record.specs.Answers.{said}
 use Rattle.face_trail.specs.Answers.{wrote, hasRoom, allRows, trailerBytes, writtenBy, writtenOf, leftBy, writtenLeft, trailerBy, trailerSaid, trailerLeft, found, summedOf, rowsStand, rowsFound, foundBy, foundOf, trailedBy, trailedSaid}
 use Rattle.face_trail.specs.declared.Written.{Written}
 use Rattle.face_trail.specs.declared.Found.{Found}

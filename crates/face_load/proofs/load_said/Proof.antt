@@ -2,7 +2,7 @@
 use mathlib.Core.Path.{sym, _∙_}
 use Rattle.load_model.specs.Load.{lent}
 use Rattle.load_bounds.specs.Bounds.{sideOf, heldOf}
-use Rattle.face_open.proofs.Laws.{judged-room}
+use Rattle.face_record.proofs.Laws.{judged-room}
 use Rattle.face_load.proofs.Laws.{load-fit, load-unfit}
 use borrow.Author.Needs.{needs}
 use Rattle.face_load.proofs.load_said.Statement.{statement}

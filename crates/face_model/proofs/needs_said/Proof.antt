@@ -2,7 +2,7 @@
 use mathlib.Core.Path.{sym, ap, _∙_}
 use native.Mathlib.Omega.{arith}
 use Rattle.error.specs.Numbers.{numberOf, placeOf, lineOf}
-use Rattle.face_open.proofs.Laws.{judged-room}
+use Rattle.face_record.proofs.Laws.{judged-room}
 use Rattle.face_model.specs.Answers.{notNeeded}
 use Rattle.face_model.proofs.Laws.{values-small, needs-model, needs-refused, needs-unfit}
 use borrow.Author.Needs.{needs}

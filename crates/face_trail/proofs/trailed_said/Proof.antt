@@ -3,7 +3,7 @@ use mathlib.Core.Path.{_≡_, sym, ap, subst, _∙_}
 use mathlib.Core.List.{List}
 use Prim.Native.Nat.{ℕ, _≤_}
 use lib.ListN.{length}
-use Rattle.face_open.specs.declared.Said.{Said}
+use Rattle.face_record.specs.declared.Said.{Said}
 use Rattle.face_trail.proofs.Above.{opened-long}
 use Rattle.face_trail.proofs.Laws.{trailed-unopened, trailed-opened}
 use borrow.Author.Needs.{needs}

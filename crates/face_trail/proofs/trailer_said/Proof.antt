@@ -4,7 +4,7 @@ use Prim.Native.Nat.{_≤_}
 use mathlib.Core.List.{List}
 use Prim.Native.Nat.{ℕ}
 use lib.ListN.{length}
-use Rattle.face_open.specs.declared.Said.{Said}
+use Rattle.face_record.specs.declared.Said.{Said}
 use Rattle.face_trail.proofs.Above.{opened-long}
 use Rattle.face_trail.proofs.Laws.{trailer-unopened, trailer-opened}
 use borrow.Author.Needs.{needs}

@@ -1,9 +1,9 @@
--- `face_open::judged`: by length and flags.
+-- `face_record::judged`: by length and flags.
 use mathlib.Core.Path.{sym, _∙_}
-use Rattle.face_open.proofs.Laws.{judged-few, judged-fit, judged-bad}
+use Rattle.face_record.proofs.Laws.{judged-few, judged-fit, judged-bad}
 use borrow.Author.Needs.{needs}
-use Rattle.face_open.proofs.judged.Statement.{statement}
-use Rattle.face_open.proofs.judged.Tie as tie
+use Rattle.face_record.proofs.judged.Statement.{statement}
+use Rattle.face_record.proofs.judged.Tie as tie
 
 returns : tie.Need-returns
 returns c = judged-few _ (c .if1 .taken)

@@ -1,10 +1,10 @@
--- `face_open::pair_said`: by how the words are judged.
+-- `face_record::pair_said`: by how the words are judged.
 use mathlib.Core.Path.{sym, _∙_}
 use native.Mathlib.Omega.{arith}
-use Rattle.face_open.proofs.Laws.{judged-room, pair-there, pair-past, pair-unfit}
+use Rattle.face_record.proofs.Laws.{judged-room, pair-there, pair-past, pair-unfit}
 use borrow.Author.Needs.{needs}
-use Rattle.face_open.proofs.pair_said.Statement.{statement}
-use Rattle.face_open.proofs.pair_said.Tie as tie
+use Rattle.face_record.proofs.pair_said.Statement.{statement}
+use Rattle.face_record.proofs.pair_said.Tie as tie
 
 judged-requires : tie.Need-judged-requires
 judged-requires c κs = search needs

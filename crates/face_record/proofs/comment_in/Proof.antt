@@ -1,10 +1,10 @@
--- `face_open::comment_in`: by where it stands.
+-- `face_record::comment_in`: by where it stands.
 use mathlib.Core.Path.{_∙_}
 use borrow.Author.Tests.{not-true, not-false}
-use Rattle.face_open.proofs.Laws.{in-none, in-past, in-long, in-file}
+use Rattle.face_record.proofs.Laws.{in-none, in-past, in-long, in-file}
 use borrow.Author.Needs.{needs}
-use Rattle.face_open.proofs.comment_in.Statement.{statement}
-use Rattle.face_open.proofs.comment_in.Tie as tie
+use Rattle.face_record.proofs.comment_in.Statement.{statement}
+use Rattle.face_record.proofs.comment_in.Tie as tie
 
 fallback-of-requires : tie.Need-fallback-of-requires
 fallback-of-requires c κs = search needs
