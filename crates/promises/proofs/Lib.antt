@@ -22,3 +22,5 @@ pub mod Trailing
 pub mod Longer
 pub mod Metering
 pub mod Trees
+pub mod Judging
+pub mod Turns
