@@ -1,21 +1,17 @@
 -- A load into the task's rows, judged where it is done: what the model there is, and that the first rule that it is judged to break is the first that it breaks.
-use mathlib.Core.Path.{_≡_, refl, sym, ap, _∙_, subst, subst₂}
-use mathlib.Core.List.{List, [], _∷_, flatten}
-use Prim.Native.Nat.{ℕ, _+_, _*_, _^_, _≤_, _<_}
-use native.Mathlib.Nat.{one-mul}
+use mathlib.Core.Path.{_≡_, refl, sym, ap, _∙_, subst, subst₂, fun-ext}
+use mathlib.Core.List.{List, [], _∷_}
+use Prim.Native.Nat.{ℕ, _^_, _≤_, _<_}
 use native.Mathlib.Omega.{arith}
 use lib.ListN.{length, getD, take}
 use Rattle.written.specs.Record as record-of
 use Rattle.written.specs.Said.{Layout}
 use Rattle.written.specs.Linking.{Row}
-use Rattle.written.specs.Tables.{TreeRows, folded}
+use Rattle.written.specs.Tables.{TreeRows}
 use Rattle.written.specs.Models as models
 use Rattle.written.specs.Loading.{ModelSaid}
-use Rattle.written.specs.Sharing.{Side, Table, questions, patterns, trees, records, values, Tables, Held, seen, placed, Exactly, Stand}
-use Rattle.written.proofs.Folded.{wide-text, wide-folded, length-folded}
+use Rattle.written.specs.Sharing.{Side, Table, questions, patterns, trees, records, values, Tables, Held, seen, placed, Stand}
 use Rattle.written_models.proofs.Numbers.{linking-number, no-model-number}
-use Rattle.table_rows.proofs.Stand.{length-flat}
-use Rattle.table_rows.proofs.Fours.{fours-model}
 use Rattle.error.specs.Numbers.{numberOf, placeOf, lineOf}
 use Rattle.error.specs.declared.Refusal.{Refusal}
 use Rattle.head_record.specs.Record.{headerRecord}
@@ -26,27 +22,28 @@ use Rattle.load_plan.specs.Plans.{planned}
 use Rattle.load_plan.specs.Plans as plans
 use Rattle.load_plan.specs.declared.Plan.{Plan}
 use Rattle.load_plan.specs.declared.Planned.the-variants.{Model}
-use Rattle.load_plan.proofs.Laws.{was, needs-sound}
+use Rattle.load_plan.proofs.Laws.{needs-sound}
 use Rattle.load_model.specs.Load.{Tables as Lent, After}
 use Rattle.load_model.specs.declared.Loaded.{Loaded}
 use Rattle.load_model.specs.declared.Loaded.the-variants as ending
 use Rattle.load_apart.proofs.Apart.{placed-own}
-use Rattle.load_shared.specs.Beside.{needOf, rowsOf, besideOf}
+use Rattle.load_shared.specs.Beside.{heldOf, rowsOf, besideOf}
 use Rattle.face_model.specs.Answers.{rowsBy}
 use Rattle.face_trail.proofs.Above.{above-zero}
 use Rattle.larsavim.specs.Face.{rowsNumbers}
 use Rattle.house_model.specs.Model.{ruleOf}
 use Rattle.house_own.specs.Own.{ruleIn}
-use Rattle.shown_text.proofs.Text.{text-questions, text-patterns}
+use Rattle.house_step.specs.Steps.{boundsOf}
 use Rattle.shown_load.proofs.Says.{S-short}
 use Rattle.shown_models.proofs.Chosen.{whichOf}
-use Rattle.shown_apart.proofs.Fills.{question-words, pattern-words}
 use Rattle.shown_house.proofs.Rules.{Judged, rule-judged}
+use Rattle.promises.specs.Loading.{doneNumbers}
 use Rattle.promises.specs.Sharing.{needed, modelRows, RoomBeside, BesideEnds, loaded, no-room, unlinked}
 use Rattle.promises.specs.Housing.{Loads, LoadRefused}
 use Rattle.promises.proofs.Plans.{PlanSaid, plan-said}
 use Rattle.promises.proofs.Beside.{said, reads, need-is, beside-ends}
 use Rattle.promises.proofs.Longer.{reads-one}
+use Rattle.promises.proofs.Turns.{rows-exact}
 
 module _ {s : List ℕ} (bytes : Bytes s) {h : record-of.Header} (says : record-of.Says s h) (m : models.Model) where
   abbrev D : List ℕ
@@ -72,16 +69,6 @@ module _ {s : List ℕ} (bytes : Bytes s) {h : record-of.Header} (says : record-
     many = ap length (f .block-says .row) ∙ length-rows (p .width) 0 (f .block-says .counts) ∙ f .block-says .per-tree
 
     module _ {ts rs : List Row} (linked : TreeRows (f .text .questions) 0 (f .text .trees) ts rs) where
-      -- its rows are as many as it needs
-      exact : Exactly (needed (said f)) (modelRows (said f) (f .layout) ts rs)
-      exact questions = sym (ap length (text-questions (f .own-says) (was S (p .text) (sound .text) .begins) S-small)) ∙ question-words D p sound [] ∙ ap (λ (n : ℕ). 4 * n) (f .questions)
-      exact patterns = sym (ap length (text-patterns (f .own-says) (was S (p .text) (sound .text) .begins) S-small)) ∙ pattern-words D p sound [] ∙ ap (λ (n : ℕ). 2 * n) (f .patterns)
-      exact trees =
-          let k = rows-counted linked .0 in
-          length-flat (folded ts (f .rows)) (wide-folded ts (f .rows) (wide-text linked)) ∙ ap (λ (n : ℕ). 6 * n) (length-folded ts (f .rows) (k ∙ sym many) ∙ k)
-      exact records = length-flat rs (fours-model linked) ∙ ap (λ (n : ℕ). 4 * n) (rows-counted linked .1)
-      exact values = sym (one-mul (length (f .values)))
-
       -- in the task's rows they are judged as written
       rule-there : (x : Side) (other : Held) (t : Tables) → Stand t (needed (said f)) other
           → (let u = placed x (needed (said f)) (modelRows (said f) (f .layout) ts rs) t in Judged (said f) (ruleIn x D p (u questions) (u trees) (u values)))
@@ -91,7 +78,7 @@ module _ {s : List ℕ} (bytes : Bytes s) {h : record-of.Header} (says : record-
           let r = modelRows (said f) (f .layout) ts rs in
           let u = placed x n r t in
           subst (Judged (said f))
-          (sym (ap (λ (n : Held). ruleOf D p (seen x n u questions) (seen x n u trees) (seen x n u values)) (need-is f) ∙ ap (λ (w : Tables). ruleOf D p (w questions) (w trees) (w values)) (placed-own x n r t exact other stand)))
+          (sym (ap (λ (n : Held). ruleOf D p (seen x n u questions) (seen x n u trees) (seen x n u values)) (need-is f) ∙ ap (λ (w : Tables). ruleOf D p (w questions) (w trees) (w values)) (placed-own x n r t (rows-exact (reads f) linked) other stand)))
           (rule-judged D p (said f) (f .layout) sound S-small (f .own-says) (f .questions) refl linked many (p .entries) (sym (f .entries)))
 
   -- ---- a load
@@ -100,28 +87,35 @@ module _ {s : List ℕ} (bytes : Bytes s) {h : record-of.Header} (says : record-
     abbrev L : After
     L = besideOf x s (headerRecord h) (whichOf m) other t
 
-    -- done: the model, what it needs, and the rule that it breaks
-    pub record Turned (p : Plan) : Type 0 where
+    -- done: the model, the rows that it needs, and the rule that it breaks
+    pub record Turned (p : Plan) (n : Held) : Type 0 where
       pub model : ModelSaid
       pub loads : Loads x s h other m t model (L .tables)
-      pub need : needOf p ≡ needed model
+      pub need : n ≡ needed model
       pub rule : Judged model (ruleIn x D p (L .tables .questions) (L .tables .trees) (L .tables .values))
 
-    pub turn-done : (p : Plan) → Model p ≡ planned s (headerRecord h) (whichOf m) → {n₁ n₂ n₃ n₄ n₅ : ℕ} → L .answer ≡ ending.Done n₁ n₂ n₃ n₄ n₅ → Turned p
+    pub turn-done : (p : Plan) → Model p ≡ planned s (headerRecord h) (whichOf m) → {n₁ n₂ n₃ n₄ n₅ : ℕ} → L .answer ≡ ending.Done n₁ n₂ n₃ n₄ n₅ → Turned p (heldOf (boundsOf n₁ n₂ n₃ n₄ n₅))
     turn-done p q {n₁} {n₂} {n₃} {n₄} {n₅} e = go (beside-ends bytes says m x other t) (ap (λ (a : Loaded). rowsNumbers (rowsBy a)) e) refl
       where
-        go : {l : List ℕ} {u : Lent} → BesideEnds x s h m other t l u → l ≡ 0 ∷ 0 ∷ 0 ∷ n₁ ∷ n₂ ∷ n₃ ∷ n₄ ∷ n₅ ∷ [] → u ≡ L .tables → Turned p
+        go : {l : List ℕ} {u : Lent} → BesideEnds x s h m other t l u → l ≡ 0 ∷ 0 ∷ 0 ∷ n₁ ∷ n₂ ∷ n₃ ∷ n₄ ∷ n₅ ∷ [] → u ≡ L .tables → Turned p (heldOf (boundsOf n₁ n₂ n₃ n₄ n₅))
         go {u = u} (loaded {y = y} {l = l} {ts = ts} {rs = rs} r room w) k v =
             let o = reads-one (reads (f p q)) r in
             record {
               model = y;
               loads = subst (λ (u : Lent). Loads x s h other m t y u) v (Loads.loads r room w);
-              need = need-is (f p q) ∙ ap needed (o .0);
+              need = fun-ext (need k);
               rule =
                   subst (λ (u : Lent). Judged y (ruleIn x D p (u .questions) (u .trees) (u .values))) v
                   (subst₂ Rule (o .0) (o .1) (λ w stand. rule-there p q w x other (rowsOf t) stand) w (room .rows));
             }
           where
+            need : doneNumbers y rs ≡ 0 ∷ 0 ∷ 0 ∷ n₁ ∷ n₂ ∷ n₃ ∷ n₄ ∷ n₅ ∷ [] → (j : Table) → heldOf (boundsOf n₁ n₂ n₃ n₄ n₅) j ≡ needed y j
+            need k questions = sym (ap (λ (l : List ℕ). getD l 3 0) k)
+            need k patterns = sym (ap (λ (l : List ℕ). getD l 4 0) k)
+            need k trees = sym (ap (λ (l : List ℕ). getD l 5 0) k)
+            need k records = sym (ap (λ (l : List ℕ). getD l 6 0) k) ∙ rows-counted w .1
+            need k values = sym (ap (λ (l : List ℕ). getD l 7 0) k)
+
             Rule : ModelSaid → Layout → Type 0
             Rule y l =
                 TreeRows (y .text .questions) 0 (y .text .trees) ts rs → Stand (rowsOf t) (needed y) other

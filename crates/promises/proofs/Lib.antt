@@ -22,5 +22,7 @@ pub mod Trailing
 pub mod Longer
 pub mod Metering
 pub mod Trees
-pub mod Judging
 pub mod Turns
+pub mod Judging
+pub mod Voice
+pub mod Housing

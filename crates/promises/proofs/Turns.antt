@@ -1,33 +1,61 @@
 -- Loads into a task's rows, one after the other: each has one outcome, and so have all in turn; none of them changes what the other task sees.
-use mathlib.Core.Path.{_≡_, refl, sym, ap, ap₂, _∙_, subst}
+use mathlib.Core.Path.{_≡_, refl, sym, ap, ap₂, _∙_, subst, fun-ext}
 use mathlib.Core.List.{List, [], _∷_}
-use Prim.Native.Nat.{ℕ, _+_, _≤_, _<_}
+use Prim.Native.Nat.{ℕ, _+_, _*_, _≤_, _<_}
+use native.Mathlib.Nat.{one-mul}
 use native.Mathlib.Omega.{arith}
-use lib.ListN.{length, getD, length-replicate}
+use lib.IntN.{ℤ}
+use lib.ListN.{length, getD}
 use Rattle.written.specs.Record.{Header}
 use Rattle.written.specs.Said.{Layout}
 use Rattle.written.specs.Linking.{Row}
-use Rattle.written.specs.Tables.{TreeRows, ModelRefused}
-use Rattle.written.specs.Models.{Model, modelNumber}
+use Rattle.written.specs.Tables.{TreeRows, ModelRefused, questionRows, patternRows, folded}
+use Rattle.written.specs.Models.{Model, modelNumber, dataOf}
 use Rattle.written.specs.Loading.{ModelSaid, ReadsModel}
-use Rattle.written.specs.Sharing.{Side, Held, placed, cleared}
+use Rattle.written.specs.Sharing.{Side, opposite, Table, questions, patterns, trees, records, values, Tables, Held, seen, placed, zeros, cleared, Exactly, Stand}
+use Rattle.written.proofs.Folded.{wide-text, wide-folded, length-folded}
 use Rattle.written.proofs.ModelOnce.{model-rows-once, model-refused-once, model-never-both}
 use Rattle.written_models.proofs.Numbers.{linking-number, no-model-number}
 use Rattle.written_house.proofs.HouseFile.{no-model-one}
+use Rattle.table_rows.proofs.Stand.{length-flat}
+use Rattle.table_rows.proofs.Fours.{fours-model}
+use Rattle.tree_survey.proofs.Rows.{rows-counted}
+use Rattle.pdf_blocks.proofs.Joined.{length-rows}
 use Rattle.load_model.specs.Load.{Tables as Lent}
-use Rattle.load_shared.specs.Beside.{rowsOf}
+use Rattle.load_apart.proofs.Apart.{placed-long, placed-other, exactly-zeros, stand-long}
+use Rattle.load_shared.specs.Beside.{rowsOf, withWork}
+use Rattle.shown_write.proofs.Loads.{fours-questions, twos-wide, question-count, pattern-count}
 use Rattle.promises.specs.Loading.{widening, doneNumbers, refusedNumbers}
 use Rattle.promises.specs.Sharing.{needed, modelRows, RoomBeside, zeroWork, BesideEnds, loaded, no-model, no-room, unlinked}
 use Rattle.promises.specs.Housing.{emptied, Loads, loads, LoadRefused, InTurn, Stops}
 use Rattle.promises.proofs.Longer.{reads-one, reads-never}
 
+-- ---- the rows of a model are as many as it needs
+
+pub rows-exact : {s : List ℕ} {h : Header} {m : Model} {y : ModelSaid} {l : Layout} {ts rs : List Row} → ReadsModel widening s h m y l → TreeRows (y .text .questions) 0 (y .text .trees) ts rs
+    → Exactly (needed y) (modelRows y l ts rs)
+rows-exact {s} {h} {y = y} {l = l} {ts = ts} {rs = rs} a w = at
+  where
+    D : List ℕ
+    D = dataOf s h
+
+    many : length ts ≡ length (y .rows)
+    many = rows-counted w .0 ∙ sym (ap length (a .block-says .row) ∙ length-rows (y .width) 0 (a .block-says .counts) ∙ a .block-says .per-tree)
+
+    at : Exactly (needed y) (modelRows y l ts rs)
+    at questions = length-flat (questionRows 0 (l .questions)) (fours-questions 0 (l .questions)) ∙ ap (λ (n : ℕ). 4 * n) (question-count D (a .text-at .to + 1) (a .text-says))
+    at patterns = length-flat (patternRows (l .questions)) (twos-wide (l .questions)) ∙ ap (λ (n : ℕ). 2 * n) (pattern-count D (a .text-at .to + 1) (a .text-says))
+    at trees = length-flat (folded ts (y .rows)) (wide-folded ts (y .rows) (wide-text w)) ∙ ap (λ (n : ℕ). 6 * n) (length-folded ts (y .rows) many ∙ rows-counted w .0)
+    at records = length-flat rs (fours-model w) ∙ ap (λ (n : ℕ). 4 * n) (rows-counted w .1)
+    at values = sym (one-mul (length (y .values)))
+
 -- room for a model is room for it, however it was read
 room-as : {s : List ℕ} {h : Header} {m : Model} {other : Held} {t : Lent} {y z : ModelSaid} {l k : Layout} → ReadsModel widening s h m y l → ReadsModel widening s h m z k → RoomBeside y other t → RoomBeside z other t
 room-as {other = other} {t = t} a b r = subst (λ (o : ModelSaid). RoomBeside o other t) (reads-one a b .0) r
 
-module _ {x : Side} {s : List ℕ} {h : Header} {other : Held} where
-  -- ---- one outcome of a load
+-- ---- one outcome
 
+module _ {x : Side} {s : List ℕ} {h : Header} {other : Held} where
   module _ {m : Model} {t : Lent} where
     pub beside-once : {l k : List ℕ} {u v : Lent} → BesideEnds x s h m other t l u → BesideEnds x s h m other t k v → (l ≡ k) × (u ≡ v)
     beside-once (loaded {y = y} {ts = T} {rs = R} a r w) (loaded b q z) =
@@ -108,3 +136,61 @@ module _ {x : Side} {s : List ℕ} {h : Header} {other : Held} where
   pub stops-number : {ms : List Model} {mine : Held} {t u : Lent} {n p l k : ℕ} → Stops x s h other ms mine t n p l k u → (12 ≤ n) × (n ≤ 23)
   stops-number (Stops.here a) = refused-number a
   stops-number (Stops.later a r) = stops-number r
+
+-- ---- bounds stand, and the other task sees the same rows
+
+-- the five tables of what is lent
+pub rows-back : (t : Tables) (w : List ℤ) → rowsOf (withWork t w) ≡ t
+rows-back t w = fun-ext at
+  where
+    at : (k : Table) → rowsOf (withWork t w) k ≡ t k
+    at questions = refl
+    at patterns = refl
+    at trees = refl
+    at records = refl
+    at values = refl
+
+-- rows of the lengths asked for, in tables where they stand beside the other's
+module _ (x : Side) (other n : Held) (rows t : Tables) (w : List ℤ) (e : Exactly n rows) where
+  put-stand : (b : Held) → Stand t b other → Stand (rowsOf (withWork (placed x n rows t) w)) b other
+  put-stand b s =
+      subst (λ (u : Tables). Stand u b other) (sym (rows-back (placed x n rows t) w)) (stand-long t (placed x n rows t) b other (placed-long x n rows t e) s)
+
+  put-apart : Stand t n other → seen (opposite x) other (rowsOf (withWork (placed x n rows t) w)) ≡ seen (opposite x) other t
+  put-apart s = ap (seen (opposite x) other) (rows-back (placed x n rows t) w) ∙ placed-other x n rows t e other s
+
+-- what the other sees of tables
+abbrev pub theirs : Side → Held → Lent → Tables
+theirs x other t = seen (opposite x) other (rowsOf t)
+
+emptied-apart : (x : Side) (other mine : Held) (t : Lent) → Stand (rowsOf t) mine other → theirs x other (emptied x mine t) ≡ theirs x other t
+emptied-apart x other mine t s = put-apart x other mine (zeros mine) (rowsOf t) (t .work) (exactly-zeros mine) s
+
+module _ {x : Side} {s : List ℕ} {h : Header} {other : Held} where
+  pub loads-stand : {m : Model} {t u : Lent} {y : ModelSaid} → Loads x s h other m t y u → Stand (rowsOf u) (needed y) other
+  loads-stand {t = t} (loads {y = y} {l = l} {ts = ts} {rs = rs} a r w) = put-stand x other (needed y) (modelRows y l ts rs) (rowsOf t) (t .work) (rows-exact a w) (needed y) (r .rows)
+
+  loads-apart : {m : Model} {t u : Lent} {y : ModelSaid} → Loads x s h other m t y u → theirs x other u ≡ theirs x other t
+  loads-apart {t = t} (loads {y = y} {l = l} {ts = ts} {rs = rs} a r w) = put-apart x other (needed y) (modelRows y l ts rs) (rowsOf t) (t .work) (rows-exact a w) (r .rows)
+
+  refused-apart : {m : Model} {t u : Lent} {n p k : ℕ} → LoadRefused x s h other m t n p k u → theirs x other u ≡ theirs x other t
+  refused-apart {m} {t} (LoadRefused.refused a b) = go b
+    where
+      go : {l : List ℕ} {u : Lent} → BesideEnds x s h m other t l u → theirs x other u ≡ theirs x other t
+      go (loaded a r w) = loads-apart (loads a r w)
+      go (no-model y b) = refl
+      go (no-room a n) = refl
+      go (unlinked {y = y} a r w) = put-apart x other (needed y) (zeros (needed y)) (rowsOf t) (t .work) (exactly-zeros (needed y)) (r .rows)
+
+  -- all in turn
+  pub turns-stand : {ms : List Model} {mine mine₁ : Held} {t u : Lent} {ys : List ModelSaid} → InTurn x s h other ms mine t ys mine₁ u → Stand (rowsOf t) mine other → Stand (rowsOf u) mine₁ other
+  turns-stand InTurn.end s = s
+  turns-stand (InTurn.next l r) s = turns-stand r (loads-stand l)
+
+  pub turns-apart : {ms : List Model} {mine mine₁ : Held} {t u : Lent} {ys : List ModelSaid} → InTurn x s h other ms mine t ys mine₁ u → Stand (rowsOf t) mine other → theirs x other u ≡ theirs x other t
+  turns-apart InTurn.end s = refl
+  turns-apart (InTurn.next {mine = mine} {t = t} l r) s = turns-apart r (loads-stand l) ∙ loads-apart l ∙ emptied-apart x other mine t s
+
+  pub stops-apart : {ms : List Model} {mine : Held} {t u : Lent} {n p l k : ℕ} → Stops x s h other ms mine t n p l k u → Stand (rowsOf t) mine other → theirs x other u ≡ theirs x other t
+  stops-apart (Stops.here {mine = mine} {t = t} a) s = refused-apart a ∙ emptied-apart x other mine t s
+  stops-apart (Stops.later {mine = mine} {t = t} l r) s = stops-apart r (loads-stand l) ∙ loads-apart l ∙ emptied-apart x other mine t s
