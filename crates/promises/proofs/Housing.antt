@@ -47,7 +47,7 @@ use Rattle.shown_house.proofs.Types.{TypesJudged, types-judged}
 use Rattle.promises.specs.Opening.{recordWords}
 use Rattle.promises.specs.Sharing.{Standing}
 use Rattle.promises.specs.Housing.{fiveOf, InTurn, Stops, VoiceEnds, HouseEnds, AfterHouse}
-use Rattle.promises.proofs.Moved.{moved₂, moved₄}
+use Rattle.promises.proofs.Moved.{moved₅}
 use Rattle.promises.proofs.Sharing.{standing-is, not-standing}
 use Rattle.promises.proofs.Voice.{Keeps, VoiceSaid, voice-said}
 
@@ -142,9 +142,7 @@ module _ {s : List ℕ} (bytes : Bytes s) (w : List ℕ) (d : ℕ) (held other :
 
 pub house-kept : {s w : List ℕ} {d : ℕ} {held other : List ℕ} {t : Lent} {out : List ℕ} {r : ℕ} {w₁ held₁ : List ℕ} {u : Lent} {o : List ℕ}
     → HouseTells s w d held other t out r w₁ held₁ u o → AfterHouse s w d held other t out r w₁ held₁ u o
-house-kept {s} {w} {d} {held} {other} {t} {out} {r} {w₁} (HouseTells.no-room k a b c e f) =
-    subst (λ (n : ℕ). AfterHouse s w d held other t out n w₁ _ _ _) (sym a) (moved₄ (AfterHouse s w d held other t out 20) b c e f (AfterHouse.short k))
+house-kept {s} {w} {d} {held} {other} {t} {out} (HouseTells.no-room k a b c e f) = moved₅ (AfterHouse s w d held other t out) a b c e f (AfterHouse.short k)
 house-kept {s} {w} {d} {held} {other} {t} {out} (HouseTells.told {x = x} k l m i a b bytes) =
-    subst (λ (n : ℕ). AfterHouse s w d held other t out n _ _ _ _) (sym (a ∙ ap (λ (y : House). y .number) (i .0)))
-    (moved₄ (AfterHouse s w d held other t out _) (i .1) (i .2) (i .3) (b ∙ ap (λ (y : House). sets out 0 (houseNumbers y)) (i .0))
-    (AfterHouse.ended k l m (house-ends (record { below = bytes }) w d held other t)))
+    moved₅ (AfterHouse s w d held other t out) (a ∙ ap (λ (y : House). y .number) (i .0)) (i .1) (i .2) (i .3) (b ∙ ap (λ (y : House). sets out 0 (houseNumbers y)) (i .0))
+    (AfterHouse.ended k l m (house-ends (record { below = bytes }) w d held other t))

@@ -26,3 +26,4 @@ pub mod Turns
 pub mod Judging
 pub mod Voice
 pub mod Housing
+pub mod House
