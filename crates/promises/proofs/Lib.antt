@@ -27,3 +27,4 @@ pub mod Judging
 pub mod Voice
 pub mod Housing
 pub mod House
+pub mod Demanded
