@@ -180,7 +180,24 @@ module _ {s w : List ℕ} {d : ℕ} {held other : List ℕ} {t : Lent} {out : Li
       → (r ≡ n) × (w₁ ≡ sets w 0 (recordWords (k .h))) × (held₁ ≡ sets held 0 (fiveOf (k .mine))) × (u ≡ k .after) × (o ≡ sets out 0 (n ∷ 0 ∷ 0 ∷ m ∷ []))
   broken-house a k = after-house-once a (ended (k .begins) (VoiceEnds.breaks (k .turn) (k .breaks)))
 
-  -- the first load that is refused, with number, place, line and model, and what that load leaves
+  -- of a file that opens, any other number is that of the first load that is refused, with place, line and model
+  pub house-load : {r : ℕ} {w₁ held₁ o : List ℕ} {u : Lent} → AfterHouse s w d held other t out r w₁ held₁ u o → {h : Header} {ms : List Model} → Begins s w d held other t out h ms → ¬ (r ≡ 0) → r < 30
+      → (p : ℕ) × (l : ℕ) × (k : ℕ) × StoppedSaid s w d held other t out r p l k × (o ≡ sets out 0 (r ∷ p ∷ l ∷ k ∷ []))
+  house-load (AfterHouse.short k) b e f = absurd (long out held other k (b .room .0) (b .room .1) (b .room .2))
+  house-load (AfterHouse.ended x y z v) b e f = go v e f
+    where
+      go : {l w₁ held₁ : List ℕ} {u : Lent} → HouseEnds s w d held other t l w₁ held₁ u → ¬ (getD l 0 0 ≡ 0) → getD l 0 0 < 30
+          → (p : ℕ) × (i : ℕ) × (k : ℕ) × StoppedSaid s w d held other t out (getD l 0 0) p i k × (sets out 0 l ≡ sets out 0 (getD l 0 0 ∷ p ∷ i ∷ k ∷ []))
+      go (HouseEnds.holding n) e f = absurd (n (b .free))
+      go (HouseEnds.overlap i j) e f = absurd (j (b .stand))
+      go (HouseEnds.unopened i j r) e f = absurd (says-never (b .says) r)
+      go (HouseEnds.few-words i j r l) e f = absurd (omega (arith, b .words))
+      go (HouseEnds.judged i j g l m (VoiceEnds.stopped {p = p} {l = n} {k = k} a)) e f =
+          (p, n, k, record { h = _; ms = _; after = _; begins = record { room = (x, y, z); free = i; stand = j; says = g; words = l; models = m }; stops = a }, refl)
+      go (HouseEnds.judged i j g l m (VoiceEnds.breaks k v)) e f = absurd (omega (arith, voice-breaks-number v .0, f))
+      go (HouseEnds.judged i j g l m (VoiceEnds.house k v)) e f = absurd (e refl)
+
+  -- and conversely, with what that load leaves
   pub load-house : {r : ℕ} {w₁ held₁ o : List ℕ} {u : Lent} → AfterHouse s w d held other t out r w₁ held₁ u o → {n p l m : ℕ} (k : StoppedSaid s w d held other t out n p l m)
       → (r ≡ n) × (w₁ ≡ sets w 0 (recordWords (k .h))) × (held₁ ≡ held) × (u ≡ k .after) × (o ≡ sets out 0 (n ∷ p ∷ l ∷ m ∷ []))
   load-house a k = after-house-once a (ended (k .begins) (VoiceEnds.stopped (k .stops)))

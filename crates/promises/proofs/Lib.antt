@@ -28,3 +28,4 @@ pub mod Voice
 pub mod Housing
 pub mod House
 pub mod Demanded
+pub mod Judges
