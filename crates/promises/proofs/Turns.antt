@@ -22,7 +22,7 @@ use Rattle.table_rows.proofs.Fours.{fours-model}
 use Rattle.tree_survey.proofs.Rows.{rows-counted}
 use Rattle.pdf_blocks.proofs.Joined.{length-rows}
 use Rattle.load_model.specs.Load.{Tables as Lent}
-use Rattle.load_apart.proofs.Apart.{placed-long, placed-other, exactly-zeros, stand-long}
+use Rattle.load_apart.proofs.Apart.{placed-long, placed-own, placed-other, exactly-zeros, stand-long}
 use Rattle.load_shared.specs.Beside.{rowsOf, withWork}
 use Rattle.shown_write.proofs.Loads.{fours-questions, twos-wide, question-count, pattern-count}
 use Rattle.promises.specs.Loading.{widening, doneNumbers, refusedNumbers}
@@ -166,7 +166,17 @@ theirs x other t = seen (opposite x) other (rowsOf t)
 emptied-apart : (x : Side) (other mine : Held) (t : Lent) → Stand (rowsOf t) mine other → theirs x other (emptied x mine t) ≡ theirs x other t
 emptied-apart x other mine t s = put-apart x other mine (zeros mine) (rowsOf t) (t .work) (exactly-zeros mine) s
 
+-- an unload leaves zeros in them
+pub emptied-seen : (x : Side) (other mine : Held) (t : Lent) → Stand (rowsOf t) mine other → seen x mine (rowsOf (emptied x mine t)) ≡ zeros mine
+emptied-seen x other mine t s = ap (seen x mine) (rows-back (cleared x mine (rowsOf t)) (t .work)) ∙ placed-own x mine (zeros mine) (rowsOf t) (exactly-zeros mine) other s
+
 module _ {x : Side} {s : List ℕ} {h : Header} {other : Held} where
+  -- a load that is done leaves the model in the task's rows
+  pub loads-seen : {m : Model} {t u : Lent} {y : ModelSaid} → Loads x s h other m t y u
+      → (l : Layout) × (ts : List Row) × (rs : List Row) × ReadsModel widening s h m y l × TreeRows (y .text .questions) 0 (y .text .trees) ts rs × (seen x (needed y) (rowsOf u) ≡ modelRows y l ts rs)
+  loads-seen {t = t} (loads {y = y} {l = l} {ts = ts} {rs = rs} a r w) =
+      (l, ts, rs, a, w, ap (seen x (needed y)) (rows-back (placed x (needed y) (modelRows y l ts rs) (rowsOf t)) (t .work)) ∙ placed-own x (needed y) (modelRows y l ts rs) (rowsOf t) (rows-exact a w) other (r .rows))
+
   pub loads-stand : {m : Model} {t u : Lent} {y : ModelSaid} → Loads x s h other m t y u → Stand (rowsOf u) (needed y) other
   loads-stand {t = t} (loads {y = y} {l = l} {ts = ts} {rs = rs} a r w) = put-stand x other (needed y) (modelRows y l ts rs) (rowsOf t) (t .work) (rows-exact a w) (needed y) (r .rows)
 
