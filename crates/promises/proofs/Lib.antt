@@ -22,3 +22,10 @@ pub mod Trailing
 pub mod Longer
 pub mod Metering
 pub mod Trees
+pub mod Turns
+pub mod Judging
+pub mod Voice
+pub mod Housing
+pub mod House
+pub mod Demanded
+pub mod Judges

@@ -41,7 +41,7 @@ said-path : {x y : ModelSaid} → x .text ≡ y .text → x .rows ≡ y .rows �
 said-path a b c d = λ i. record { text = a i; rows = b i; width = c i; values = d i }
 
 module _ {s : List ℕ} {h : Header} where
-  reads-one : {m : Model} {x y : ModelSaid} {l k : Layout} → ReadsModel widening s h m x l → ReadsModel widening s h m y k → (x ≡ y) × (l ≡ k)
+  pub reads-one : {m : Model} {x y : ModelSaid} {l k : Layout} → ReadsModel widening s h m x l → ReadsModel widening s h m y k → (x ≡ y) × (l ≡ k)
   reads-one {m} {x} {y} {l} {k} a b =
       let p = placed-one (a .placed) (b .placed) in
       let t = says-once (subst (λ (r : Range). tree.Says (take (r .to + 1) (dataOf s h)) (r .from) (x .text) l) (p .0) (a .text-says)) (b .text-says) in
@@ -62,7 +62,7 @@ module _ {s : List ℕ} {h : Header} where
       go (Unloaded.no-block g i e) f = e (x .rows) (x .values) (a .block-says)
       go (Unloaded.unlinked g i e r) f = omega (arith, linking-number r .0, f)
 
-  reads-never : {m : Model} {x : ModelSaid} {l : Layout} {n p k : ℕ} → ReadsModel widening s h m x l → NoModel widening s h m n p k → n ≤ 19 → ⊥
+  pub reads-never : {m : Model} {x : ModelSaid} {l : Layout} {n p k : ℕ} → ReadsModel widening s h m x l → NoModel widening s h m n p k → n ≤ 19 → ⊥
   reads-never a (NoModel.unplaced u) f = placed-never (a .placed) u
   reads-never {x = x} a (NoModel.placed {w = w} {n = n} {p = p} {k = k} q u) f =
       let e = placed-one q (a .placed) in

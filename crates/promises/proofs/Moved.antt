@@ -12,3 +12,7 @@ module _ {A B C : Type 0} (P : A → B → C → Type 0) where
 module _ {A B C D : Type 0} (P : A → B → C → D → Type 0) where
   pub moved₄ : {a a′ : A} {b b′ : B} {c c′ : C} {d d′ : D} → a ≡ a′ → b ≡ b′ → c ≡ c′ → d ≡ d′ → P a′ b′ c′ d′ → P a b c d
   moved₄ {a} {a′} {b} {b′} {c} {c′} {d} {d′} p q r s x = subst (λ (y : A). P y b c d) (sym p) (moved₃ (P a′) q r s x)
+
+module _ {A B C D E : Type 0} (P : A → B → C → D → E → Type 0) where
+  pub moved₅ : {a a′ : A} {b b′ : B} {c c′ : C} {d d′ : D} {e e′ : E} → a ≡ a′ → b ≡ b′ → c ≡ c′ → d ≡ d′ → e ≡ e′ → P a′ b′ c′ d′ e′ → P a b c d e
+  moved₅ {a} {a′} {b} {b′} {c} {c′} {d} {d′} {e} {e′} p q r s t x = subst (λ (y : A). P y b c d e) (sym p) (moved₄ (P a′) q r s t x)

@@ -29,13 +29,13 @@ use Rattle.promises.proofs.Moved.{moved₃, moved₄}
 use Rattle.promises.proofs.Beside.{beside-ends, words-said}
 
 -- the test of the side and of the bounds
-standing-is : (d : ℕ) (mine other : Held) (t : Tables) → standing d mine other t ≡ true → Standing d mine other t
+pub standing-is : (d : ℕ) (mine other : Held) (t : Tables) → standing d mine other t ≡ true → Standing d mine other t
 standing-is d mine other t e = let b = both (leb d 1) (stands t mine other) e in (leb-true d 1 (b .0), stands-is t mine other (b .1))
 
 is-standing : (d : ℕ) (mine other : Held) (t : Tables) → Standing d mine other t → standing d mine other t ≡ true
 is-standing d mine other t (a, b) = rw (le-leb d 1 a, is-stands t mine other b)
 
-not-standing : (d : ℕ) (mine other : Held) (t : Tables) → standing d mine other t ≡ false → ¬ Standing d mine other t
+pub not-standing : (d : ℕ) (mine other : Held) (t : Tables) → standing d mine other t ≡ false → ¬ Standing d mine other t
 not-standing d mine other t e h = true≢false (sym (is-standing d mine other t h) ∙ e)
 
 -- ---- a shared load

@@ -7,3 +7,4 @@ pub mod Walking
 pub mod Accepting
 pub mod Trailing
 pub mod Metering
+pub mod Housing
