@@ -2,51 +2,12 @@
  * then number, place and line of the answer, and of accepted rows how walks over the text end: answers, limit, number, PDF number, questions asked. A walk over the rows,
  * which stand behind another in a table, must end so. The call must answer so, with numbers behind the last row that are no row too; what is lent for reading must stay; a short
  * `out` is 20. Every slice is lent by host/lend.c, so that LARSAVIM_GUARD puts guards beside it. Prints what differs, and how many checks passed and failed. */
-#include <inttypes.h>
-#include <stdlib.h>
-#include <string.h>
-
-#include "host.h"
-
-enum { OLD = 0x5a };
-
-static unsigned passed, failed;
-static uint64_t line_number;
-
-static void expect(int holds, const char *name) {
-    if (holds) {
-        passed++;
-        return;
-    }
-    failed++;
-    printf("accepts: line %" PRIu64 ": %s\n", line_number, name);
-}
+#include "cases.h"
 
 struct stored {
     struct bytes text;
     uint64_t tree, rows, *records, answer[LARSAVIM_ACCEPTS_OUT];
 };
-
-static int hex_digit(char c) {
-    return c <= '9' ? c - '0' : c - 'a' + 10;
-}
-
-static struct bytes read_hex(const char *word) {
-    size_t len = strcmp(word, "-") == 0 ? 0 : strlen(word) / 2;
-    uint8_t *at = lend(len);
-    struct bytes b = {at, len};
-    for (size_t i = 0; i < len; i++)
-        at[i] = (uint8_t)(16 * hex_digit(word[2 * i]) + hex_digit(word[2 * i + 1]));
-    return b;
-}
-
-static uint64_t next_number(void) {
-    uint64_t n = 0;
-    const char *word = strtok(NULL, " \n");
-    if (word == NULL || !read_number(word, &n))
-        stop("a stored line of rows has a wrong number");
-    return n;
-}
 
 static void read_case(char *line, struct stored *s) {
     s->text = read_hex(strtok(line, " \n"));
@@ -107,10 +68,9 @@ static void ask(const struct stored *s, uint64_t behind) {
 }
 
 int main(void) {
-    static char line[1 << 20];
-    while (fgets(line, sizeof line, stdin) != NULL) {
+    char *line;
+    while ((line = next_case()) != NULL) {
         struct stored s;
-        line_number++;
         read_case(line, &s);
         for (uint64_t behind = 0; behind < 4; behind += 3)
             ask(&s, behind);
@@ -118,6 +78,5 @@ int main(void) {
         give_back(s.text.at, s.text.len);
         free(s.records);
     }
-    printf("%u passed, %u failed\n", passed, failed);
-    return failed != 0;
+    return told();
 }

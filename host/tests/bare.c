@@ -1,46 +1,7 @@
 /* bare.c: the stored cases of walks straight over a tree text (judge/readings/metering.py), each a line on standard input: the text as hex, the tree, the answers as hex, the limit,
  * then the six numbers of the answer. The call must answer so; what is lent for reading must stay; a short `out` is 20 and stays.
  * Every slice is lent by host/lend.c, so that LARSAVIM_GUARD puts guards beside it. Prints what differs, and how many checks passed and failed. */
-#include <inttypes.h>
-#include <stdlib.h>
-#include <string.h>
-
-#include "host.h"
-
-enum { OLD = 0x5a };
-
-static unsigned passed, failed;
-static uint64_t line_number;
-
-static void expect(int holds, const char *name) {
-    if (holds) {
-        passed++;
-        return;
-    }
-    failed++;
-    printf("bare: line %" PRIu64 ": %s\n", line_number, name);
-}
-
-static int hex_digit(char c) {
-    return c <= '9' ? c - '0' : c - 'a' + 10;
-}
-
-static struct bytes read_hex(const char *word) {
-    size_t len = strcmp(word, "-") == 0 ? 0 : strlen(word) / 2;
-    uint8_t *at = lend(len);
-    struct bytes b = {at, len};
-    for (size_t i = 0; i < len; i++)
-        at[i] = (uint8_t)(16 * hex_digit(word[2 * i]) + hex_digit(word[2 * i + 1]));
-    return b;
-}
-
-static uint64_t next_number(void) {
-    uint64_t n = 0;
-    const char *word = strtok(NULL, " \n");
-    if (word == NULL || !read_number(word, &n))
-        stop("a stored line of walks has a wrong number");
-    return n;
-}
+#include "cases.h"
 
 static int stays(struct bytes now, struct bytes before) {
     return now.len == 0 || memcmp(now.at, before.at, (size_t)now.len) == 0;
@@ -74,11 +35,9 @@ static void one_case(char *line) {
 }
 
 int main(void) {
-    static char line[1 << 20];
-    while (fgets(line, sizeof line, stdin) != NULL) {
-        line_number++;
+    char *line;
+    while ((line = next_case()) != NULL) {
         one_case(line);
     }
-    printf("%u passed, %u failed\n", passed, failed);
-    return failed == 0 ? 0 : 1;
+    return told();
 }

@@ -2,51 +2,14 @@
  * the trailer as hex (- for none), then number, place, rows and begin of what reading answers. Both calls must answer so; the buffer behind the trailer, and all of it when
  * refused, must stay; what is lent for reading must stay; the words must be as larsavim_open leaves them; short answers and words are 20. Every slice is lent by host/lend.c,
  * so that LARSAVIM_GUARD puts guards beside it. Prints what differs, and how many checks passed and failed. */
-#include <inttypes.h>
-#include <stdlib.h>
-#include <string.h>
+#include "cases.h"
 
-#include "host.h"
-
-enum { OLD = 0x5a, MOST = 4096 };
-
-static unsigned passed, failed;
-static uint64_t line_number;
-
-static void expect(int holds, const char *name) {
-    if (holds) {
-        passed++;
-        return;
-    }
-    failed++;
-    printf("trails: line %" PRIu64 ": %s\n", line_number, name);
-}
+enum { MOST = 4096 };
 
 struct stored {
     struct bytes file, trailer;
     uint64_t room, wrote[LARSAVIM_TRAILER_OUT], found[LARSAVIM_TRAILED_OUT];
 };
-
-static int hex_digit(char c) {
-    return c <= '9' ? c - '0' : c - 'a' + 10;
-}
-
-static struct bytes read_hex(const char *word) {
-    size_t len = strcmp(word, "-") == 0 ? 0 : strlen(word) / 2;
-    uint8_t *at = lend(len);
-    struct bytes b = {at, len};
-    for (size_t i = 0; i < len; i++)
-        at[i] = (uint8_t)(16 * hex_digit(word[2 * i]) + hex_digit(word[2 * i + 1]));
-    return b;
-}
-
-static uint64_t next_number(void) {
-    uint64_t n = 0;
-    const char *word = strtok(NULL, " \n");
-    if (word == NULL || !read_number(word, &n))
-        stop("a stored line of trailers has a wrong number");
-    return n;
-}
 
 static void read_case(char *line, struct stored *s) {
     s->file = read_hex(strtok(line, " \n"));
@@ -132,11 +95,10 @@ static void few_words(const struct stored *s) {
 }
 
 int main(void) {
-    static char line[1 << 20];
-    while (fgets(line, sizeof line, stdin) != NULL) {
+    char *line;
+    while ((line = next_case()) != NULL) {
         struct stored s;
         uint64_t *opened;
-        line_number++;
         read_case(line, &s);
         opened = opened_words(s.file);
         write_case(&s, opened);
@@ -146,6 +108,5 @@ int main(void) {
         give_back(s.trailer.at, s.trailer.len);
         give_back(s.file.at, s.file.len);
     }
-    printf("%u passed, %u failed\n", passed, failed);
-    return failed != 0;
+    return told();
 }

@@ -1,25 +1,9 @@
 /* writes.c: the stored cases of the writer (judge/readings/writing.py), each a line on standard input: data as hex, of each table its rows and numbers, the number of
  * the answer, the text as hex. Both calls must answer so, into a buffer of just the text's length, one with room behind it and one a byte short; nothing but what
  * is promised may change. Every slice is lent by host/lend.c, so that LARSAVIM_GUARD puts guards beside it. Prints what differs, and how many checks passed and failed. */
-#include <inttypes.h>
-#include <stdlib.h>
-#include <string.h>
+#include "cases.h"
 
-#include "host.h"
-
-enum { WRITE_TABLES = 4, SPARE = 5, OLD = 0x5a };
-
-static unsigned passed, failed;
-static uint64_t line_number;
-
-static void expect(int holds, const char *name) {
-    if (holds) {
-        passed++;
-        return;
-    }
-    failed++;
-    printf("writes: line %" PRIu64 ": %s\n", line_number, name);
-}
+enum { WRITE_TABLES = 4, SPARE = 5 };
 
 struct stored {
     struct bytes data, text;
@@ -28,27 +12,6 @@ struct stored {
 };
 
 /* ---- reading a case --------------------------------------------------------------------------------------------------------------- */
-
-static int hex_digit(char c) {
-    return c <= '9' ? c - '0' : c - 'a' + 10;
-}
-
-static struct bytes read_hex(const char *word) {
-    size_t len = strcmp(word, "-") == 0 ? 0 : strlen(word) / 2;
-    uint8_t *at = lend(len);
-    struct bytes b = {at, len};
-    for (size_t i = 0; i < len; i++)
-        at[i] = (uint8_t)(16 * hex_digit(word[2 * i]) + hex_digit(word[2 * i + 1]));
-    return b;
-}
-
-static uint64_t next_number(void) {
-    uint64_t n = 0;
-    const char *word = strtok(NULL, " \n");
-    if (word == NULL || !read_number(word, &n))
-        stop("a stored line of the writer has a wrong number");
-    return n;
-}
 
 /* A table of rows that are stored with so many numbers and lent with so many; numbers that the text doesn't say are of no account. Behind the last row
  * stands a number that is no row. */
@@ -141,16 +104,12 @@ static void try_case(const struct stored *s) {
 }
 
 int main(void) {
-    char *line = NULL;
-    size_t room = 0;
-    while (getline(&line, &room, stdin) > 0) {
+    char *line;
+    while ((line = next_case()) != NULL) {
         struct stored s;
-        line_number++;
         read_case(line, &s);
         try_case(&s);
         free_case(&s);
     }
-    free(line);
-    printf("%u passed, %u failed\n", passed, failed);
-    return failed > 0;
+    return told();
 }
