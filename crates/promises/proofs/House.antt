@@ -1,6 +1,6 @@
 -- What `larsavim_house` promises, read number by number: one outcome; 0 exactly of a house voice, 30 to 36 exactly of a voice that breaks a rule, each where every model loads in turn,
 -- and 12 to 23 of the first load that is refused; what stands in the tables after it (demand 1 for this call), and that the other task sees the same rows.
-use mathlib.Core.Path.{_≡_, refl, sym, ap, ap₂, _∙_, subst, subst₂}
+use mathlib.Core.Path.{_≡_, refl, sym, ap, subst, subst₂}
 use mathlib.Core.List.{List, [], _∷_}
 use mathlib.Core.Logic.{_⊎_, inl, inr}
 use Prim.Native.Nat.{ℕ, _≤_, _<_}
@@ -8,8 +8,7 @@ use native.Mathlib.Omega.{arith}
 use lib.ListN.{length, getD}
 use lib.Seq.{sets}
 use Rattle.written.specs.Record.{Header, Says}
-use Rattle.written.specs.Faults.{Refused}
-use Rattle.written.specs.Models.{Model, modelNumber, Models, StreamModels}
+use Rattle.written.specs.Models.{Model, Models}
 use Rattle.written.specs.Loading.{ModelSaid}
 use Rattle.written.specs.House.{HouseVoice, VoiceBreaks}
 use Rattle.written.specs.Sharing.{Side, questions, trees, records, values, Tables, Held, nothing, Stand}
@@ -17,7 +16,6 @@ use Rattle.written.proofs.OneFile.{says-one}
 use Rattle.written.proofs.ApartFile.{refused-one as opening-one, says-never}
 use Rattle.written_models.proofs.Openings.{refused-low}
 use Rattle.written_models.proofs.OneModel.{models-one}
-use Rattle.written_models.proofs.Numbers.{linking-number, no-model-number}
 use Rattle.written_house.proofs.Housed.{voice-breaks-one, voice-never}
 use Rattle.written_house.proofs.HouseExactly.{voice-breaks-number}
 use Rattle.load_model.specs.Load.{Tables as Lent}
@@ -26,9 +24,8 @@ use Rattle.walk.specs.Walking.{walkOf}
 use Rattle.walk_leaves.specs.Checks.{leavesFit}
 use Rattle.face_shared.specs.Answers.{heldAt, sideAt}
 use Rattle.promises.specs.Opening.{recordWords}
-use Rattle.promises.specs.Loading.{refusedNumbers}
-use Rattle.promises.specs.Sharing.{needed, zeroWork, BesideEnds, loaded, no-model, no-room, unlinked, Standing}
-use Rattle.promises.specs.Housing.{emptied, fiveOf, Loads, LoadRefused, InTurn, Stops, VoiceEnds, HouseEnds, AfterHouse}
+use Rattle.promises.specs.Sharing.{Standing}
+use Rattle.promises.specs.Housing.{fiveOf, InTurn, Stops, VoiceEnds, HouseEnds, AfterHouse}
 use Rattle.promises.proofs.Apart.{five}
 use Rattle.promises.proofs.Turns.{turns-one, stops-one, turns-never, stops-number, theirs, turns-apart, stops-apart, turns-stand, stops-stand}
 

@@ -1,7 +1,7 @@
 -- Loads into a task's rows, one after the other: each has one outcome, and so have all in turn; none of them changes what the other task sees.
 use mathlib.Core.Path.{_≡_, refl, sym, ap, ap₂, _∙_, subst, fun-ext}
-use mathlib.Core.List.{List, [], _∷_}
-use Prim.Native.Nat.{ℕ, _+_, _*_, _≤_, _<_}
+use mathlib.Core.List.{List, _∷_}
+use Prim.Native.Nat.{ℕ, _+_, _*_, _≤_}
 use native.Mathlib.Nat.{one-mul}
 use native.Mathlib.Omega.{arith}
 use lib.IntN.{ℤ}
@@ -10,7 +10,7 @@ use Rattle.written.specs.Record.{Header}
 use Rattle.written.specs.Said.{Layout}
 use Rattle.written.specs.Linking.{Row}
 use Rattle.written.specs.Tables.{TreeRows, ModelRefused, questionRows, patternRows, folded}
-use Rattle.written.specs.Models.{Model, modelNumber, dataOf}
+use Rattle.written.specs.Models.{Model, dataOf}
 use Rattle.written.specs.Loading.{ModelSaid, ReadsModel}
 use Rattle.written.specs.Sharing.{Side, opposite, Table, questions, patterns, trees, records, values, Tables, Held, nothing, seen, placed, zeros, cleared, Exactly, Stand}
 use Rattle.written.proofs.Folded.{wide-text, wide-folded, length-folded}
