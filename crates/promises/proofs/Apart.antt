@@ -30,6 +30,7 @@ use Rattle.shown_apart.specs.Real.{plannedOf, rowsFor}
 use Rattle.shown_apart.proofs.Fills.{words-fill}
 use Rattle.shown_apart.proofs.Kept.{keeps-of}
 use Rattle.shown_apart.proofs.Same.{shared-so, shared-neither, unload-so, unload-neither}
+use Rattle.promises.specs.Housing.{fiveOf}
 
 -- ---- bounds as they are handed back
 
@@ -83,10 +84,7 @@ after-held x p mine other t = go (holds mine) (stands t mine other) p
     go false true (model m) = room (roomBeside (m .need) other t && m .worked) m
 
 -- five numbers in front are the bounds
-abbrev fiveOf : Held → List ℕ
-fiveOf n = n questions ∷ n patterns ∷ n trees ∷ n records ∷ n values ∷ []
-
-five : (l : List ℕ) → 5 ≤ length l → (n : Held) → heldAt (sets l 0 (fiveOf n)) ≡ n
+pub five : (l : List ℕ) → 5 ≤ length l → (n : Held) → heldAt (sets l 0 (fiveOf n)) ≡ n
 five l h n = fun-ext at
   where
     at : (k : Table) → heldAt (sets l 0 (fiveOf n)) k ≡ n k

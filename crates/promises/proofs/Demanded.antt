@@ -1,14 +1,14 @@
 -- Demand 1 as it reads for `larsavim_house` (02, Wish 11), by number: what the words, the task's bounds and the tables are after it. Refusals before the loads change nothing; a refused
 -- load leaves what that load leaves, after what came before it was unloaded; 0 and 30 to 36 leave the last model.
-use mathlib.Core.Path.{_≡_, refl, sym, ap, _∙_, subst}
+use mathlib.Core.Path.{_≡_, refl, sym, ap}
 use mathlib.Core.List.{List, [], _∷_, _++_}
 use mathlib.Core.Logic.{_⊎_, inl, inr}
 use Prim.Native.Nat.{ℕ, _≤_, _<_}
 use native.Mathlib.Omega.{arith}
-use lib.ListN.{length, getD}
+use lib.ListN.{getD}
 use lib.Seq.{sets}
 use Rattle.written.specs.Record.{Header, Says}
-use Rattle.written.specs.Models.{Model, duration, modelNumber, Models}
+use Rattle.written.specs.Models.{Model, modelNumber, Models}
 use Rattle.written.specs.Loading.{ModelSaid}
 use Rattle.written.specs.Sharing.{Side, Held, nothing, cleared}
 use Rattle.written_models.proofs.Openings.{refused-low}

@@ -1,6 +1,6 @@
 -- What `larsavim_house` promises, read number by number: one outcome; 0 exactly of a house voice, 30 to 36 exactly of a voice that breaks a rule, each where every model loads in turn,
 -- and 12 to 23 of the first load that is refused; what stands in the tables after it (demand 1 for this call), and that the other task sees the same rows.
-use mathlib.Core.Path.{_≡_, refl, sym, ap, ap₂, _∙_, subst, subst₂}
+use mathlib.Core.Path.{_≡_, refl, sym, ap, subst, subst₂}
 use mathlib.Core.List.{List, [], _∷_}
 use mathlib.Core.Logic.{_⊎_, inl, inr}
 use Prim.Native.Nat.{ℕ, _≤_, _<_}
@@ -8,26 +8,26 @@ use native.Mathlib.Omega.{arith}
 use lib.ListN.{length, getD}
 use lib.Seq.{sets}
 use Rattle.written.specs.Record.{Header, Says}
-use Rattle.written.specs.Faults.{Refused}
-use Rattle.written.specs.Models.{Model, modelNumber, Models, StreamModels}
+use Rattle.written.specs.Models.{Model, Models}
 use Rattle.written.specs.Loading.{ModelSaid}
 use Rattle.written.specs.House.{HouseVoice, VoiceBreaks}
-use Rattle.written.specs.Sharing.{Side, Held, nothing, cleared, Stand}
+use Rattle.written.specs.Sharing.{Side, questions, trees, records, values, Tables, Held, nothing, Stand}
 use Rattle.written.proofs.OneFile.{says-one}
 use Rattle.written.proofs.ApartFile.{refused-one as opening-one, says-never}
 use Rattle.written_models.proofs.Openings.{refused-low}
 use Rattle.written_models.proofs.OneModel.{models-one}
-use Rattle.written_models.proofs.Numbers.{linking-number, no-model-number}
 use Rattle.written_house.proofs.Housed.{voice-breaks-one, voice-never}
 use Rattle.written_house.proofs.HouseExactly.{voice-breaks-number}
 use Rattle.load_model.specs.Load.{Tables as Lent}
 use Rattle.load_shared.specs.Beside.{rowsOf}
+use Rattle.walk.specs.Walking.{walkOf}
+use Rattle.walk_leaves.specs.Checks.{leavesFit}
 use Rattle.face_shared.specs.Answers.{heldAt, sideAt}
 use Rattle.promises.specs.Opening.{recordWords}
-use Rattle.promises.specs.Loading.{refusedNumbers}
-use Rattle.promises.specs.Sharing.{needed, zeroWork, BesideEnds, loaded, no-model, no-room, unlinked, Standing}
-use Rattle.promises.specs.Housing.{emptied, fiveOf, Loads, LoadRefused, InTurn, Stops, VoiceEnds, HouseEnds, AfterHouse}
-use Rattle.promises.proofs.Turns.{turns-one, stops-one, turns-never, stops-number, theirs, turns-apart, stops-apart}
+use Rattle.promises.specs.Sharing.{Standing}
+use Rattle.promises.specs.Housing.{fiveOf, InTurn, Stops, VoiceEnds, HouseEnds, AfterHouse}
+use Rattle.promises.proofs.Apart.{five}
+use Rattle.promises.proofs.Turns.{turns-one, stops-one, turns-never, stops-number, theirs, turns-apart, stops-apart, turns-stand, stops-stand}
 
 -- ---- one outcome
 
@@ -220,3 +220,31 @@ module _ {s w : List ℕ} {d : ℕ} {held other : List ℕ} {t : Lent} {out : Li
           by (VoiceEnds.stopped k) st = stops-apart k st
           by (VoiceEnds.breaks k v) st = turns-apart k st
           by (VoiceEnds.house k v) st = turns-apart k st
+
+  -- so that its walks and its leaf check are the same
+  pub house-walks : {r : ℕ} {w₁ held₁ o : List ℕ} {u : Lent} → AfterHouse s w d held other t out r w₁ held₁ u o → (tree : ℕ) (answers : List ℕ) (limit : ℕ)
+      → walkOf (theirs (sideAt d) (heldAt other) u trees) (theirs (sideAt d) (heldAt other) u records) tree answers limit
+      ≡ walkOf (theirs (sideAt d) (heldAt other) t trees) (theirs (sideAt d) (heldAt other) t records) tree answers limit
+  house-walks a tree answers limit = ap (λ (v : Tables). walkOf (v trees) (v records) tree answers limit) (house-apart a)
+
+  pub house-leaves : {r : ℕ} {w₁ held₁ o : List ℕ} {u : Lent} → AfterHouse s w d held other t out r w₁ held₁ u o → (wide : ℕ)
+      → leavesFit (theirs (sideAt d) (heldAt other) u questions) (theirs (sideAt d) (heldAt other) u trees) (theirs (sideAt d) (heldAt other) u records) (theirs (sideAt d) (heldAt other) u values) wide
+      ≡ leavesFit (theirs (sideAt d) (heldAt other) t questions) (theirs (sideAt d) (heldAt other) t trees) (theirs (sideAt d) (heldAt other) t records) (theirs (sideAt d) (heldAt other) t values) wide
+  house-leaves a wide = ap (λ (v : Tables). leavesFit (v questions) (v trees) (v records) (v values) wide) (house-apart a)
+
+  -- bounds that stood still do
+  pub house-stands : {r : ℕ} {w₁ held₁ o : List ℕ} {u : Lent} → AfterHouse s w d held other t out r w₁ held₁ u o → Stand (rowsOf t) (heldAt held) (heldAt other) → Stand (rowsOf u) (heldAt held₁) (heldAt other)
+  house-stands (AfterHouse.short k) st = st
+  house-stands (AfterHouse.ended a b c x) st = go x
+    where
+      go : {l w₁ held₁ : List ℕ} {u : Lent} → HouseEnds s w d held other t l w₁ held₁ u → Stand (rowsOf u) (heldAt held₁) (heldAt other)
+      go (HouseEnds.holding n) = st
+      go (HouseEnds.overlap f g) = st
+      go (HouseEnds.unopened f g r) = st
+      go (HouseEnds.few-words f g r l) = st
+      go (HouseEnds.judged f g i l m v) = by v (subst (λ (n : Held). Stand (rowsOf t) n (heldAt other)) f st)
+        where
+          by : {h : Header} {ms : List Model} {l held₁ : List ℕ} {u : Lent} → VoiceEnds (sideAt d) s h (heldAt other) ms held t l held₁ u → Stand (rowsOf t) nothing (heldAt other) → Stand (rowsOf u) (heldAt held₁) (heldAt other)
+          by {u = u} (VoiceEnds.stopped k) none = subst (λ (n : Held). Stand (rowsOf u) n (heldAt other)) (sym f) (stops-stand k none)
+          by {u = u} (VoiceEnds.breaks {mine = mine} k v) none = subst (λ (n : Held). Stand (rowsOf u) n (heldAt other)) (sym (five held b mine)) (turns-stand k none)
+          by {u = u} (VoiceEnds.house {mine = mine} k v) none = subst (λ (n : Held). Stand (rowsOf u) n (heldAt other)) (sym (five held b mine)) (turns-stand k none)

@@ -1,49 +1,55 @@
 -- `larsavim_house` keeps its promise.
-use mathlib.Core.Path.{_≡_, refl, sym, ap, _∙_, subst, subst₂, fun-ext}
+use mathlib.Core.Path.{_≡_, refl, sym, ap, _∙_, subst, fun-ext}
 use mathlib.Core.Bool.{Bool, true, false, cond, true≢false}
-use mathlib.Core.List.{List, [], _∷_, map}
-use Prim.Native.Nat.{ℕ, _≤_, _<_}
+use mathlib.Core.List.{List, [], _∷_}
+use Prim.Native.Nat.{ℕ, _≤_}
 use native.Mathlib.Omega.{arith}
 use borrow.Author.Tests.{ltb-true, ltb-false, ne-eqb}
-use lib.Dec.{ltb, eqb}
+use lib.Dec.{ltb}
 use lib.ListN.{length}
 use lib.Seq.{sets}
 use Rattle.written.specs.Record as record-of
-use Rattle.written.specs.Record.{All}
 use Rattle.written.specs.Models.{Model, Models}
 use Rattle.written.specs.Loading.{ModelSaid}
-use Rattle.written.specs.House.{HouseModel, VoiceBreaks}
+use Rattle.written.specs.House.{VoiceBreaks}
 use Rattle.written.specs.Sharing.{Side, Table, questions, patterns, trees, records, values, Held, nothing, Stand, holds}
 use Rattle.error.specs.Numbers.{numberOf, placeOf, lineOf}
 use Rattle.head_record.specs.Record.{headerRecord}
 use Rattle.head_record.specs.declared.Header.{Header}
-use Rattle.head_words.specs.Words.{headerAt}
 use Rattle.head_de.proofs.Sound.{Bytes}
-use Rattle.head_open.specs.Open.{openOf, refusedWith}
+use Rattle.head_open.specs.Open.{refusedWith}
 use Rattle.head_open.specs.declared.Opened.{Opened}
 use Rattle.load_choose.specs.declared.Which.{Which}
 use Rattle.load_model.specs.Load.{Tables as Lent}
 use Rattle.load_apart.proofs.Tests.{holds-nothing, nothing-holds}
+<<<<<<< HEAD
 use Rattle.load_shared.specs.Beside.{rowsOf}
 use Rattle.load_bounds.specs.Bounds.{heldOf}
 use Rattle.load_voice.specs.Voice.{modelsOf}
+=======
+use Rattle.load_shared.specs.Beside.{rowsOf}
+use Rattle.load_bounds.specs.Bounds.{heldOf}
+>>>>>>> w11s
 use Rattle.house_step.specs.Steps.{boundsOf}
 use Rattle.house_types.specs.Types.{typesRule}
 use Rattle.house_voice.specs.Voice.{broken, voiceFrom, voiceOf}
-use Rattle.house_voice.specs.Voice as voice
 use Rattle.house_voice.specs.declared.Broken.{Broken}
 use Rattle.house_voice.specs.declared.VoiceJudged.{VoiceJudged}
+<<<<<<< HEAD
 use Rattle.face_record.specs.declared.Said.{Said}
 use Rattle.face_open.specs.Answers.{openSaidBy, openSaid, openWordsBy, openWords}
 use Rattle.face_record.specs.Answers.{said}
+=======
+use Rattle.face_open.specs.Answers.{openSaidBy, openSaid, openWordsBy, openWords}
+use Rattle.face_record.specs.Answers.{said}
+>>>>>>> w11s
 use Rattle.face_shared.specs.Answers.{heldAt, sideAt, standing}
-use Rattle.face_house.specs.Answers.{After, house, untouched, ruledBy, saidBy, heldBy, openedBy, openedOf, openingBy, openingOf, houseOf, houseNumbers, HouseTells}
+use Rattle.face_house.specs.Answers.{After, house, untouched, ruledBy, saidBy, heldBy, openedOf, openingBy, openingOf, houseOf, houseNumbers, HouseTells}
 use Rattle.face_house.specs.declared.House.{House}
 use Rattle.face_trail.proofs.Above.{above-zero}
 use Rattle.shown_open.proofs.Opened.{OpenAnswer, open-sound}
 use Rattle.shown_open.proofs.Opened as answer
 use Rattle.shown_words.proofs.Shaped.{record-back}
-use Rattle.shown_models.proofs.Chosen.{whichOf}
 use Rattle.shown_voice.proofs.Order.{models-so}
 use Rattle.shown_house.proofs.Types.{TypesJudged, types-judged}
 use Rattle.promises.specs.Opening.{recordWords}

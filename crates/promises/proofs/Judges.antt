@@ -10,18 +10,17 @@ use lib.Seq.{sets}
 use Rattle.written.specs.Groups.{Pointwise}
 use Rattle.written.specs.Record.{Header, Says}
 use Rattle.written.specs.Said.{Layout}
-use Rattle.written.specs.Models.{Model, Models}
+use Rattle.written.specs.Models.{Model}
 use Rattle.written.specs.Loading.{ModelSaid, ReadsModel, NoModel, Unread, Unloaded}
 use Rattle.written.specs.House.{SaysModel, FirstRefused, Judges, JudgesFile}
-use Rattle.written.specs.Sharing.{Side, Table, Tables, Held, nothing, placed, zeros, Exactly, Stand}
-use Rattle.written.proofs.OneFile.{says-one}
+use Rattle.written.specs.Sharing.{Side, Table, Tables, Held, nothing, placed, zeros}
 use Rattle.written_house.proofs.HouseFile.{judges-file-one}
 use Rattle.load_model.specs.Load.{Tables as Lent}
 use Rattle.load_apart.proofs.Apart.{placed-long, exactly-zeros, stand-long}
-use Rattle.load_shared.specs.Beside.{rowsOf, withWork}
-use Rattle.face_shared.specs.Answers.{heldAt, sideAt}
+use Rattle.load_shared.specs.Beside.{rowsOf}
+use Rattle.face_shared.specs.Answers.{heldAt}
 use Rattle.promises.specs.Loading.{widening, linesOf}
-use Rattle.promises.specs.Sharing.{needed, modelRows, RoomBeside, zeroWork, BesideEnds, loaded, no-model, no-room, unlinked, Standing}
+use Rattle.promises.specs.Sharing.{needed, modelRows, RoomBeside, BesideEnds, loaded, no-model, no-room, unlinked, Standing}
 use Rattle.promises.specs.Housing.{emptied, Loads, loads, LoadRefused, InTurn, Stops, VoiceEnds, HouseEnds, AfterHouse}
 use Rattle.promises.proofs.Turns.{rows-exact, rows-back}
 

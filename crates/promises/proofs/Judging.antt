@@ -1,7 +1,7 @@
 -- A load into the task's rows, judged where it is done: what the model there is, and that the first rule that it is judged to break is the first that it breaks.
 use mathlib.Core.Path.{_≡_, refl, sym, ap, _∙_, subst, subst₂, fun-ext}
 use mathlib.Core.List.{List, [], _∷_}
-use Prim.Native.Nat.{ℕ, _^_, _≤_, _<_}
+use Prim.Native.Nat.{ℕ, _^_, _<_}
 use native.Mathlib.Omega.{arith}
 use lib.ListN.{length, getD, take}
 use Rattle.written.specs.Record as record-of
@@ -39,7 +39,7 @@ use Rattle.shown_load.proofs.Says.{S-short}
 use Rattle.shown_models.proofs.Chosen.{whichOf}
 use Rattle.shown_house.proofs.Rules.{Judged, rule-judged}
 use Rattle.promises.specs.Loading.{doneNumbers}
-use Rattle.promises.specs.Sharing.{needed, modelRows, RoomBeside, BesideEnds, loaded, no-room, unlinked}
+use Rattle.promises.specs.Sharing.{needed, modelRows, BesideEnds, loaded, no-room, unlinked}
 use Rattle.promises.specs.Housing.{Loads, LoadRefused}
 use Rattle.promises.proofs.Plans.{PlanSaid, plan-said}
 use Rattle.promises.proofs.Beside.{said, reads, need-is, beside-ends}

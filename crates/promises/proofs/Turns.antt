@@ -1,7 +1,7 @@
 -- Loads into a task's rows, one after the other: each has one outcome, and so have all in turn; none of them changes what the other task sees.
 use mathlib.Core.Path.{_≡_, refl, sym, ap, ap₂, _∙_, subst, fun-ext}
-use mathlib.Core.List.{List, [], _∷_}
-use Prim.Native.Nat.{ℕ, _+_, _*_, _≤_, _<_}
+use mathlib.Core.List.{List, _∷_}
+use Prim.Native.Nat.{ℕ, _+_, _*_, _≤_}
 use native.Mathlib.Nat.{one-mul}
 use native.Mathlib.Omega.{arith}
 use lib.IntN.{ℤ}
@@ -10,9 +10,9 @@ use Rattle.written.specs.Record.{Header}
 use Rattle.written.specs.Said.{Layout}
 use Rattle.written.specs.Linking.{Row}
 use Rattle.written.specs.Tables.{TreeRows, ModelRefused, questionRows, patternRows, folded}
-use Rattle.written.specs.Models.{Model, modelNumber, dataOf}
+use Rattle.written.specs.Models.{Model, dataOf}
 use Rattle.written.specs.Loading.{ModelSaid, ReadsModel}
-use Rattle.written.specs.Sharing.{Side, opposite, Table, questions, patterns, trees, records, values, Tables, Held, seen, placed, zeros, cleared, Exactly, Stand}
+use Rattle.written.specs.Sharing.{Side, opposite, Table, questions, patterns, trees, records, values, Tables, Held, nothing, seen, placed, zeros, cleared, Exactly, Stand}
 use Rattle.written.proofs.Folded.{wide-text, wide-folded, length-folded}
 use Rattle.written.proofs.ModelOnce.{model-rows-once, model-refused-once, model-never-both}
 use Rattle.written_models.proofs.Numbers.{linking-number, no-model-number}
@@ -159,6 +159,10 @@ module _ (x : Side) (other n : Held) (rows t : Tables) (w : List ℤ) (e : Exact
   put-apart : Stand t n other → seen (opposite x) other (rowsOf (withWork (placed x n rows t) w)) ≡ seen (opposite x) other t
   put-apart s = ap (seen (opposite x) other) (rows-back (placed x n rows t) w) ∙ placed-other x n rows t e other s
 
+-- bounds stand beside those of a task that holds nothing
+alone : (t : Lent) (mine other : Held) → Stand (rowsOf t) mine other → Stand (rowsOf t) nothing other
+alone t mine other s k = let a = s k in omega arith
+
 -- what the other sees of tables
 abbrev pub theirs : Side → Held → Lent → Tables
 theirs x other t = seen (opposite x) other (rowsOf t)
@@ -204,3 +208,17 @@ module _ {x : Side} {s : List ℕ} {h : Header} {other : Held} where
   pub stops-apart : {ms : List Model} {mine : Held} {t u : Lent} {n p l k : ℕ} → Stops x s h other ms mine t n p l k u → Stand (rowsOf t) mine other → theirs x other u ≡ theirs x other t
   stops-apart (Stops.here {mine = mine} {t = t} a) s = refused-apart a ∙ emptied-apart x other mine t s
   stops-apart (Stops.later {mine = mine} {t = t} l r) s = stops-apart r (loads-stand l) ∙ loads-apart l ∙ emptied-apart x other mine t s
+
+  -- after a refused load the task holds nothing
+  pub refused-stand : {m : Model} {t u : Lent} {n p k : ℕ} → LoadRefused x s h other m t n p k u → Stand (rowsOf t) nothing other → Stand (rowsOf u) nothing other
+  refused-stand {m} {t} (LoadRefused.refused a b) st = go b
+    where
+      go : {l : List ℕ} {u : Lent} → BesideEnds x s h m other t l u → Stand (rowsOf u) nothing other
+      go (loaded {y = y} {l = l} {ts = ts} {rs = rs} c r w) = put-stand x other (needed y) (modelRows y l ts rs) (rowsOf t) (t .work) (rows-exact c w) nothing st
+      go (no-model y c) = st
+      go (no-room c r) = st
+      go (unlinked {y = y} c r w) = put-stand x other (needed y) (zeros (needed y)) (rowsOf t) (t .work) (exactly-zeros (needed y)) nothing st
+
+  pub stops-stand : {ms : List Model} {mine : Held} {t u : Lent} {n p l k : ℕ} → Stops x s h other ms mine t n p l k u → Stand (rowsOf t) mine other → Stand (rowsOf u) nothing other
+  stops-stand (Stops.here {mine = mine} {t = t} a) st = refused-stand a (put-stand x other mine (zeros mine) (rowsOf t) (t .work) (exactly-zeros mine) nothing (alone t mine other st))
+  stops-stand (Stops.later l r) st = stops-stand r (loads-stand l)

@@ -2,12 +2,11 @@
 use mathlib.Core.Path.{_≡_, refl, sym, ap, ap₂, _∙_, subst}
 use mathlib.Core.Bool.{Bool, true, false, cond}
 use mathlib.Core.List.{List, [], _∷_, map}
-use Prim.Native.Nat.{ℕ, _*_, _≤_}
+use Prim.Native.Nat.{ℕ}
 use native.Mathlib.Omega.{arith}
 use native.Mathlib.Decide.{ℕ-discrete}
 use borrow.Author.Tests.{eq-eqb, ne-eqb}
 use lib.Dec.{eqb}
-use lib.ListN.{length}
 use Rattle.written.specs.Record as record-of
 use Rattle.written.specs.Record.{All}
 use Rattle.written.specs.Models as models
@@ -19,10 +18,8 @@ use Rattle.error.specs.Numbers.{numberOf, placeOf, lineOf}
 use Rattle.error.specs.declared.Refusal.{Refusal}
 use Rattle.head_record.specs.Record.{headerRecord}
 use Rattle.head_de.proofs.Sound.{Bytes}
-use Rattle.load_choose.specs.declared.Which.{Which}
 use Rattle.load_plan.specs.Plans as plans
 use Rattle.load_plan.specs.Plans.{planned}
-use Rattle.load_plan.specs.declared.Plan.{Plan}
 use Rattle.load_plan.specs.declared.Planned.{Planned}
 use Rattle.load_plan.specs.declared.Planned.the-variants as plan
 use Rattle.load_model.specs.Load.{Tables as Lent, After, untouched}
@@ -36,7 +33,7 @@ use Rattle.load_bounds.specs.declared.Held.{Held as Bounds}
 use Rattle.trail_voice.specs.Voice.{whichNumber}
 use Rattle.house_own.specs.Own.{ruleIn}
 use Rattle.house_step.specs.Steps as steps
-use Rattle.house_step.specs.Steps.{boundsOf, ruledAs, stepFor, stepOf}
+use Rattle.house_step.specs.Steps.{ruledAs, stepFor, stepOf}
 use Rattle.house_step.specs.declared.Step.{Step}
 use Rattle.house_step.specs.declared.Step.the-variants as step
 use Rattle.house_voice.specs.Voice as voice

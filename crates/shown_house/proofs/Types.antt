@@ -3,14 +3,13 @@ use mathlib.Core.Path.{_≡_, refl, sym, ap, ap₂, _∙_, subst}
 use mathlib.Core.Bool.{Bool, true, false, not, cond, true≢false}
 use mathlib.Core.List.{List}
 use mathlib.Core.Logic.{_⊎_, inl, inr}
-use Prim.Native.Nat.{ℕ, _+_, _≤_, _<_}
+use Prim.Native.Nat.{ℕ, _≤_, _<_}
 use native.Mathlib.Omega.{arith}
 use borrow.Author.Tests.{eqb-true, eq-eqb}
 use lib.Dec.{eqb}
 use lib.ListN.{length}
-use Rattle.written.specs.Bytes.{Span, same}
+use Rattle.written.specs.Bytes.{same}
 use Rattle.written.specs.Record.{Header, Says}
-use Rattle.written.specs.Linking.{Nth}
 use Rattle.written.specs.Models.{bytesOf}
 use Rattle.written.specs.House.{Counted, TypesOnce}
 use Rattle.laws.proofs.Every.{all-each, each-all}
