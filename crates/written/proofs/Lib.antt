@@ -22,3 +22,6 @@ pub mod Answers
 pub mod Pigeonhole
 pub mod Deepest
 pub mod Paths
+-- In small: the models of a voice and the house's rules (Voices), a trailer byte by byte (TrailerExample).
+pub mod Voices
+pub mod TrailerExample

@@ -3,5 +3,4 @@ pub mod TrailerFits
 pub mod TrailerTotal
 pub mod TrailerExactly
 pub mod TrailerApart
-pub mod TrailerExample
 pub mod OneTree
