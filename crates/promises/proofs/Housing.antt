@@ -22,27 +22,15 @@ use Rattle.head_open.specs.declared.Opened.{Opened}
 use Rattle.load_choose.specs.declared.Which.{Which}
 use Rattle.load_model.specs.Load.{Tables as Lent}
 use Rattle.load_apart.proofs.Tests.{holds-nothing, nothing-holds}
-<<<<<<< HEAD
 use Rattle.load_shared.specs.Beside.{rowsOf}
 use Rattle.load_bounds.specs.Bounds.{heldOf}
-use Rattle.load_voice.specs.Voice.{modelsOf}
-=======
-use Rattle.load_shared.specs.Beside.{rowsOf}
-use Rattle.load_bounds.specs.Bounds.{heldOf}
->>>>>>> w11s
 use Rattle.house_step.specs.Steps.{boundsOf}
 use Rattle.house_types.specs.Types.{typesRule}
 use Rattle.house_voice.specs.Voice.{broken, voiceFrom, voiceOf}
 use Rattle.house_voice.specs.declared.Broken.{Broken}
 use Rattle.house_voice.specs.declared.VoiceJudged.{VoiceJudged}
-<<<<<<< HEAD
-use Rattle.face_record.specs.declared.Said.{Said}
 use Rattle.face_open.specs.Answers.{openSaidBy, openSaid, openWordsBy, openWords}
 use Rattle.face_record.specs.Answers.{said}
-=======
-use Rattle.face_open.specs.Answers.{openSaidBy, openSaid, openWordsBy, openWords}
-use Rattle.face_record.specs.Answers.{said}
->>>>>>> w11s
 use Rattle.face_shared.specs.Answers.{heldAt, sideAt, standing}
 use Rattle.face_house.specs.Answers.{After, house, untouched, ruledBy, saidBy, heldBy, openedOf, openingBy, openingOf, houseOf, houseNumbers, HouseTells}
 use Rattle.face_house.specs.declared.House.{House}
