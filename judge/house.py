@@ -135,6 +135,13 @@ class Call:
         return ' '.join([self.file.hex() or '-', *map(str, numbers)]) + '\n'
 
 
+def read(line):
+    """A stored line as a call."""
+    words = line.split()
+    n = [int(w) for w in words[1:]]
+    return Call(bytes.fromhex(words[0].strip('-')), n[0], n[1:7], n[7:12], n[12:17])
+
+
 def room_for(file):
     """Numbers of each table and of the work that the models of a voice need, each by itself; of what is refused some."""
     rows, lines = [1] * 5, 1
