@@ -351,7 +351,7 @@ def rust(t):
     crate, library = os.path.join(t.ROOT, 'bindings', 'rust'), own_library(t)
     status, said = cargo(t, 'test', cwd=crate, **library)
     t.check('cargo test: %s' % said[-2000:] if status else 'cargo test', status, 0)
-    t.check('cargo test: how many', [int(n) for n in re.findall(r'test result: ok\. (\d+) passed', said) if n != '0'], [9, 1, 3, 4])
+    t.check('cargo test: how many', [int(n) for n in re.findall(r'test result: ok\. (\d+) passed', said) if n != '0'], [9, 3, 3, 4])
     status, said = cargo(t, 'build', '--examples', cwd=crate, **library)
     t.check('cargo build --examples: ' + said, status, 0)
     for path, want in (t.SAMPLE, (0, b'PDF 5\n')), (t.file_of(t.damaged(b'[STREAM]\n', b'[STRAEM]\n'), 'unsplit'), (1, b'silence (1)\n')):
@@ -435,6 +435,7 @@ def self_test(t):
     # the numbers that are answers: sums, needs, and the last three of each walk and each change
     answers = [m.span() for m in re.finditer(r'0x[0-9a-f]{16}', text)] + [m.span() for row in re.finditer(r'(?<=\{\{)[0-9, ]+', text) for m in re.finditer(r'\d+', text[:row.end()]) if m.start() >= row.start()]
     answers += [(row.start(k), row.end(k)) for row in re.finditer(r'^    \{\d+, \d+, -?\d+, (\d+), (\d+), (\d+)\}', text, re.M) for k in (1, 2, 3)]
+    answers += [(row.start(k), row.end(k)) for row in re.finditer(r'^    \{\d+, \{(\d+), (\d+), (\d+), (\d+)\}, ', text, re.M) for k in (1, 2, 3, 4)]
     own = re.search(r'UINT64_C\(0xcbf29ce484222325\)', text).start()
     answers = [a for a in answers if text[a[0]:a[1]] != text[own + 9:own + 27]]
     for a, e in r.sample(answers, 16):
