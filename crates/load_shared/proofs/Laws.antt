@@ -30,7 +30,7 @@ use Rattle.load_apart.proofs.Rows.{length-part, within, length-own}
 use Rattle.load_apart.proofs.Tests.{stands-is}
 use Rattle.load_apart.proofs.Apart.{unload-is}
 use Rattle.load_shared.specs.declared.Held.{Held as Bounds}
-use Rattle.load_shared.specs.Beside.{needOf, heldOf, tablesOf, rowsOf, withWork, standsAt, Fits, putBack, placedIn, roomBy, besideFor, besideOf, FillsOwn, LoadsBeside, Tabled, Unloads}
+use Rattle.load_shared.specs.Beside.{needOf, heldOf, tablesOf, rowsOf, withWork, standsAt, Fits, putBack, placedIn, roomBy, besideFor, besideOf, FillsOwn, PlacesBeside, LoadsBeside, Tabled, Unloads}
 
 -- ---- tests
 
@@ -163,47 +163,51 @@ not-stood x y q a t c v {b} e h = sym (stands-at x y q a t c v) ∙ sym e ∙ no
 pub stood-rows : (x y : Held) (q a t c v : List ℕ) {b : Bool} → b ≡ standsAt x y (length q) (length a) (length t) (length c) (length v) → not b ≡ false → Stand (tablesOf q a t c v) x y
 stood-rows x y q a t c v e h = stands-is (tablesOf q a t c v) x y (stood x y q a t c v e h)
 
+-- of a plan in the data d
+module _ (x : Side) (d : List ℕ) (p : Plan) (other : Held) (T : Lent) where
+  by-room : (b : Bool) → roomBy p other T ≡ b → {l : Loaded} {T₁ : Lent} → Is (cond b (placedIn x d p T) (asLent refusal.Room T)) l T₁ → PlacesBeside x d p other T l T₁
+  by-room b k {l} {T₁} z = subst (λ (b : Bool). Is (cond b (placedIn x d p T) (asLent refusal.Room T)) l T₁) (sym k) z
+
+  -- the rows as the code judges them, of bounds that are the plan's need
+  module _ (n : Bounds) {b : Bool} (i : heldOf n ≡ needOf p)
+      (j : b ≡ standsAt (heldOf n) other (length (T .questions)) (length (T .patterns)) (length (T .trees)) (length (T .records)) (length (T .values))) where
+    pub rows-judged : stands (rowsOf T) (needOf p) other ≡ b
+    rows-judged =
+        sym (stands-at (needOf p) other (T .questions) (T .patterns) (T .trees) (T .records) (T .values))
+        ∙ ap (λ (m : Held). standsAt m other (length (T .questions)) (length (T .patterns)) (length (T .trees)) (length (T .records)) (length (T .values))) (sym i) ∙ sym j
+
+    pub load-no-rows : not b ≡ true → PlacesBeside x d p other T (loaded.Refused refusal.Room) T
+    load-no-rows f = by-room false (ap (λ (c : Bool). c && leb (p .lines) (length (T .work) / 6)) (rows-judged ∙ not-true b f)) (refl, refl)
+
+    pub load-no-lines : not b ≡ false → length (T .work) / 6 < p .lines → PlacesBeside x d p other T (loaded.Refused refusal.Room) T
+    load-no-lines f l = by-room false (ap (λ (c : Bool). c && leb (p .lines) (length (T .work) / 6)) (rows-judged ∙ not-false b f) ∙ lt-leb _ _ l) (refl, refl)
+
+    pub load-filled : not b ≡ false → p .lines ≤ length (T .work) / 6 → {l : Loaded} {T₁ : Lent} → FillsOwn x d p T l T₁ → PlacesBeside x d p other T l T₁
+    load-filled f k z = by-room true (ap (λ (c : Bool). c && leb (p .lines) (length (T .work) / 6)) (rows-judged ∙ not-false b f) ∙ le-leb _ _ k) z
+
+    -- bounds that stand have room for a plan that needs them
+    pub load-fits : not b ≡ false → p .lines ≤ length (T .work) / 6 → Fits p (length (T .questions)) (length (T .patterns)) (length (T .trees)) (length (T .records)) (length (T .values)) (length (T .work))
+    load-fits f k =
+        let g : Stand (rowsOf T) (needOf p) other = stands-is (rowsOf T) (needOf p) other (rows-judged ∙ not-false b f) in
+        record {
+          questions = omega (arith, g questions);
+          patterns = omega (arith, g patterns);
+          trees = omega (arith, g trees);
+          records = omega (arith, g records);
+          values = omega (arith, g values);
+          lines = k;
+        }
+
+-- of the model asked for
 module _ (x : Side) (s : List ℕ) (h : Header) (which : Which) (other : Held) (T : Lent) where
   pub load-refused : {z : Refusal} → plan.Refused z ≡ planned s h which → LoadsBeside x s h which other T (loaded.Refused z) T
   unfolding besideOf
   load-refused {z} e = subst (λ (o : Planned). Is (besideFor x other (dataOf s h) o T) (loaded.Refused z) T) e (refl, refl)
 
-  module _ (p : Plan) (e : plan.Model p ≡ planned s h which) where
-    by-room : (b : Bool) → roomBy p other T ≡ b → {l : Loaded} {T₁ : Lent} → Is (cond b (placedIn x (dataOf s h) p T) (asLent refusal.Room T)) l T₁ → LoadsBeside x s h which other T l T₁
-    unfolding besideOf
-    by-room b k {l} {T₁} z =
-        subst (λ (o : Planned). Is (besideFor x other (dataOf s h) o T) l T₁) e (subst (λ (b : Bool). Is (cond b (placedIn x (dataOf s h) p T) (asLent refusal.Room T)) l T₁) (sym k) z)
-
-    -- the rows as the code judges them, of bounds that are the plan's need
-    module _ (n : Bounds) {b : Bool} (i : heldOf n ≡ needOf p)
-        (j : b ≡ standsAt (heldOf n) other (length (T .questions)) (length (T .patterns)) (length (T .trees)) (length (T .records)) (length (T .values))) where
-      pub rows-judged : stands (rowsOf T) (needOf p) other ≡ b
-      rows-judged =
-          sym (stands-at (needOf p) other (T .questions) (T .patterns) (T .trees) (T .records) (T .values))
-          ∙ ap (λ (m : Held). standsAt m other (length (T .questions)) (length (T .patterns)) (length (T .trees)) (length (T .records)) (length (T .values))) (sym i) ∙ sym j
-
-      pub load-no-rows : not b ≡ true → LoadsBeside x s h which other T (loaded.Refused refusal.Room) T
-      load-no-rows f = by-room false (ap (λ (c : Bool). c && leb (p .lines) (length (T .work) / 6)) (rows-judged ∙ not-true b f)) (refl, refl)
-
-      pub load-no-lines : not b ≡ false → length (T .work) / 6 < p .lines → LoadsBeside x s h which other T (loaded.Refused refusal.Room) T
-      load-no-lines f l = by-room false (ap (λ (c : Bool). c && leb (p .lines) (length (T .work) / 6)) (rows-judged ∙ not-false b f) ∙ lt-leb _ _ l) (refl, refl)
-
-      pub load-filled : not b ≡ false → p .lines ≤ length (T .work) / 6 → {d : List ℕ} {l : Loaded} {T₁ : Lent} → d ≡ dataOf s h → FillsOwn x d p T l T₁ → LoadsBeside x s h which other T l T₁
-      load-filled f k {d} {l} {T₁} y z =
-          by-room true (ap (λ (c : Bool). c && leb (p .lines) (length (T .work) / 6)) (rows-judged ∙ not-false b f) ∙ le-leb _ _ k) (subst (λ (d : List ℕ). FillsOwn x d p T l T₁) y z)
-
-      -- bounds that stand have room for a plan that needs them
-      pub load-fits : not b ≡ false → p .lines ≤ length (T .work) / 6 → Fits p (length (T .questions)) (length (T .patterns)) (length (T .trees)) (length (T .records)) (length (T .values)) (length (T .work))
-      load-fits f k =
-          let g : Stand (rowsOf T) (needOf p) other = stands-is (rowsOf T) (needOf p) other (rows-judged ∙ not-false b f) in
-          record {
-            questions = omega (arith, g questions);
-            patterns = omega (arith, g patterns);
-            trees = omega (arith, g trees);
-            records = omega (arith, g records);
-            values = omega (arith, g values);
-            lines = k;
-          }
+  pub load-model : (p : Plan) → plan.Model p ≡ planned s h which → {d : List ℕ} {l : Loaded} {T₁ : Lent} → d ≡ dataOf s h → PlacesBeside x d p other T l T₁ → LoadsBeside x s h which other T l T₁
+  unfolding besideOf
+  load-model p e {d} {l} {T₁} y z =
+      subst (λ (o : Planned). Is (besideFor x other (dataOf s h) o T) l T₁) e (subst (λ (d : List ℕ). Is (besideFor x other d (plan.Model p) T) l T₁) y z)
 
 -- ---- unloading
 

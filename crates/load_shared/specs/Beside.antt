@@ -102,6 +102,10 @@ besideOf x s h which other T = besideFor x other (dataOf s h) (planned s h which
 abbrev pub FillsOwn : Side → List ℕ → Plan → Lent → Loaded → Lent → Type 0
 FillsOwn x d p T = Is (placedIn x d p T)
 
+-- a plan in the data d, of a task that holds nothing
+abbrev pub PlacesBeside : Side → List ℕ → Plan → Held → Lent → Loaded → Lent → Type 0
+PlacesBeside x d p other T = Is (besideFor x other d (plan.Model p) T)
+
 abbrev pub LoadsBeside : Side → List ℕ → Header → Which → Held → Lent → Loaded → Lent → Type 0
 LoadsBeside x s h which other T = Is (besideOf x s h which other T)
 

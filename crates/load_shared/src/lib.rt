@@ -20,7 +20,7 @@ ghost use Rattle.written.specs.Sharing.{nothing, firstRow, holds};
 ghost use Rattle.head_words.specs.Words.{headerAt};
 ghost use Rattle.load_plan.specs.Plans.{Sound};
 ghost use Rattle.load_model.specs.Load.{lent};
-ghost use Rattle.load_shared.specs.Beside.{sideOf, heldOf, needOf, standsAt, Fits, FillsOwn, LoadsBeside, Unloads};
+ghost use Rattle.load_shared.specs.Beside.{sideOf, heldOf, needOf, standsAt, Fits, FillsOwn, PlacesBeside, LoadsBeside, Unloads};
 
 // A task's bounds: the rows that it holds of each table, and the values. All 0: it holds nothing.
 pub struct Held {
@@ -161,7 +161,40 @@ fn fill_own(
     )
 }
 
-// Loads the model asked for into one task's rows, beside those that the other holds. The task holds nothing; a table that lacks the other's rows has no room.
+// A plan into one task's rows, beside those that the other holds. The task holds nothing; a table that lacks the other's rows has no room.
+pub fn load_planned(
+    d: &[u8],
+    p: Plan,
+    top: bool,
+    other: Held,
+    questions: &mut [u64],
+    patterns: &mut [u64],
+    trees: &mut [u64],
+    records: &mut [u64],
+    values: &mut [u64],
+    work: &mut [i64],
+) -> Loaded
+    requires { ⌜ Sound (now d) p ⌝ }
+    ensures { λ r. ⌜ PlacesBeside (sideOf top) (now (d .entry)) p (heldOf other) (lent (now (questions .entry)) (now (patterns .entry)) (now (trees .entry)) (now (records .entry)) (now (values .entry)) (now (work .entry))) r (lent (now (questions .exit)) (now (patterns .exit)) (now (trees .exit)) (now (records .exit)) (now (values .exit)) (now (work .exit))) ⌝ }
+{
+    if !stand(
+        need(p),
+        other,
+        questions.len(),
+        patterns.len(),
+        trees.len(),
+        records.len(),
+        values.len(),
+    ) {
+        return Loaded::Refused(Refusal::Room);
+    }
+    if work.len() / 6 < p.lines {
+        return Loaded::Refused(Refusal::Room);
+    }
+    fill_own(d, p, top, questions, patterns, trees, records, values, work)
+}
+
+// Loads the model asked for into one task's rows, beside those that the other holds.
 pub fn load(
     file: &[u8],
     words: &[u64],
@@ -180,33 +213,18 @@ pub fn load(
 {
     match needs(file, words, which) {
         Planned::Refused(refusal) => Loaded::Refused(refusal),
-        Planned::Model(p) => {
-            if !stand(
-                need(p),
-                other,
-                questions.len(),
-                patterns.len(),
-                trees.len(),
-                records.len(),
-                values.len(),
-            ) {
-                return Loaded::Refused(Refusal::Room);
-            }
-            if work.len() / 6 < p.lines {
-                return Loaded::Refused(Refusal::Room);
-            }
-            fill_own(
-                data_of(file, words),
-                p,
-                top,
-                questions,
-                patterns,
-                trees,
-                records,
-                values,
-                work,
-            )
-        }
+        Planned::Model(p) => load_planned(
+            data_of(file, words),
+            p,
+            top,
+            other,
+            questions,
+            patterns,
+            trees,
+            records,
+            values,
+            work,
+        ),
     }
 }
 

@@ -38,7 +38,7 @@ enum Compared {
 }
 
 // 0 duration, 2i + 1 stream i, 2i + 2 its GV; there are at most 8 streams.
-fn number_of(which: Which) -> u64
+pub fn number_of(which: Which) -> u64
     requires { ⌜ whichNumber which ≤ 16 ⌝ }
     ensures { λ r. ⌜ r ≡ whichNumber which ⌝ }
 {
