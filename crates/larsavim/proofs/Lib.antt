@@ -4,3 +4,4 @@ pub mod Partly
 pub mod Depths
 pub mod Sharing
 pub mod Accepts
+pub mod Housing

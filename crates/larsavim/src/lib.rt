@@ -1,5 +1,6 @@
 // The face: the public calls exported to C, on numbers and slices alone (host/larsavim.h documents each). No call has a requirement: any bytes, any words, any
 // numbers, slices of any length. A slice for an answer that is too short is 20 before all else, with nothing written.
+use face_house::house_said;
 use face_jobs::Job;
 use face_jobs::walk_job;
 use face_load::load_said;
@@ -41,6 +42,7 @@ ghost use Rattle.larsavim.specs.Sharing.{heldLeft, LoadShares, TreeShare
 ghost use Rattle.larsavim.specs.Accepts.{AcceptTells};
 ghost use Rattle.larsavim.specs.Trails.{TrailerTells, TrailedTells};
 ghost use Rattle.walk_bare.specs.Bare.{BareTells};
+ghost use Rattle.face_house.specs.Answers.{HouseTells};
 
 // 20: a lent slice is too short.
 const ROOM: u64 = 20;
@@ -569,4 +571,38 @@ pub extern "C" fn larsavim_bare_walk(
     ensures { λ r. ⌜ BareTells (now (text .entry)) tree (now (answers .entry)) limit (now (out .entry)) r (now (out .exit)) ⌝ }
 {
     bare_said(text, tree, answers, limit, out)
+}
+
+// Judges a voice by the house's rules, model after model in one task's rows.
+#[no_mangle]
+pub extern "C" fn larsavim_house(
+    file: &[u8],
+    words: &mut [u64],
+    side: u64,
+    held: &mut [u64],
+    other: &[u64],
+    questions: &mut [u64],
+    patterns: &mut [u64],
+    trees: &mut [u64],
+    records: &mut [u64],
+    values: &mut [u64],
+    work: &mut [i64],
+    out: &mut [u64],
+) -> u64
+    ensures { λ r. ⌜ HouseTells (now (file .entry)) (now (words .entry)) side (now (held .entry)) (now (other .entry)) (lent (now (questions .entry)) (now (patterns .entry)) (now (trees .entry)) (now (records .entry)) (now (values .entry)) (now (work .entry))) (now (out .entry)) r (now (words .exit)) (now (held .exit)) (lent (now (questions .exit)) (now (patterns .exit)) (now (trees .exit)) (now (records .exit)) (now (values .exit)) (now (work .exit))) (now (out .exit)) ⌝ }
+{
+    house_said(
+        file,
+        words,
+        side,
+        held,
+        other,
+        questions,
+        patterns,
+        trees,
+        records,
+        values,
+        work,
+        out,
+    )
 }
