@@ -11,6 +11,7 @@ struct checking {
     const char *path;
     const struct voice *v;
     uint64_t warnings;
+    int of_house;
 };
 
 /* ---- a finding, as a line or as an object ---------------------------------------------------------------------------------------- */
@@ -150,6 +151,36 @@ static void tell_warning(const struct warning *w, void *with) {
     c->warnings++;
 }
 
+/* ---- the house's rules ------------------------------------------------------------------------------------------------------------ */
+
+struct broken {
+    const struct voice *v;
+    const uint64_t *out;
+};
+
+static void say_rule(FILE *to, const void *of) {
+    const struct broken *b = of;
+    fputs("warning: ", to);
+    explain_rule(to, b->v, b->out);
+}
+
+/* The first rule that the voice breaks; a refused load has been told by then. */
+static void check_house(struct checking *c) {
+    uint64_t out[LARSAVIM_HOUSE_OUT];
+    struct broken b = {c->v, out};
+    judge_house(c->v, out);
+    c->of_house = out[OUT_NUMBER] == LARSAVIM_SUCCESS;
+    if (!breaks_rule(out))
+        return;
+    begin(c, "house");
+    if (c->json)
+        printf(",\"number\":%" PRIu64, out[OUT_NUMBER]);
+    if (c->json && out[OUT_NUMBER] >= LARSAVIM_IDS)
+        printf(",\"model\":%" PRIu64, out[LARSAVIM_HOUSE_MODEL]);
+    finish(c, say_rule, &b);
+    c->warnings++;
+}
+
 /* ---- files ---------------------------------------------------------------------------------------------------------------------- */
 
 /* A line for a model that doesn't load or fails the leaf check, and its warnings where it loads; nothing for one that is in order. */
@@ -179,6 +210,7 @@ static int check_voice(struct checking *c) {
     models = models_of(c->v);
     for (uint64_t which = 0; which < models; which++)
         good &= check_model(c, which);
+    check_house(c);
     return good;
 }
 
@@ -189,6 +221,7 @@ static int check_file(struct checking *c) {
     int good;
     c->v = &v;
     c->warnings = 0;
+    c->of_house = 0;
     if (!map_file(c->path, &file)) {
         if (c->json) {
             begin(c, "unreadable");
@@ -200,7 +233,7 @@ static int check_file(struct checking *c) {
     good = check_voice(c);
     if (c->json) {
         begin(c, "verdict");
-        printf(",\"in_order\":%s,\"warnings\":%" PRIu64 "}\n", good ? "true" : "false", c->warnings);
+        printf(",\"in_order\":%s,\"house\":%s,\"warnings\":%" PRIu64 "}\n", good ? "true" : "false", c->of_house ? "true" : "false", c->warnings);
     }
     close_voice(&v);
     unmap_file(file);
@@ -209,7 +242,7 @@ static int check_file(struct checking *c) {
 
 /* Every file is looked at, whatever the ones before it are. */
 int check(int json, int strict, int files, char **paths) {
-    struct checking c = {json, strict, NULL, NULL, 0};
+    struct checking c = {json, strict, NULL, NULL, 0, 0};
     int worst = ALL_WELL;
     for (int i = 0; i < files; i++) {
         int status;

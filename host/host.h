@@ -324,6 +324,9 @@ void free_shared(struct shared *s);
 uint64_t load_shared(struct shared *s, const struct voice *v, uint64_t which, uint64_t side, uint64_t out[LARSAVIM_LOAD_OUT]);
 uint64_t unload_shared(struct shared *s, uint64_t side);
 
+/* A whole voice by the house's rules, likewise; out as larsavim_house's. */
+uint64_t house_shared(struct shared *s, struct bytes file, uint64_t side, uint64_t out[LARSAVIM_HOUSE_OUT]);
+
 /* One tree of a model through the file's trailer, likewise (tree.c); and the line of a load. */
 uint64_t load_tree(struct shared *s, const struct voice *v, uint64_t which, uint64_t tree, uint64_t side, uint64_t out[LARSAVIM_LOAD_OUT]);
 void put_loaded(const uint64_t out[LARSAVIM_LOAD_OUT]);
@@ -338,6 +341,15 @@ void explain_shared(FILE *to, const struct shared *s, uint64_t side, const uint6
 
 /* The bytes of a word of hex, in lent memory (rig/hex.c). 0 where it is none. */
 int bytes_of_hex(const char *word, struct bytes *out);
+
+/* ---- house voices (house.c) ------------------------------------------------------------------------------------------------------ */
+
+/* A voice by the house's rules, in tables of just the rows that its largest model needs; one that doesn't open has the opening's number and place. */
+void judge_house(const struct voice *v, uint64_t out[LARSAVIM_HOUSE_OUT]);
+
+/* Whether a rule was broken (30 to 36), and which, as a sentence. */
+int breaks_rule(const uint64_t out[LARSAVIM_HOUSE_OUT]);
+void explain_rule(FILE *to, const struct voice *v, const uint64_t out[LARSAVIM_HOUSE_OUT]);
 
 /* ---- the verbs ---------------------------------------------------------------------------------------------------------------- */
 
@@ -362,6 +374,7 @@ int trailer(const char *path);      /* trail.c */
 int one_tree(char **words);         /* tree.c */
 void explain_text_refusal(FILE *to, const struct voice *v, uint64_t which, const uint64_t *out); /* accept.c */
 int bare(char **words);             /* bare.c */
+int house(int files, char **paths); /* house.c */
 void show_depth(const struct larsavim_model *m); /* depth.c: of `inspect` */
 
 /* ---- the test rig (rig/), or nothing (plain.c) ----------------------------------------------------------------------------------- */

@@ -6,7 +6,10 @@
 static const char usage[] =
     "usage: larsavim inspect FILE                          the header, what each model needs, and what is wrong\n"
     "       larsavim check [--strict] [--json] FILE..      status 0 if every model of every file loads and passes the leaf check; warns of\n"
-    "                                                      two lines with one id, names that stand twice, what nobody asks or reaches\n"
+    "                                                      two lines with one id, names that stand twice, what nobody asks or reaches, and\n"
+    "                                                      of a voice that is none of the house's\n"
+    "       larsavim house FILE..                          status 0 if every file is a house voice: ids 0, -1, -2, .., names once, leaves, means\n"
+    "                                                      and variances good; else a line with the first rule that it breaks\n"
     "       larsavim draw FILE MODEL TREE                  the tree as a picture, in Graphviz's language; --svg: as SVG, by its program dot;\n"
     "                                                      --answers ANSWERS or --label LABEL: the way of that walk in it\n"
     "       larsavim tables FILE..                         the sizes of the tables that voices need, as a C header; the greatest of several\n"
@@ -66,6 +69,8 @@ static int run(const char *verb, int n, char **words) {
         return n == 1 ? inspect(words[0]) : wrong("inspect takes one FILE", NULL);
     if (strcmp(verb, "check") == 0)
         return check_words(n, words);
+    if (strcmp(verb, "house") == 0)
+        return n >= 1 ? house(n, words) : wrong("house takes one FILE or more", NULL);
     if (strcmp(verb, "draw") == 0) {
         int status = draw_words(n, words);
         return status != NOT_SO ? status : wrong("draw takes FILE MODEL TREE, and perhaps --svg, and --answers ANSWERS or --label LABEL", NULL);

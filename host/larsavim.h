@@ -6,8 +6,8 @@
  *   1. each pointer is good for its length: that many bytes, 8-byte numbers or jobs can be read there (and written, where the parameter
  *      is not const), at an address that suits their type, and nobody else writes them until the call returns. A length of 0 asks
  *      nothing of its pointer, which may be null;
- *   2. nothing that is lent for writing (`words` of larsavim_open, the tables and the work of larsavim_load, the tables, the work and
- *      `held` of the two calls of a task, the work of larsavim_depth, the answers of larsavim_answers, the jobs, the buffer of
+ *   2. nothing that is lent for writing (`words` of the calls that open a file, the tables and the work of larsavim_load, the tables, the
+ *      work and `held` of the calls of a task, the work of larsavim_depth, the answers of larsavim_answers, the jobs, the buffer of
  *      larsavim_write, every `out`) overlaps another slice of the same call.
  *
  * Numbers are 64 bits wide; a slice is a pointer and, behind it, how many bytes, numbers or jobs it has. No call keeps a pointer.
@@ -55,13 +55,20 @@ extern "C" {
 #define LARSAVIM_LONENODE 23  /* a tree's one reference is a node; place and line as in 21 */
 #define LARSAVIM_WALKTABLE 24 /* no such tree or no record in it, a record met outside its tree, the tables or the kinds, or no answer for its question.
                                * Of larsavim_answers: a pattern outside its table or the data. Of larsavim_write: a row points outside its table or the data.
-                               * Of larsavim_load_shared, larsavim_load_tree and larsavim_unload: the two tasks' bounds overlap or pass a table, or there is
-                               * no such side; of larsavim_load_tree also: the model has no such row in the trailer */
+                               * Of larsavim_load_shared, larsavim_load_tree, larsavim_house and larsavim_unload: the two tasks' bounds overlap or pass a
+                               * table, or there is no such side; of larsavim_load_tree also: the model has no such row in the trailer */
 #define LARSAVIM_STEPS 25     /* another question would pass the walk's limit */
 #define LARSAVIM_TRAILER 26   /* the buffer is too short for a trailer, the file with it would pass the limit, or there are fewer than 12 data bytes */
 #define LARSAVIM_SUM 27       /* the trailer's sum isn't that of the bytes before it */
 #define LARSAVIM_TRAILER_ROWS 28 /* the trailer's rows don't end where its last three numbers begin, or aren't the text's */
 #define LARSAVIM_HELD 29      /* the task already holds a model */
+#define LARSAVIM_STREAM_NUMBER 30 /* 30 to 36 of larsavim_house alone. NUM_STREAMS isn't the number of names in STREAM_TYPE */
+#define LARSAVIM_STREAM_TWICE 31 /* a name stands twice in STREAM_TYPE */
+#define LARSAVIM_IDS 32       /* a tree's ids aren't 0, -1, -2, .. in line order */
+#define LARSAVIM_NAME_TWICE 33 /* a question name stands twice */
+#define LARSAVIM_LEAF 34      /* a leaf is 0 or past its tree's entries */
+#define LARSAVIM_MEAN 35      /* a mean isn't finite */
+#define LARSAVIM_VARIANCE 36  /* a variance isn't finite and above zero */
 #define LARSAVIM_OTHER_ROWS 37 /* record rows that don't belong to the tree */
 
 /* A place is a file offset, counted from 0, for 2 to 8 and 10; for 17 of a load an offset from the first data byte (LARSAVIM_DATA_START): the
@@ -96,6 +103,7 @@ extern "C" {
 #define LARSAVIM_TRAILER_OUT 3  /* number, place, bytes of the trailer */
 #define LARSAVIM_TRAILED_OUT 4  /* number, place, rows, file offset of the first row */
 #define LARSAVIM_BARE_OUT 6     /* number, place, line, PDF number, questions asked, lines read */
+#define LARSAVIM_HOUSE_OUT 4    /* number, place, line, model */
 
 /* Where an answer has what: the number comes first in all of them. */
 #define LARSAVIM_OUT_NUMBER 0
@@ -140,6 +148,9 @@ extern "C" {
 #define LARSAVIM_BARE_PDF 3
 #define LARSAVIM_BARE_ASKED 4
 #define LARSAVIM_BARE_READ 5
+#define LARSAVIM_HOUSE_PLACE 1
+#define LARSAVIM_HOUSE_LINE 2
+#define LARSAVIM_HOUSE_MODEL 3
 
 /* ---- Opening -------------------------------------------------------------------------------------------------------------------
  * The header record crosses as words: LARSAVIM_WORDS numbers that an opening writes and later calls take back. Words that no
@@ -279,7 +290,7 @@ uint64_t larsavim_load(const uint8_t *file, uint64_t file_len, const uint64_t *w
 /* ---- Two tasks in the same tables ------------------------------------------------------------------------------------------------
  * Two tasks can hold a model each in one set of tables: the rows of the bottom task are the first of each table, those of the top task the last
  * whole ones, in their order; what is left over behind the last whole row is nobody's. Each task keeps its own bounds, LARSAVIM_BOUNDS
- * numbers that begin as 0 and that these two calls write; the other's are only read. Every reference of a row counts from the task's own first row of that
+ * numbers that begin as 0 and that these calls write; the other's are only read. Every reference of a row counts from the task's own first row of that
  * table, so that its rows, cut out by LARSAVIM_FIRST, are those of a load into tables of its own, and all other calls take them so. Nothing that a task does changes
  * the other's rows or bounds; the other is seen in one thing alone, whether there is room (20). The work belongs to one call. The two take turns: rule 1. */
 
@@ -311,6 +322,20 @@ uint64_t larsavim_load_tree(const uint8_t *file, uint64_t file_len, const uint64
                             uint64_t *questions, uint64_t questions_len, uint64_t *patterns, uint64_t patterns_len,
                             uint64_t *trees, uint64_t trees_len, uint64_t *records, uint64_t records_len,
                             uint64_t *values, uint64_t values_len, int64_t *work, uint64_t work_len, uint64_t *out, uint64_t out_len);
+
+/* Judges a voice by the house's rules, which promise more than the format, model after model in one task's rows: the duration model, then each stream of STREAM_TYPE and, unless its
+ * USE_GV is 0, its GV; each is unloaded before the next is loaded. 0 exactly where every model loads and no rule is broken. The rules: NUM_STREAMS is the number of names in STREAM_TYPE
+ * (30), none of which stands twice (31); of each model, the ids of every tree in braces are 0, -1, -2, .. in line order (32; a lone reference has none), no question name stands twice
+ * (33), every leaf is one of its tree's entries, which count from 1 (34), every mean is finite (35), every variance finite and above zero (36); msd is free. out: number (0, 1 to 10, 12
+ * to 24, 29 to 36), place, line, model: the model that is refused or breaks the rule, 0 for all other numbers. Order: 20, 29 and 24 for bounds, as larsavim_load_shared; those of opening,
+ * with the record into the words as larsavim_open has it; of each model in turn 12 to 23, as larsavim_load_shared; only then 30, 31, and 32 to 36 of the first model that breaks one, the
+ * first rule that it breaks. 29, 24 and the refusals of opening change nothing but `out`. 0 and 30 to 36: the task's rows are the last model's, and `held` are its bounds. 12 to 23: what
+ * the model's own load leaves, where the rows of the models before it are zero; the task holds nothing. The other's rows are as before in every case. */
+uint64_t larsavim_house(const uint8_t *file, uint64_t file_len, uint64_t *words, uint64_t words_len, uint64_t side,
+                        uint64_t *held, uint64_t held_len, const uint64_t *other, uint64_t other_len,
+                        uint64_t *questions, uint64_t questions_len, uint64_t *patterns, uint64_t patterns_len,
+                        uint64_t *trees, uint64_t trees_len, uint64_t *records, uint64_t records_len,
+                        uint64_t *values, uint64_t values_len, int64_t *work, uint64_t work_len, uint64_t *out, uint64_t out_len);
 
 /* Zeroes a task's rows and its bounds; of a task that holds nothing it changes nothing. Returns 0; 20 where bounds have fewer than LARSAVIM_BOUNDS numbers; 24 where side is
  * neither 0 nor 1, or the two tasks' rows overlap or pass a table. Refused, nothing is written. */

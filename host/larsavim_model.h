@@ -74,6 +74,14 @@ static inline uint64_t larsavim_model_load_tree(struct larsavim_model *m, uint64
                               LARSAVIM_LOAD_OUT);
 }
 
+/* Judges a voice by the house's rules, as larsavim_house: `m` has the tables whole, with rows enough for each of its models. On 0 and 30 to 36 the last of them stands in the task's rows. */
+static inline uint64_t larsavim_model_house(const struct larsavim_model *m, uint64_t side, uint64_t *held, const uint64_t *other, const uint8_t *file, uint64_t file_len, uint64_t *words, uint64_t *out,
+                                            uint64_t out_len) {
+    return larsavim_house(file, file_len, words, LARSAVIM_WORDS, side, held, LARSAVIM_BOUNDS, other, LARSAVIM_BOUNDS, m->table[LARSAVIM_QUESTIONS], m->lent[LARSAVIM_QUESTIONS],
+                          m->table[LARSAVIM_PATTERNS], m->lent[LARSAVIM_PATTERNS], m->table[LARSAVIM_TREES], m->lent[LARSAVIM_TREES], m->table[LARSAVIM_RECORDS], m->lent[LARSAVIM_RECORDS],
+                          m->table[LARSAVIM_VALUES], m->lent[LARSAVIM_VALUES], m->work, m->work_lent, out, out_len);
+}
+
 static inline uint64_t larsavim_model_unload(const struct larsavim_model *m, uint64_t side, uint64_t *held, const uint64_t *other) {
     return larsavim_unload(side, held, LARSAVIM_BOUNDS, other, LARSAVIM_BOUNDS, m->table[LARSAVIM_QUESTIONS], m->lent[LARSAVIM_QUESTIONS], m->table[LARSAVIM_PATTERNS],
                            m->lent[LARSAVIM_PATTERNS], m->table[LARSAVIM_TREES], m->lent[LARSAVIM_TREES], m->table[LARSAVIM_RECORDS], m->lent[LARSAVIM_RECORDS],

@@ -53,6 +53,16 @@ uint64_t load_shared(struct shared *s, const struct voice *v, uint64_t which, ui
     return number;
 }
 
+uint64_t house_shared(struct shared *s, struct bytes file, uint64_t side, uint64_t out[LARSAVIM_HOUSE_OUT]) {
+    uint64_t *told = answer_slice(LARSAVIM_HOUSE_OUT), *words = lend(8 * LARSAVIM_WORDS);
+    uint64_t number = larsavim_house(file.at, file.len, words, LARSAVIM_WORDS, side, s->held[side], LARSAVIM_BOUNDS, s->held[1 - side], LARSAVIM_BOUNDS, s->table[QUESTIONS],
+                                     s->lent[QUESTIONS], s->table[PATTERNS], s->lent[PATTERNS], s->table[TREES], s->lent[TREES], s->table[RECORDS], s->lent[RECORDS], s->table[VALUES],
+                                     s->lent[VALUES], s->work, s->work_lent, told, LARSAVIM_HOUSE_OUT);
+    memcpy(out, told, 8 * LARSAVIM_HOUSE_OUT);
+    give_back(words, 8 * LARSAVIM_WORDS);
+    return number;
+}
+
 uint64_t unload_shared(struct shared *s, uint64_t side) {
     return larsavim_unload(side, s->held[side], LARSAVIM_BOUNDS, s->held[1 - side], LARSAVIM_BOUNDS, s->table[QUESTIONS], s->lent[QUESTIONS], s->table[PATTERNS], s->lent[PATTERNS],
                            s->table[TREES], s->lent[TREES], s->table[RECORDS], s->lent[RECORDS], s->table[VALUES], s->lent[VALUES]);

@@ -1,4 +1,4 @@
-/* fuzz.c: the program's verbs over any bytes, for libFuzzer: inspect, check (in words and as JSON), dump, tables, and a picture of each tree. The library is linked as it is proved; what is
+/* fuzz.c: the program's verbs over any bytes, for libFuzzer: inspect, check (in words and as JSON), house, dump, tables, and a picture of each tree. The library is linked as it is proved; what is
  * instrumented, and looked at by the sanitizers, is the program around it. What `stop` ends, a library and a program that contradict each other, is a finding too. */
 #define _POSIX_C_SOURCE 200809L
 #include <fcntl.h>
@@ -49,6 +49,7 @@ int LLVMFuzzerTestOneInput(const uint8_t *data, size_t size) {
     inspect(path);
     check(0, 0, 1, paths);
     check(1, 1, 1, paths);
+    house(1, paths);
     dump(path);
     tables(1, paths);
     pictures(path);

@@ -3,6 +3,7 @@
  *   tables Q P T R V W             so many numbers in each table and in the work, each 5a5a5a5a5a5a5a5a; both tasks hold nothing
  *   load SIDE MODEL HEX            LOAD number place line questions patterns trees records values
  *   tree SIDE MODEL TREE HEX       the same of one tree, through the file's trailer
+ *   house SIDE HEX                 HOUSE number place line model: a whole voice by the house's rules, model after model
  *   unload SIDE                    UNLOAD number
  *   held SIDE Q P T R V            bounds that no call handed back; no answer
  *   walk SIDE TREE ANSWERS LIMIT   WALK number PDF asked, over the task's own rows
@@ -137,6 +138,18 @@ static const char *answer_leaves(struct script *c, char **words, uint64_t side) 
     return NULL;
 }
 
+static const char *answer_house(struct script *c, char **words, uint64_t side) {
+    uint64_t out[LARSAVIM_HOUSE_OUT];
+    struct bytes file;
+    if (!bytes_of_hex(words[2], &file))
+        return "has a file that is no hex";
+    house_shared(&c->s, file, side, out);
+    printf("HOUSE %" PRIu64 " %" PRIu64 " %" PRIu64 " %" PRIu64 "\n", out[OUT_NUMBER], out[LARSAVIM_HOUSE_PLACE], out[LARSAVIM_HOUSE_LINE], out[LARSAVIM_HOUSE_MODEL]);
+    give_back(file.at, file.len);
+    c->refused |= out[OUT_NUMBER] != LARSAVIM_SUCCESS;
+    return NULL;
+}
+
 /* A line of a task: its verb, a side and more. */
 static const char *answer_task(struct script *c, char **words, int n) {
     uint64_t side;
@@ -146,6 +159,8 @@ static const char *answer_task(struct script *c, char **words, int n) {
         return answer_load(c, words, side, 0);
     if (strcmp(words[0], "tree") == 0 && n == 5)
         return answer_load(c, words, side, 1);
+    if (strcmp(words[0], "house") == 0 && n == 3)
+        return answer_house(c, words, side);
     if (strcmp(words[0], "held") == 0 && n == 2 + LARSAVIM_BOUNDS)
         return answer_held(c, words, side);
     if (strcmp(words[0], "walk") == 0 && n == 5)
@@ -158,7 +173,7 @@ static const char *answer_task(struct script *c, char **words, int n) {
         c->refused |= number != LARSAVIM_SUCCESS;
         return NULL;
     }
-    return "is no load, tree, unload, held, walk or leaves with its words";
+    return "is no load, tree, house, unload, held, walk or leaves with its words";
 }
 
 static const char *answer(char *line, void *with) {

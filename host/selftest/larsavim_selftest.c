@@ -247,6 +247,24 @@ static const struct {
     {75, 57, -1, 10, 69, 0}
 };
 
+/* One byte of the voice changed (the first row: none): then the house's rules say so, and where all models load, the last one has the rows of one of the models above; -1 where it isn't held. */
+static const struct {
+    uint16_t at, told[LARSAVIM_HOUSE_OUT];
+    uint8_t byte;
+    int8_t last;
+} houses[] = {
+    {0, {35, 0, 0, 0}, 91, 3},
+    {115, {30, 0, 0, 0}, 51, 3},
+    {132, {31, 0, 0, 0}, 77, 2},
+    {740, {32, 0, 0, 0}, 49, 3},
+    {765, {34, 0, 0, 0}, 52, 3},
+    {761, {34, 0, 0, 0}, 48, 3},
+    {374, {15, 0, 0, 4}, 49, -1},
+    {1177, {22, 0, 0, 3}, 120, -1},
+    {1183, {17, 541, 0, 3}, 59, -1},
+    {101, {5, 101, 0, 0}, 120, -1}
+};
+
 /* ---- memory ------------------------------------------------------------------------------------------------------------------------ */
 
 static uint8_t file[VOICE_LEN], answers[QUESTIONS + 1], text[TEXT];
@@ -463,6 +481,19 @@ static int one_tree_holds(int i) {
     return 1;
 }
 
+/* The whole voice by the house's rules, for either task; the last model stays. */
+static int house_holds(int i) {
+    uint64_t side = (uint64_t)i % 2;
+    file[houses[i].at] = houses[i].byte;
+    larsavim_house(file, VOICE_LEN, words, LARSAVIM_WORDS, side, held[side], LARSAVIM_BOUNDS, held[1 - side], LARSAVIM_BOUNDS, questions, room[0], patterns, room[1], trees, room[2], records,
+                   room[3], values, room[4], work, WORK, out, LARSAVIM_HOUSE_OUT);
+    file[houses[i].at] = voice[houses[i].at];
+    for (int k = 0; k < LARSAVIM_HOUSE_OUT; k++)
+        if (out[k] != houses[i].told[k])
+            return 0;
+    return (houses[i].last < 0 || task_holds(houses[i].last, side)) && unload(side) == LARSAVIM_SUCCESS;
+}
+
 /* The refusal of one changed byte; up to 20 no table is changed. */
 static int change_holds(int i) {
     uint64_t before[TABLES], number, line = 0;
@@ -502,6 +533,9 @@ int larsavim_selftest(void) {
         return check;
     for (int i = 0; i < (int)COUNT(one_trees); i++)
         if (!holds(one_tree_holds(i)))
+            return check;
+    for (int i = 0; i < (int)COUNT(houses); i++)
+        if (!holds(house_holds(i)))
             return check;
     return 0;
 }

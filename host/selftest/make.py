@@ -15,6 +15,7 @@ import sys
 HERE = os.path.dirname(os.path.abspath(__file__))
 sys.path.insert(0, os.path.join(HERE, '..', '..', 'judge'))
 import folders  # noqa: E402,F401
+import house  # noqa: E402
 import labels  # noqa: E402
 import one_tree  # noqa: E402
 import reading  # noqa: E402
@@ -193,6 +194,29 @@ def one_trees(b):
             yield which, t, rows, [mixed(x) for x in linked()]
 
 
+HOUSES = [(b'', b''), (b'NUM_STREAMS:2', b'NUM_STREAMS:3'), (b'STREAM_TYPE:M,"L"', b'STREAM_TYPE:M,"M"'), (b'\n 0 Sil -1 d_1', b'\n 1 Sil -1 d_1'), (b'd_3', b'd_4'),
+          (b'd_2', b'd_0'), (b'USE_GV[L]:0', b'USE_GV[L]:1'), (b'{ 0 Sil "l_2"', b'{ 0 Sxl "l_2"'), (b'"l_2"', b'"l_;"'), (b'NUM_STATES:2', b'NUM_STATES:x')]
+
+
+def houses(b):
+    """One byte changed: where; number, place, line and model by the house's rules; to what; and which model's rows are held afterwards, as 0 to 3, or -1."""
+    h = reading.Header(b)
+    tables = lambda m: [m.questions, m.patterns, m.trees, m.records, m.values]
+    ours = [tables(reading.Model(b, h, which)) for which in range(4)]
+    for old, new in HOUSES:
+        assert len(old) == len(new) and (old == b'' or b.count(old) == 1)
+        changed = b.replace(old, new) if old else b
+        at = next((i for i in range(len(b)) if b[i] != changed[i]), 0)
+        assert changed[:at] + b[at:at + 1] + changed[at + 1:] == b
+        call = house.Call(changed, 0, house.room_for(changed))
+        last = -1
+        if any(call.after):
+            changed_header = reading.Header(changed)
+            last = ours.index(tables(reading.Model(changed, changed_header, list(house.trailing.models(changed, changed_header))[-1])))
+        number, place, line, model = call.told
+        yield at, number, place, line, model, changed[at], last
+
+
 # ---- the C file
 
 def c_bytes(b):
@@ -221,6 +245,7 @@ def made():
             for n, tables, answers, length, text_mix, depth_mix, first, count in rows),
         'WALKS': ',\n'.join('    {%d, %d, %d, %d, %d, %d}' % w for w in walked),
         'ONE_TREES': ',\n'.join('    {%d, %d, {%s}, {%s}}' % (which, t, ', '.join(map(str, n)), ', '.join('UINT64_C(0x%016x)' % x for x in tables)) for which, t, n, tables in one_trees(b)),
+        'HOUSES': ',\n'.join('    {%d, {%d, %d, %d, %d}, %d, %d}' % x for x in houses(b)),
         'CHANGES': ',\n'.join('    {%d, %d, %d, %d, %d, %d}' % c for c in changes(b)),
     }
     for name, value in put.items():

@@ -15,6 +15,7 @@ import xml.etree.ElementTree
 
 sys.path.insert(0, os.path.join(os.path.dirname(os.path.abspath(__file__)), '..', '..', 'bench'))
 import elf  # noqa: E402
+import house  # noqa: E402
 import reading  # noqa: E402
 import voices  # noqa: E402
 
@@ -37,7 +38,7 @@ def model_header(t):
     source = os.path.join(t.HERE, 'tests', 'model.c')
     t.compiles('model.c as C++', t.compiler(('g++', 'c++'), 'g++'), '-std=c++11', *t.WARNINGS, '-I', t.HERE, '-fsyntax-only', '-x', 'c++', source)
     done = subprocess.run([*t.linked(source), t.SAMPLE], stdout=subprocess.PIPE)
-    t.check('model.c', (done.returncode, done.stdout.decode()), (0, 'model: 57 passed, 0 failed\n'))
+    t.check('model.c', (done.returncode, done.stdout.decode()), (0, 'model: 63 passed, 0 failed\n'))
 
 
 # ---- warnings
@@ -75,7 +76,7 @@ def asks_for_gv(h, b, which):
 
 
 def warned(b):
-    """By the second reading, all warnings of a voice that opens: dictionaries as --json prints them, without file and sentence; and whether it is in order."""
+    """By the second reading, all warnings of a voice that opens: dictionaries as --json prints them, without file and sentence; and whether it is in order, and of the house."""
     h, found, good = reading.Header(b), [], True
     for which in range(2 * len(h.g[b'STREAM_TYPE']) + 1):
         try:
@@ -108,7 +109,10 @@ def warned(b):
                     found.append(dict(own, finding='doubled-id', other=before[-1], other_offset=start + places[before[-1]]))
                 if k not in met:
                     found.append(dict(own, finding='unreached-line'))
-    return found, good
+    number, _, _, which = house.judged(b)
+    if 30 <= number <= 36:
+        found.append(dict(finding='house', number=number, **(dict(model=which) if number >= 32 else {})))
+    return found, good, number == 0
 
 
 CLEAN = b'QS A { "x" }\nQS B { "y" }\n{*}[2]{ 0 A -1 p_1\n-1 B p_1 p_1 }'
@@ -126,9 +130,9 @@ def by_json(t, *words):
 def warnings(t):
     """check: the sample has the accident in it, a clean voice nothing; --strict, --json; options that are none."""
     sample = t.make.voice()
-    found, good = warned(sample)
+    found, good, _ = warned(sample)
     kinds = [f['finding'] for f in found]
-    t.check('warnings: second reading', (good, kinds.count('doubled-id'), kinds.count('unreached-line'), kinds.count('unasked-question') > 5), (True, 1, 1, True))
+    t.check('warnings: second reading', (good, kinds.count('doubled-id'), kinds.count('unreached-line'), kinds.count('unasked-question') > 5, kinds[-1]), (True, 1, 1, True, 'house'))
     status, out, err = t.run('check', t.SAMPLE)
     t.check('check warns', (status, err, len(out.splitlines()), out.count(': warning: ')), (0, '', len(found), len(found)))
     doubled, lost = ([f for f in found if f['finding'] == kind][0] for kind in ('doubled-id', 'unreached-line'))
@@ -137,14 +141,14 @@ def warnings(t):
     for place in doubled['offset'], doubled['other_offset']:
         t.check('the place is that of a line', sample[place:place + 3], b'-2 ')
     clean = t.file_of(clean_voice(), 'clean.htsvoice')
-    t.check('no warning: second reading', warned(clean_voice()), ([], True))
+    t.check('no warning: second reading', warned(clean_voice()), ([], True, True))
     for words in [], ['--strict']:
         t.check('no warning %s' % words, t.run('check', *words, clean), (0, '', ''))
     t.check('--strict', t.run('check', '--strict', t.SAMPLE)[0], 1)
     t.check('--strict, one of two', t.run('check', '--strict', clean, t.SAMPLE)[0], 1)
     status, told, err = by_json(t, t.SAMPLE, clean)
     t.check('--json: verdicts', (status, err, [x for x in told if x['finding'] == 'verdict']),
-            (0, '', [dict(file=t.SAMPLE, finding='verdict', in_order=True, warnings=len(found)), dict(file=clean, finding='verdict', in_order=True, warnings=0)]))
+            (0, '', [dict(file=t.SAMPLE, finding='verdict', in_order=True, house=False, warnings=len(found)), dict(file=clean, finding='verdict', in_order=True, house=True, warnings=0)]))
     t.check('--json --strict', t.run('check', '--json', '--strict', t.SAMPLE)[0], 1)
     odd = t.file_of(clean_voice(), 'odd "name\xff\t.htsvoice')
     status, told, err = by_json(t, odd)
@@ -172,14 +176,14 @@ def stored_warnings(t):
     for b, path in zip(inputs, paths):
         got = by_file.get(path, [])
         try:
-            found, good = warned(b)
+            found, good, ours = warned(b)
         except reading.Refused as r:
-            found, good = [dict(finding='refused', number=r.number, place=r.place)], False
+            found, good, ours = [dict(finding='refused', number=r.number, place=r.place)], False, False
         count = sum(f['finding'] not in ('refused', 'leaf-check') for f in found)
         t.check('findings: a sentence for each', all(x.get('says') for x in got[:-1]), True)
-        t.check('findings', [{k: v for k, v in x.items() if k != 'says'} for x in got], found + [dict(finding='verdict', in_order=good, warnings=count)])
+        t.check('findings', [{k: v for k, v in x.items() if k != 'says'} for x in got], found + [dict(finding='verdict', in_order=good, house=ours, warnings=count)])
         found_all += [f['finding'] for f in found]
-    t.check('findings of every kind', [found_all.count(kind) > 2 for kind in ('doubled-id', 'doubled-question', 'unasked-question', 'unreached-line', 'refused', 'leaf-check')], [True] * 6)
+    t.check('findings of every kind', [found_all.count(kind) > 2 for kind in ('doubled-id', 'doubled-question', 'unasked-question', 'unreached-line', 'refused', 'leaf-check', 'house')], [True] * 7)
 
 
 # ---- pictures and sizes
@@ -347,7 +351,7 @@ def rust(t):
     crate, library = os.path.join(t.ROOT, 'bindings', 'rust'), own_library(t)
     status, said = cargo(t, 'test', cwd=crate, **library)
     t.check('cargo test: %s' % said[-2000:] if status else 'cargo test', status, 0)
-    t.check('cargo test: how many', [int(n) for n in re.findall(r'test result: ok\. (\d+) passed', said) if n != '0'], [9, 1, 3, 4])
+    t.check('cargo test: how many', [int(n) for n in re.findall(r'test result: ok\. (\d+) passed', said) if n != '0'], [9, 3, 3, 4])
     status, said = cargo(t, 'build', '--examples', cwd=crate, **library)
     t.check('cargo build --examples: ' + said, status, 0)
     for path, want in (t.SAMPLE, (0, b'PDF 5\n')), (t.file_of(t.damaged(b'[STREAM]\n', b'[STRAEM]\n'), 'unsplit'), (1, b'silence (1)\n')):
@@ -431,6 +435,7 @@ def self_test(t):
     # the numbers that are answers: sums, needs, and the last three of each walk and each change
     answers = [m.span() for m in re.finditer(r'0x[0-9a-f]{16}', text)] + [m.span() for row in re.finditer(r'(?<=\{\{)[0-9, ]+', text) for m in re.finditer(r'\d+', text[:row.end()]) if m.start() >= row.start()]
     answers += [(row.start(k), row.end(k)) for row in re.finditer(r'^    \{\d+, \d+, -?\d+, (\d+), (\d+), (\d+)\}', text, re.M) for k in (1, 2, 3)]
+    answers += [(row.start(k), row.end(k)) for row in re.finditer(r'^    \{\d+, \{(\d+), (\d+), (\d+), (\d+)\}, ', text, re.M) for k in (1, 2, 3, 4)]
     own = re.search(r'UINT64_C\(0xcbf29ce484222325\)', text).start()
     answers = [a for a in answers if text[a[0]:a[1]] != text[own + 9:own + 27]]
     for a, e in r.sample(answers, 16):

@@ -306,6 +306,45 @@ static void texts(void) {
     expect(write_to(questions, len, 16) == 0 && out[LARSAVIM_WRITE_LENGTH] == len, "write, just the text");
 }
 
+/* ---- house voices ----------------------------------------------------------------------------------------------------------------- */
+
+static uint64_t held[LARSAVIM_BOUNDS + 3];
+static const uint64_t nobody[LARSAVIM_BOUNDS + 3] = {0};
+
+static uint64_t house(uint64_t words_len, uint64_t rows_of_all, uint64_t out_len) {
+    return larsavim_house(file, file_len, words, words_len, LARSAVIM_TOP, held, LARSAVIM_BOUNDS + 3, nobody, LARSAVIM_BOUNDS + 3, table[QUESTIONS], rows_of_all, table[PATTERNS], rows_of_all, table[TREES],
+                          rows_of_all, table[RECORDS], rows_of_all, table[VALUES], rows_of_all, work, rows_of_all, out, out_len);
+}
+
+static void no_bounds(void) {
+    paint_all();
+    paint(words, LARSAVIM_WORDS + 8);
+    paint(held, LARSAVIM_BOUNDS + 3);
+    memset(held, 0, 8 * LARSAVIM_BOUNDS);
+}
+
+/* Nothing at all, nothing but bounds and answer, and slices that are longer than they need be. */
+static void houses(void) {
+    no_bounds();
+    expect(larsavim_house(NULL, 0, NULL, 0, 0, NULL, 0, NULL, 0, NULL, 0, NULL, 0, NULL, 0, NULL, 0, NULL, 0, NULL, 0, NULL, 0) == LARSAVIM_ROOM, "house of nothing");
+    expect(refused(larsavim_house(NULL, 0, NULL, 0, 0, held, LARSAVIM_BOUNDS, nobody, LARSAVIM_BOUNDS, NULL, 0, NULL, 0, NULL, 0, NULL, 0, NULL, 0, NULL, 0, out, 16), LARSAVIM_SPLIT, LARSAVIM_HOUSE_OUT),
+           "house of no file");
+    paint(out, 16);
+    expect(refused(larsavim_house(file, file_len, NULL, 0, 1, held, LARSAVIM_BOUNDS, nobody, LARSAVIM_BOUNDS, NULL, 0, NULL, 0, NULL, 0, NULL, 0, NULL, 0, NULL, 0, out, 16), LARSAVIM_ROOM, LARSAVIM_HOUSE_OUT),
+           "house, no words");
+    paint(out, 16);
+    expect(refused(larsavim_house(file, file_len, words, LARSAVIM_WORDS, 1, held, LARSAVIM_BOUNDS, nobody, LARSAVIM_BOUNDS, NULL, 0, NULL, 0, NULL, 0, NULL, 0, NULL, 0, NULL, 0, out, 16), LARSAVIM_ROOM,
+                   LARSAVIM_HOUSE_OUT) && memcmp(words, good, sizeof good) == 0,
+           "house, no tables: the words are written");
+    no_bounds();
+    expect(house(LARSAVIM_WORDS - 1, ROOM, 16) == LARSAVIM_ROOM && lent_is_painted() && painted(words, 0, LARSAVIM_WORDS + 8) && all_zero(held, 0, LARSAVIM_BOUNDS), "house, few words");
+    no_bounds();
+    expect(house(LARSAVIM_WORDS + 8, ROOM, 16) == LARSAVIM_IDS && out[LARSAVIM_OUT_NUMBER] == LARSAVIM_IDS && out[LARSAVIM_HOUSE_MODEL] == STREAM_MCP, "house");
+    expect(painted(out, LARSAVIM_HOUSE_OUT, 16) && painted(words, LARSAVIM_WORDS, LARSAVIM_WORDS + 8) && painted(held, LARSAVIM_BOUNDS, LARSAVIM_BOUNDS + 3), "house: what is behind its answer, words and bounds");
+    expect(held[TREES] == 5 && held[RECORDS] == 5 && table[TREES][ROOM - ROOM % LARSAVIM_TREE_ROW - LARSAVIM_TREE_ROW] == 6 && painted(table[TREES], 0, 64), "house: the last model stays, from the top");
+    expect(house(LARSAVIM_WORDS, ROOM, 16) == LARSAVIM_HELD && held[TREES] == 5, "house, held");
+}
+
 int main(int argc, char **argv) {
     FILE *f = argc == 2 ? fopen(argv[1], "rb") : NULL;
     if (f == NULL)
@@ -323,6 +362,7 @@ int main(int argc, char **argv) {
     walks();
     leaf_checks();
     texts();
+    houses();
     printf("calls: %u passed, %u failed\n", passed, failed);
     return failed == 0 ? 0 : 1;
 }

@@ -101,6 +101,27 @@ static void shared(void) {
     expect(larsavim_model_walk(&own, 0, file, 7, 9, out, LARSAVIM_WALK_OUT) == LARSAVIM_WALKTABLE, "nothing is held");
 }
 
+/* A whole voice by the house's rules: the sample has two lines with one id. The last of its models stays. */
+static void house(void) {
+    enum { LPF = 5, ROOM = 4096 };
+    static uint64_t held[LARSAVIM_BOUNDS], own_words[LARSAVIM_WORDS];
+    static const uint64_t other[LARSAVIM_BOUNDS] = {0};
+    uint64_t out[LARSAVIM_HOUSE_OUT], walked[LARSAVIM_WALK_OUT];
+    struct larsavim_model own;
+    for (int t = 0; t < LARSAVIM_TABLES; t++) {
+        m.lent[t] = ROOM;
+        m.table[t] = room(ROOM);
+    }
+    expect(larsavim_model_house(&m, LARSAVIM_TOP, held, other, file, file_len, own_words, out, LARSAVIM_HOUSE_OUT) == LARSAVIM_IDS && out[LARSAVIM_OUT_NUMBER] == LARSAVIM_IDS, "no house voice");
+    expect(out[LARSAVIM_HOUSE_PLACE] == 0 && out[LARSAVIM_HOUSE_LINE] == 0 && out[LARSAVIM_HOUSE_MODEL] == MCP, "its model");
+    expect(memcmp(words, own_words, sizeof words) == 0, "its words");
+    m.which = LPF;
+    expect(larsavim_model_needs(&m, file, file_len, words) == LARSAVIM_SUCCESS && memcmp(held, m.needs + LARSAVIM_NEEDS_QUESTIONS, sizeof held) == 0, "the last model's bounds");
+    own = larsavim_model_own(&m, LARSAVIM_TOP, held);
+    expect(larsavim_model_leaves(&own) == 1 && larsavim_model_walk(&own, 4, file, 0, 0, walked, LARSAVIM_WALK_OUT) == 0 && walked[LARSAVIM_WALK_PDF] == 1, "the last model's rows");
+    expect(larsavim_model_house(&m, LARSAVIM_TOP, held, other, file, file_len, own_words, out, LARSAVIM_HOUSE_OUT) == LARSAVIM_HELD, "house, held");
+}
+
 int main(int argc, char **argv) {
     uint64_t out[LARSAVIM_OPEN_OUT];
     FILE *f = argc == 2 ? fopen(argv[1], "rb") : NULL;
@@ -117,6 +138,7 @@ int main(int argc, char **argv) {
     calls();
     refused();
     shared();
+    house();
     printf("model: %u passed, %u failed\n", passed, failed);
     return failed != 0;
 }

@@ -27,6 +27,7 @@ __typeof__(larsavim_needs) __real_larsavim_needs, __wrap_larsavim_needs;
 __typeof__(larsavim_load) __real_larsavim_load, __wrap_larsavim_load;
 __typeof__(larsavim_load_shared) __real_larsavim_load_shared, __wrap_larsavim_load_shared;
 __typeof__(larsavim_load_tree) __real_larsavim_load_tree, __wrap_larsavim_load_tree;
+__typeof__(larsavim_house) __real_larsavim_house, __wrap_larsavim_house;
 __typeof__(larsavim_unload) __real_larsavim_unload, __wrap_larsavim_unload;
 __typeof__(larsavim_walk) __real_larsavim_walk, __wrap_larsavim_walk;
 __typeof__(larsavim_walk_jobs) __real_larsavim_walk_jobs, __wrap_larsavim_walk_jobs;
@@ -131,6 +132,25 @@ uint64_t __wrap_larsavim_load_tree(const uint8_t *file, uint64_t file_len, const
     touch("load_tree.values", values, 8 * values_len);
     touch("load_tree.work", work, 8 * work_len);
     touch("load_tree.out", out, 8 * out_len);
+    return number;
+}
+
+uint64_t __wrap_larsavim_house(const uint8_t *file, uint64_t file_len, uint64_t *words, uint64_t words_len, uint64_t side, uint64_t *held, uint64_t held_len, const uint64_t *other,
+                               uint64_t other_len, uint64_t *questions, uint64_t questions_len, uint64_t *patterns, uint64_t patterns_len, uint64_t *trees, uint64_t trees_len,
+                               uint64_t *records, uint64_t records_len, uint64_t *values, uint64_t values_len, int64_t *work, uint64_t work_len, uint64_t *out, uint64_t out_len) {
+    uint64_t number = __real_larsavim_house(file, file_len, words, words_len, side, held, held_len, other, other_len, questions, questions_len, patterns, patterns_len, trees, trees_len,
+                                            records, records_len, values, values_len, work, work_len, out, out_len);
+    touch("house.file", file, file_len);
+    touch("house.words", words, 8 * words_len);
+    touch("house.held", held, 8 * held_len);
+    touch("house.other", other, 8 * other_len);
+    touch("house.questions", questions, 8 * questions_len);
+    touch("house.patterns", patterns, 8 * patterns_len);
+    touch("house.trees", trees, 8 * trees_len);
+    touch("house.records", records, 8 * records_len);
+    touch("house.values", values, 8 * values_len);
+    touch("house.work", work, 8 * work_len);
+    touch("house.out", out, 8 * out_len);
     return number;
 }
 

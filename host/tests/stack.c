@@ -12,7 +12,7 @@
 #define STACK (1024 * 1024)
 #define PAINT 0xa5
 
-enum { CALLS = 14 };
+enum { CALLS = 15 };
 
 static uint8_t *stack;
 static ucontext_t here, there;
@@ -35,6 +35,14 @@ static void call_load_tree(void) {
     static const uint64_t other[LARSAVIM_BOUNDS];
     memset(held, 0, sizeof held);
     larsavim_model_load_tree(&m, 0, LARSAVIM_TOP, held, other, file, file_len, words);
+}
+
+/* In tables that have room for each model of the voice. */
+static void call_house(void) {
+    static uint64_t held[LARSAVIM_BOUNDS], opened[LARSAVIM_WORDS];
+    static const uint64_t other[LARSAVIM_BOUNDS];
+    memset(held, 0, sizeof held);
+    larsavim_model_house(&m, LARSAVIM_TOP, held, other, file, file_len, opened, out, LARSAVIM_HOUSE_OUT);
 }
 
 static void call_walk(void) { larsavim_model_walk(&m, 0, answers, larsavim_model_rows(&m, LARSAVIM_QUESTIONS), larsavim_model_rows(&m, LARSAVIM_RECORDS), out, LARSAVIM_WALK_OUT); }
@@ -127,7 +135,21 @@ static void measure_model(uint64_t most[CALLS]) {
     free(m.work);
 }
 
+static void measure_house(const uint64_t numbers[LARSAVIM_TABLES], uint64_t work, uint64_t most[CALLS]) {
+    for (int t = 0; t < LARSAVIM_TABLES; t++) {
+        m.lent[t] = numbers[t];
+        m.table[t] = room(numbers[t]);
+    }
+    m.work_lent = work;
+    m.work = room(work);
+    keep_most(&most[14], stack_of(call_house));
+    for (int t = 0; t < LARSAVIM_TABLES; t++)
+        free(m.table[t]);
+    free(m.work);
+}
+
 static void measure_file(const char *path, uint64_t most[CALLS]) {
+    uint64_t numbers[LARSAVIM_TABLES] = {0}, work = 0;
     FILE *f = fopen(path, "rb");
     if (f == NULL)
         exit(2);
@@ -136,14 +158,19 @@ static void measure_file(const char *path, uint64_t most[CALLS]) {
     keep_most(&most[0], stack_of(call_open));
     if (out[LARSAVIM_OUT_NUMBER] != LARSAVIM_SUCCESS)
         return;
-    for (m.which = 0; m.which <= 2 * words[LARSAVIM_STREAM_TYPE_COUNT]; m.which++)
+    for (m.which = 0; m.which <= 2 * words[LARSAVIM_STREAM_TYPE_COUNT]; m.which++) {
         measure_model(most);
+        for (int t = 0; t < LARSAVIM_TABLES; t++)
+            keep_most(&numbers[t], larsavim_model_wants(&m, t));
+        keep_most(&work, m.needs[LARSAVIM_NEEDS_WORK]);
+    }
+    measure_house(numbers, work, most);
     keep_most(&most[11], stack_of(call_trailer));
     keep_most(&most[12], stack_of(call_trailed)); /* the words are those of the longer file from here on */
 }
 
 int main(int argc, char **argv) {
-    static const char *const name[CALLS] = {"open", "needs", "load", "walk", "leaves", "answers", "depth", "accepts", "bare_walk", "write_needs", "write", "trailer", "trailed", "load_tree"};
+    static const char *const name[CALLS] = {"open", "needs", "load", "walk", "leaves", "answers", "depth", "accepts", "bare_walk", "write_needs", "write", "trailer", "trailed", "load_tree", "house"};
     uint64_t most[CALLS] = {0};
     stack = malloc(STACK);
     if (stack == NULL)

@@ -8,6 +8,7 @@ import types
 
 sys.path.insert(0, os.path.join(os.path.dirname(os.path.abspath(__file__)), '..'))
 import folders  # noqa: E402
+import house  # noqa: E402
 import reading  # noqa: E402
 import store  # noqa: E402
 import writing  # noqa: E402
@@ -118,6 +119,38 @@ WRITING = [
 ]
 
 
+# the same of house.py, the second reading of the house's rules
+HOUSE = [
+    ('stops at the first broken rule', "            broken.append((rule_of(reading.Model(file, h, which)), which))\n", "            broken.append((rule_of(reading.Model(file, h, which)), which))\n            if broken[-1][0]:\n                break\n"),
+    ('30 and 31 last', "        told = [(rule_of_streams(file, h), 0)] + broken\n", "        told = broken + [(rule_of_streams(file, h), 0)]\n"),
+    ('30 and 31 before every load', "        broken = []\n", "        broken = []\n        if rule_of_streams(file, h):\n            return [rule_of_streams(file, h), 0, 0, 0]\n"),
+    ('31 before 30', "    if h.g[b'NUM_STREAMS'] != len(names):\n        return 30\n    return 31 if len(set(names)) < len(names) else 0\n", "    if len(set(names)) < len(names):\n        return 31\n    return 30 if h.g[b'NUM_STREAMS'] != len(names) else 0\n"),
+    ('the last model that breaks a rule', "        told = [(rule_of_streams(file, h), 0)] + broken\n", "        told = [(rule_of_streams(file, h), 0)] + broken[::-1]\n"),
+    ('ids as a set', "all(line[0] == -k for k, line in enumerate(lines))", "{line[0] for line in lines} == {-k for k in range(len(lines))}"),
+    ('ids of bare leaves pass', "    return lone is not None or all(", "    return reading.single(tree) is not None or all("),
+    ('ids 0, 1, 2', "line[0] == -k for", "line[0] == k for"),
+    ('names that are asked alone', "    if len(set(names)) < len(names):\n        return 33\n", "    asked = [names[q] for q in sorted(set(m.records[4 * k + 1] for k in range(len(m.records) // 4) if m.records[4 * k] == 0))]\n    if any(names.count(x) > 1 for x in asked):\n        return 33\n"),
+    ('a leaf of 0 passes', "all(1 <= n <= count for", "all(0 <= n <= count for"),
+    ('a leaf one past its entries', "all(1 <= n <= count for", "all(1 <= n <= count + 1 for"),
+    ('the entries of all trees', "    entries = m.trees[5::6]\n", "    entries = [sum(m.trees[5::6])] * len(trees)\n"),
+    ('a variance of 0 passes', "variance > 0 for", "variance >= 0 for"),
+    ('a negative variance passes', "variance > 0 for", "variance != 0 for"),
+    ('a variance that is infinite passes', "math.isfinite(variance) and variance > 0", "variance > 0"),
+    ('a NaN passes', "math.isfinite(mean) for", "not math.isinf(mean) for"),
+    ('the second half of an entry is the variances', "number_of(m.values[entry + 2 * k]), number_of(m.values[entry + 2 * k + 1])", "number_of(m.values[entry + k]), number_of(m.values[entry + m.width // 2 + k])"),
+    ('msd is judged', "        for k in range(m.width // 2):\n            yield", "        if m.width % 2:\n            yield number_of(m.values[entry + m.width - 1]), 1.0\n        for k in range(m.width // 2):\n            yield"),
+    ('the first entry alone', "range(0, len(m.values), m.width or 1)", "range(0, min(m.width, len(m.values)), m.width or 1)"),
+    ('means and variances entry by entry', "    if not all(math.isfinite(mean) for mean, _ in pairs(m)):\n        return 35\n", "    for mean, variance in pairs(m):\n        if not math.isfinite(mean):\n            return 35\n        if not (math.isfinite(variance) and variance > 0):\n            return 36\n"),
+    ('a GV whatever USE_GV says', "in trailing.models(file, h):\n            self.unload(side)", "in range(2 * len(h.g[b'STREAM_TYPE']) + 1):\n            self.unload(side)"),
+    ('no GV', "in trailing.models(file, h):\n            self.unload(side)", "in [w for w in trailing.models(file, h) if w % 2 or w == 0]:\n            self.unload(side)"),
+    ('the rows of the model before stay', "            self.unload(side)\n", "            self.held[side] = list(sharing.NOBODY)\n"),
+    ('the last model is unloaded', "        told = [(rule_of_streams(file, h), 0)] + broken\n", "        self.unload(side)\n        told = [(rule_of_streams(file, h), 0)] + broken\n"),
+    ('opening before 29', "        if any(self.held[side]):\n            return [29, 0, 0, 0]\n", "        try:\n            reading.Header(file)\n        except reading.Refused as r:\n            return [r.number, r.place, 0, 0]\n        if any(self.held[side]):\n            return [29, 0, 0, 0]\n"),
+    ('24 before 29', "        if any(self.held[side]):\n            return [29, 0, 0, 0]\n        if not self.stand(side):\n            return [24, 0, 0, 0]\n", "        if not self.stand(side):\n            return [24, 0, 0, 0]\n        if any(self.held[side]):\n            return [29, 0, 0, 0]\n"),
+    ('no model in the answer', "return next(([rule, 0, 0, which] for", "return next(([rule, 0, 0, 0] for"),
+]
+
+
 def mutant(old, new, of=reading):
     with open(of.__file__) as f:
         source = f.read()
@@ -191,8 +224,26 @@ def noticed_writing(old, new, most=None):
     return count
 
 
+def noticed_house(old, new, most=None):
+    """The same for the stored cases of the house."""
+    module, count = mutant(old, new, house), 0
+    with open(house.STORED) as f:
+        for line in f:
+            try:
+                count += module.read(line).line() != line
+            except Exception:
+                count += 1
+            if count == most:
+                break
+    return count
+
+
 def main():
     unnoticed = 0
+    for name, old, new in HOUSE:
+        n = noticed_house(old, new)
+        unnoticed += n == 0
+        print('%6d  house: %s' % (n, name))
     for name, old, new in WRITING:
         n = noticed_writing(old, new)
         unnoticed += n == 0

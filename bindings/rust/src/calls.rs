@@ -23,6 +23,7 @@ pub const TRAILED_OUT: usize = 4;
 pub const TRAILER_ROW: usize = 12;
 pub const FILE_LIMIT: usize = 16777216;
 pub const BARE_OUT: usize = 6;
+pub const HOUSE_OUT: usize = 4;
 
 /// Rows of tables, and work.
 pub const QUESTION_ROW: usize = 4;
@@ -104,6 +105,7 @@ mod raw {
         pub fn larsavim_load(file: *const u8, file_len: u64, words: *const u64, words_len: u64, which: u64, questions: *mut u64, questions_len: u64, patterns: *mut u64, patterns_len: u64, trees: *mut u64, trees_len: u64, records: *mut u64, records_len: u64, values: *mut u64, values_len: u64, work: *mut i64, work_len: u64, out: *mut u64, out_len: u64) -> u64;
         pub fn larsavim_load_shared(file: *const u8, file_len: u64, words: *const u64, words_len: u64, which: u64, side: u64, held: *mut u64, held_len: u64, other: *const u64, other_len: u64, questions: *mut u64, questions_len: u64, patterns: *mut u64, patterns_len: u64, trees: *mut u64, trees_len: u64, records: *mut u64, records_len: u64, values: *mut u64, values_len: u64, work: *mut i64, work_len: u64, out: *mut u64, out_len: u64) -> u64;
         pub fn larsavim_load_tree(file: *const u8, file_len: u64, words: *const u64, words_len: u64, which: u64, tree: u64, side: u64, held: *mut u64, held_len: u64, other: *const u64, other_len: u64, questions: *mut u64, questions_len: u64, patterns: *mut u64, patterns_len: u64, trees: *mut u64, trees_len: u64, records: *mut u64, records_len: u64, values: *mut u64, values_len: u64, work: *mut i64, work_len: u64, out: *mut u64, out_len: u64) -> u64;
+        pub fn larsavim_house(file: *const u8, file_len: u64, words: *mut u64, words_len: u64, side: u64, held: *mut u64, held_len: u64, other: *const u64, other_len: u64, questions: *mut u64, questions_len: u64, patterns: *mut u64, patterns_len: u64, trees: *mut u64, trees_len: u64, records: *mut u64, records_len: u64, values: *mut u64, values_len: u64, work: *mut i64, work_len: u64, out: *mut u64, out_len: u64) -> u64;
         pub fn larsavim_unload(side: u64, held: *mut u64, held_len: u64, other: *const u64, other_len: u64, questions: *mut u64, questions_len: u64, patterns: *mut u64, patterns_len: u64, trees: *mut u64, trees_len: u64, records: *mut u64, records_len: u64, values: *mut u64, values_len: u64) -> u64;
         pub fn larsavim_answers(label: *const u8, label_len: u64, questions: *const u64, questions_len: u64, patterns: *const u64, patterns_len: u64, data: *const u8, data_len: u64, answers: *mut u8, answers_len: u64) -> u64;
         pub fn larsavim_walk(trees: *const u64, trees_len: u64, records: *const u64, records_len: u64, tree: u64, answers: *const u8, answers_len: u64, limit: u64, out: *mut u64, out_len: u64) -> u64;
@@ -200,6 +202,13 @@ pub fn load_tree(asked: &Asked, tree: u64, side: u64, held: &mut [u64; BOUNDS], 
     let Asked { file, words, which } = *asked;
     let crate::Tables { questions, patterns, trees, records, values } = tables;
     call!(larsavim_load_tree; [file], [words], which, tree, side, [mut held], [other], [mut questions], [mut patterns], [mut trees], [mut records], [mut values], [mut work], [mut out]);
+    out
+}
+
+pub fn house(file: &[u8], words: &mut [u64; WORDS], side: u64, held: &mut [u64; BOUNDS], other: &[u64; BOUNDS], tables: &mut crate::Tables, work: &mut [i64]) -> [u64; HOUSE_OUT] {
+    let mut out = [0; HOUSE_OUT];
+    let crate::Tables { questions, patterns, trees, records, values } = tables;
+    call!(larsavim_house; [file], [mut words], side, [mut held], [other], [mut questions], [mut patterns], [mut trees], [mut records], [mut values], [mut work], [mut out]);
     out
 }
 

@@ -54,7 +54,7 @@ mod voice;
 pub use calls::Job;
 pub use model::{accepts, bare_walk, BareWalk, Entry, Model, Needs, Question, Record, Records, Tables, Tree, Walk};
 pub use refusal::Refusal;
-pub use shared::{Shared, Side};
+pub use shared::{NotHouse, Shared, Side};
 pub use trail::{trailer_len, write_trailer, Trailer, TrailerRow};
 pub use voice::{Position, Range, Stream, Voice, Which};
 

@@ -75,6 +75,13 @@ refusals! {
     TrailerSum = 27, "the trailer's sum isn't that of the bytes before it";
     TrailerRows = 28, "the trailer's rows don't fit, or aren't the text's";
     Held = 29, "the task already holds a model";
+    StreamNumber = 30, "NUM_STREAMS isn't the number of names in STREAM_TYPE";
+    StreamTwice = 31, "a name stands twice in STREAM_TYPE";
+    Ids = 32, "a tree's ids aren't 0, -1, -2, .. in line order";
+    NameTwice = 33, "a question name stands twice";
+    Leaf = 34, "a leaf is 0 or past its tree's entries";
+    Mean = 35, "a mean isn't finite";
+    Variance = 36, "a variance isn't finite and above zero";
     OtherRows = 37, "record rows that don't belong to the tree";
 }
 

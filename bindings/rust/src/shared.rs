@@ -1,6 +1,7 @@
 //! Two tasks in the same tables: one fills rows from the bottom, the other from the top.
-use crate::calls::{self, Asked, Rows, BOUNDS, PATTERN_ROW, QUESTION_ROW, RECORD_ROW, TREE_ROW};
+use crate::calls::{self, Asked, Rows, BOUNDS, PATTERN_ROW, QUESTION_ROW, RECORD_ROW, TREE_ROW, WORDS};
 use crate::{Model, Needs, Refusal, Tables};
+use core::fmt;
 
 /// Which end of the tables a task fills.
 #[derive(Clone, Copy, Debug, PartialEq, Eq, Hash)]
@@ -17,6 +18,24 @@ struct Task<'f> {
     held: [u64; BOUNDS],
     model: Option<(&'f [u8], u64)>,
 }
+
+/// Why a voice is none of the house's: what is refused, or the rule that is broken, and by which model.
+#[derive(Clone, Copy, Debug, PartialEq, Eq, Hash)]
+pub struct NotHouse {
+    /// What is refused; a broken rule is one of the cases from [`Refusal::StreamNumber`] to [`Refusal::Variance`].
+    pub refusal: Refusal,
+    /// The number of the model that is refused or breaks the rule, as [`crate::Which::number`] has it; 0 where it is none's.
+    pub model: u64,
+}
+
+impl fmt::Display for NotHouse {
+    fn fmt(&self, f: &mut fmt::Formatter) -> fmt::Result {
+        write!(f, "{}; model {}", self.refusal, self.model)
+    }
+}
+
+#[cfg(feature = "std")]
+impl std::error::Error for NotHouse {}
 
 /// Tables that two tasks share, a voice for the day and one for the night. Each task loads and unloads its own model; nothing that it does changes the other's rows, and the other is
 /// seen in one thing alone, whether there is room. The two take turns: a model is lent ([`Shared::model`]) until the next load or unload of either.
@@ -69,6 +88,18 @@ impl<'f, 't> Shared<'f, 't> {
         Refusal::told(number, place, line)?;
         task.model = Some((voice.data(), needs.width()));
         Ok(())
+    }
+
+    /// Judges a voice by the house's rules, which promise more than the format: `Ok` exactly where every model of it loads and no rule is broken. The models are loaded one after the other into the
+    /// task's rows, beside the other's, so there must be room for the largest of them. Afterwards the task holds nothing; [`Refusal::Held`] where it held a model before, which stays.
+    pub fn house(&mut self, side: Side, file: &[u8], work: &mut [i64]) -> Result<(), NotHouse> {
+        let (task, other, tables) = self.task(side);
+        let [number, place, line, model] = calls::house(file, &mut [0; WORDS], side as u64, &mut task.held, other, tables, work);
+        let judged = Refusal::told(number, place, line).map_err(|refusal| NotHouse { refusal, model });
+        if task.model.is_none() {
+            calls::unload(side as u64, &mut task.held, other, tables); // the last model of the voice, where all loaded
+        }
+        judged
     }
 
     /// Zeroes a task's rows and frees them for either; of a task that holds nothing it changes nothing.

@@ -1,5 +1,5 @@
 //! Two tasks in the same tables, on the sample voice: each model walks as it does alone; what is refused changes nothing; unloading frees the rows.
-use larsavim::{Model, Refusal, Shared, Side, Tables, Voice, Walk, Which};
+use larsavim::{Model, NotHouse, Refusal, Shared, Side, Tables, Voice, Walk, Which};
 
 /// Every walk of every tree, with every answer; and the rows' own words.
 fn told(m: &Model) -> (Vec<Walk>, Vec<Vec<u8>>, bool) {
@@ -42,4 +42,64 @@ fn two_tasks() {
     // rows of 4, 2, 6 and 4 numbers leave the one number too many alone; a value is a row of its own
     assert!(t[..4].iter().all(|table| table.last() == Some(&7)), "what is left over is nobody's");
     assert!(t.iter().flatten().all(|&x| x == 0 || x == 7), "the tasks' rows are zero");
+}
+
+/// Tables of so many numbers and a work of 600, every number 7, for as long as `f` runs; whether all is 0 or 7 afterwards.
+fn in_tables<'f, T>(numbers: usize, f: impl FnOnce(&mut Shared<'f, '_>, &mut [i64]) -> T) -> (T, bool) {
+    let mut t = vec![vec![7; numbers]; 5];
+    let mut work = vec![7; 600];
+    let [questions, patterns, trees, records, values] = t.get_mut(..).unwrap() else { unreachable!() };
+    let told = f(&mut Shared::new(Tables { questions, patterns, trees, records, values }), &mut work);
+    (told, t.iter().flatten().all(|&x| x == 0 || x == 7))
+}
+
+/// Every stored file of house voices that fits, by itself: the rule, or what is refused, and the model, as the second reading has them.
+#[test]
+fn house_voices() {
+    let stored = std::fs::read_to_string(concat!(env!("CARGO_MANIFEST_DIR"), "/../../judge/stored/house-1.txt")).unwrap();
+    let (mut ours, mut broken, mut refused) = (0, 0, 0);
+    for line in stored.lines() {
+        let mut words = line.split(' ');
+        let hex = words.next().unwrap();
+        let file: Vec<u8> = (0..hex.len() / 2).map(|i| u8::from_str_radix(&hex[2 * i..2 * i + 2], 16).unwrap()).collect();
+        let n: Vec<u64> = words.map(|w| w.parse().unwrap()).collect();
+        let [number, place, line, model] = n[17..21] else { unreachable!() };
+        if [20, 24, 29].contains(&number) {
+            continue; // of tables and bounds that aren't these
+        }
+        let (told, clean) = in_tables(4096, |shared, work| {
+            let side = if n[0] == 0 { Side::Bottom } else { Side::Top };
+            let told = shared.house(side, &file, work);
+            assert!(shared.model(side).is_none());
+            assert_eq!(shared.house(side, &file, work), told, "nothing is held");
+            told
+        });
+        match told {
+            Ok(()) => assert_eq!((number, place, line, model), (0, 0, 0, 0)),
+            Err(not) => assert_eq!((not.refusal.number(), not.refusal.place(), not.refusal.line(), not.model), (number, place, line, model)),
+        }
+        assert!(clean, "the task's rows are zero again");
+        ours += (number == 0) as u32;
+        broken += (30..=36).contains(&number) as u32;
+        refused += (1..30).contains(&number) as u32;
+    }
+    assert!(ours > 100 && broken > 200 && refused > 60, "{ours} {broken} {refused}");
+}
+
+#[test]
+fn house_beside_another() {
+    let file = std::fs::read(concat!(env!("CARGO_MANIFEST_DIR"), "/../../host/sample/shichi.htsvoice")).unwrap();
+    let voice = Voice::open(&file).unwrap();
+    let night = voice.needs(Which::Stream(1)).unwrap();
+    in_tables(4096, |shared, work| {
+        shared.load(Side::Top, &night, work).unwrap();
+        let not = NotHouse { refusal: Refusal::Ids, model: 1 };
+        assert_eq!(shared.house(Side::Bottom, &file, work), Err(not));
+        assert!(not.to_string().starts_with("refused (32): a tree's ids"), "{not}");
+        assert_eq!(shared.house(Side::Top, &file, work).unwrap_err().refusal, Refusal::Held);
+        assert_eq!(told(&shared.model(Side::Top).unwrap()), alone(&voice, Which::Stream(1)));
+        assert_eq!(shared.house(Side::Bottom, b"no voice", work), Err(NotHouse { refusal: Refusal::Split, model: 0 }));
+    });
+    let (told, clean) = in_tables(300, |shared, work| shared.house(Side::Bottom, &file, work));
+    assert_eq!((told.unwrap_err().refusal, clean), (Refusal::Room, true));
 }
