@@ -196,18 +196,11 @@ module _ (s : List ℕ) (h : Header) (which : Which) (L : Tables) where
 
   linked-number : (p : Plan) (e : Linked) → (y : Refusal) → answerFor p e ≡ loaded.Refused y → (c : List ℕ) (i f : ℕ) (d : List ℕ) → ByNumber (filledBy p c i f d e L) y
   linked-number p linked.Done y h c i f d = let u : _≡_ {A = ℕ} 0 1 = cc in absurd (omega arith)
-  linked-number p (linked.NodeRef x k) y h c i f d =
-      let u : refusal.NodeRef x k ≡ y = cc in
-      let n : 21 ≡ numberOf y = ap numberOf u in
-      (omega arith, λ l. absurd (omega arith), λ l. (refl, refl, refl, refl, refl, refl))
-  linked-number p (linked.QuestionRef x k) y h c i f d =
-      let u : refusal.QuestionRef x k ≡ y = cc in
-      let n : 22 ≡ numberOf y = ap numberOf u in
-      (omega arith, λ l. absurd (omega arith), λ l. (refl, refl, refl, refl, refl, refl))
-  linked-number p (linked.LoneNode x) y h c i f d =
-      let u : refusal.LoneNode x 0 ≡ y = cc in
-      let n : 23 ≡ numberOf y = ap numberOf u in
-      (omega arith, λ l. absurd (omega arith), λ l. (refl, refl, refl, refl, refl, refl))
+  linked-number p (linked.Refused g x k) y h c i f d =
+      let u : refusal.Unlinked g x k ≡ y = cc in
+      let n : faultNumber g ≡ numberOf y = ap numberOf u in
+      let b = fault-between g in
+      (omega (arith, n, b .1), λ l. absurd (omega (arith, n, b .0)), λ l. (refl, refl, refl, refl, refl, refl))
 
   way-number : (x : After) → Way x → (y : Refusal) → x .answer ≡ loaded.Refused y → ByNumber x y
   unfolding filled
