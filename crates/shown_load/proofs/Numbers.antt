@@ -8,7 +8,9 @@ use native.Mathlib.Omega.{arith}
 use lib.Dec.{ltb}
 use lib.IntN.{ℤ, pos}
 use lib.ListN.{length, getD, replicate, take}
-use Rattle.error.specs.Numbers.{numberOf}
+use Rattle.error.specs.Numbers.{faultNumber, numberOf}
+use Rattle.error.specs.declared.LinkFault.{LinkFault}
+use Rattle.error.specs.declared.LinkFault.the-variants.{NodeRef, QuestionRef, LoneNode}
 use Rattle.error.specs.declared.Refusal.{Refusal}
 use Rattle.error.specs.declared.Refusal.the-variants as refusal
 use Rattle.head_record.specs.declared.Header.{Header}
@@ -73,6 +75,12 @@ gv-early d p = go (d .«use_gv» && p .«has_gv_tree» && p .«has_gv_pdf»)
     go : (c : Bool) → Early (cond c (modelOf (p .«gv_tree») (p .«gv_pdf») (2 * d .«vector_length»)) (chosen.Refused refusal.UseGv))
     go true = model-early _ _ _
     go false = omega arith
+
+-- what linking refuses is 21, 22 or 23
+pub fault-between : (g : LinkFault) → (20 < faultNumber g) × (faultNumber g ≤ 23)
+fault-between NodeRef = (omega arith, omega arith)
+fault-between QuestionRef = (omega arith, omega arith)
+fault-between LoneNode = (omega arith, omega arith)
 
 module _ (make : StreamData → PositionData → Chosen) (early : (d : StreamData) (p : PositionData) → Early (make d p)) where
   named-early : (s : List ℕ) (h : Header) (w : List ℕ) → Early (named make s h w)

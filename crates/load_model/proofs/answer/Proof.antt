@@ -10,8 +10,8 @@ use Rattle.load_model.proofs.answer.Lts as lts
 enum-told : tie.Need-enum-told
 enum-told c = search needs
 
-mul-t9 : tie.Need-mul-t9
-mul-t9 c = search needs
+mul-t7 : tie.Need-mul-t7
+mul-t7 c = search needs
 
 enum-known-linked : tie.Need-enum-known-linked
 enum-known-linked c = search needs
@@ -27,7 +27,7 @@ answer-spec =
     tie.close
     (tie.spec
     enum-told
-    mul-t9
+    mul-t7
     enum-known-linked
     returns
     returns-2)
