@@ -2,10 +2,15 @@
 use mathlib.Core.Path.{_≡_, refl, sym, ap, ap₂, _∙_}
 use Prim.Native.Nat.{ℕ}
 use Rattle.walk_bare.specs.Bare.{meteredOf, refusedBy}
+use Rattle.walk_bare.specs.declared.Meter.{Meter}
 use Rattle.walk_bare.proofs.Laws.{meter-so}
 use borrow.Author.Needs.{needs}
 use Rattle.walk_bare.proofs.meter_tree.Statement.{statement}
 use Rattle.walk_bare.proofs.meter_tree.Tie as tie
+
+-- the number is that of the fault
+by-number : {m : Meter} {n f i k : ℕ} → m ≡ refusedBy n i k → n ≡ f → m ≡ refusedBy f i k
+by-number {i = i} {k = k} e h = e ∙ ap (λ (n : ℕ). refusedBy n i k) h
 
 link-tree-requires : tie.Need-link-tree-requires
 link-tree-requires c κs = search needs
@@ -32,7 +37,7 @@ returns : tie.Need-returns
 returns c = meter-so (c .before .before .before .before .before .before .before .args .s .now) (c .before .before .before .before .before .before .before .args .tree) (c .before .before .before .before .before .before .before .args .answers .now) (c .before .before .before .before .before .before .before .args .limit) (c .before .before .before .before .before .before .before .args .star) (sym (c .before .before .enum-told .given .1) ∙ c .before .before .before .before .link-tree .ensures) (c .metered .ensures ∙ ap meteredOf (c .before .walk-tree .ensures))
 
 returns-2 : tie.Need-returns-2
-returns-2 c = meter-so (c .before .before .before .before .before .before .before .before .args .s .now) (c .before .before .before .before .before .before .before .before .args .tree) (c .before .before .before .before .before .before .before .before .args .answers .now) (c .before .before .before .before .before .before .before .before .args .limit) (c .before .before .before .before .before .before .before .before .args .star) (sym (c .before .before .before .fault .given .1) ∙ c .before .before .before .before .before .link-tree .ensures) (c .refused-by .ensures ∙ ap (λ (n : ℕ). refusedBy n _ _) (c .before .number .ensures))
+returns-2 c = meter-so (c .before .before .before .before .before .before .before .before .args .s .now) (c .before .before .before .before .before .before .before .before .args .tree) (c .before .before .before .before .before .before .before .before .args .answers .now) (c .before .before .before .before .before .before .before .before .args .limit) (c .before .before .before .before .before .before .before .before .args .star) (sym (c .before .before .before .fault .given .1) ∙ c .before .before .before .before .before .link-tree .ensures) (by-number (c .refused-by .ensures) (c .before .number .ensures))
 
 pub meter-tree-spec : {M : Type 1} → statement M
 meter-tree-spec =
