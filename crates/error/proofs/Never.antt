@@ -2,8 +2,9 @@
 use mathlib.Core.Path.{_≡_}
 use native.Mathlib.Omega.{arith}
 use Rattle.error.specs.Numbers.{numberOf}
+use Rattle.error.specs.declared.LinkFault.the-variants.{NodeRef, QuestionRef, LoneNode}
 use Rattle.error.specs.declared.Refusal.{Refusal}
-use Rattle.error.specs.declared.Refusal.the-variants.{Split, Utf8, Eof, ExpectedBool, ExpectedInteger, ExpectedArrayComma, ExpectedMapColon, ExpectedMapNewline, Field, Number, Limit, NoPosition, NoStream, UseGv, Range, Text, State, Block, Room, NodeRef, QuestionRef, LoneNode, WalkTable, Steps, NoTrailer, TrailerSum, TrailerRows, Held, OtherRows}
+use Rattle.error.specs.declared.Refusal.the-variants.{Split, Utf8, Eof, ExpectedBool, ExpectedInteger, ExpectedArrayComma, ExpectedMapColon, ExpectedMapNewline, Field, Number, Limit, NoPosition, NoStream, UseGv, Range, Text, State, Block, Room, Unlinked, WalkTable, Steps, NoTrailer, TrailerSum, TrailerRows, Held, OtherRows}
 
 pub never-11 : (r : Refusal) → ¬ (numberOf r ≡ 11)
 never-11 Split e = omega (arith, e)
@@ -25,9 +26,9 @@ never-11 (Text p) e = omega (arith, e)
 never-11 State e = omega (arith, e)
 never-11 Block e = omega (arith, e)
 never-11 Room e = omega (arith, e)
-never-11 (NodeRef t k) e = omega (arith, e)
-never-11 (QuestionRef t k) e = omega (arith, e)
-never-11 (LoneNode t k) e = omega (arith, e)
+never-11 (Unlinked NodeRef t k) e = omega (arith, e)
+never-11 (Unlinked QuestionRef t k) e = omega (arith, e)
+never-11 (Unlinked LoneNode t k) e = omega (arith, e)
 never-11 WalkTable e = omega (arith, e)
 never-11 Steps e = omega (arith, e)
 never-11 NoTrailer e = omega (arith, e)

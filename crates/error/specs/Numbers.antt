@@ -1,8 +1,15 @@
 -- 01's 'Numbers the loader gives': the number, the place and the line of each refusal. Where 01 says 0, 0. 11 is retired (02, Wish 14). 26 to 29 and 37 are 02's.
 use Prim.Native.Nat.{ℕ}
+use Rattle.error.specs.declared.LinkFault.{LinkFault}
+use Rattle.error.specs.declared.LinkFault.the-variants.{NodeRef, QuestionRef, LoneNode}
 use Rattle.error.specs.declared.Refusal.{Refusal}
 use Rattle.error.specs.declared.Told.{Told}
-use Rattle.error.specs.declared.Refusal.the-variants.{Split, Utf8, Eof, ExpectedBool, ExpectedInteger, ExpectedArrayComma, ExpectedMapColon, ExpectedMapNewline, Field, Number, Limit, NoPosition, NoStream, UseGv, Range, Text, State, Block, Room, NodeRef, QuestionRef, LoneNode, WalkTable, Steps, NoTrailer, TrailerSum, TrailerRows, Held, OtherRows}
+use Rattle.error.specs.declared.Refusal.the-variants.{Split, Utf8, Eof, ExpectedBool, ExpectedInteger, ExpectedArrayComma, ExpectedMapColon, ExpectedMapNewline, Field, Number, Limit, NoPosition, NoStream, UseGv, Range, Text, State, Block, Room, Unlinked, WalkTable, Steps, NoTrailer, TrailerSum, TrailerRows, Held, OtherRows}
+
+abbrev pub faultNumber : LinkFault → ℕ
+faultNumber NodeRef = 21
+faultNumber QuestionRef = 22
+faultNumber LoneNode = 23
 
 abbrev pub numberOf : Refusal → ℕ
 numberOf Split = 1
@@ -24,9 +31,7 @@ numberOf (Text p) = 17
 numberOf State = 18
 numberOf Block = 19
 numberOf Room = 20
-numberOf (NodeRef t k) = 21
-numberOf (QuestionRef t k) = 22
-numberOf (LoneNode t k) = 23
+numberOf (Unlinked f t k) = faultNumber f
 numberOf WalkTable = 24
 numberOf Steps = 25
 numberOf NoTrailer = 26
@@ -56,9 +61,7 @@ placeOf (Text p) = p
 placeOf State = 0
 placeOf Block = 0
 placeOf Room = 0
-placeOf (NodeRef t k) = t
-placeOf (QuestionRef t k) = t
-placeOf (LoneNode t k) = t
+placeOf (Unlinked f t k) = t
 placeOf WalkTable = 0
 placeOf Steps = 0
 placeOf NoTrailer = 0
@@ -88,9 +91,7 @@ lineOf (Text p) = 0
 lineOf State = 0
 lineOf Block = 0
 lineOf Room = 0
-lineOf (NodeRef t k) = k
-lineOf (QuestionRef t k) = k
-lineOf (LoneNode t k) = k
+lineOf (Unlinked f t k) = k
 lineOf WalkTable = 0
 lineOf Steps = 0
 lineOf NoTrailer = 0

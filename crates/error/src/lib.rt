@@ -2,7 +2,29 @@
 // those of 02 that have one. 11 is retired (02, Wish 14): no input gave it, and it is not given again.
 // Only this crate and the C boundary look into its cases; all others build a case or pass it on.
 ghost use mathlib.Core.Path.{_≡_};
-ghost use Rattle.error.specs.Numbers.{toldOf, numberOf, placeOf, lineOf};
+ghost use Rattle.error.specs.Numbers.{faultNumber, toldOf, numberOf, placeOf, lineOf};
+
+// Why a tree can't be linked: what is wrong with one of its lines (01, 'Linking and tables').
+pub enum LinkFault {
+    // 21: a line refers to an id that no line bears
+    NodeRef,
+    // 22: a line asks a question that isn't there
+    QuestionRef,
+    // 23: a tree's one reference is a node
+    LoneNode,
+}
+
+impl LinkFault {
+    pub fn number(self) -> u64
+        ensures { λ r. ⌜ r ≡ faultNumber self ⌝ }
+    {
+        match self {
+            LinkFault::NodeRef => 21,
+            LinkFault::QuestionRef => 22,
+            LinkFault::LoneNode => 23,
+        }
+    }
+}
 
 // A place is a file offset, that of 17 an offset into the data (02, Wish 2); `tree` and `line` are counted from 0.
 pub enum Refusal {
@@ -44,12 +66,12 @@ pub enum Refusal {
     Block,
     // 20: a lent table or the work is smaller than needed
     Room,
-    // 21: a line refers to an id that no line bears
-    NodeRef { tree: usize, line: usize },
-    // 22: a line asks a question that isn't there
-    QuestionRef { tree: usize, line: usize },
-    // 23: a tree's one reference is a node
-    LoneNode { tree: usize, line: usize },
+    // 21 to 23: a tree can't be linked
+    Unlinked {
+        fault: LinkFault,
+        tree: usize,
+        line: usize,
+    },
     // 24: the walk's tables, tree or answers don't fit
     WalkTable,
     // 25: the walk's limit is met
@@ -107,9 +129,7 @@ impl Refusal {
             Refusal::State => says(18, 0, 0),
             Refusal::Block => says(19, 0, 0),
             Refusal::Room => says(20, 0, 0),
-            Refusal::NodeRef { tree, line } => says(21, tree, line),
-            Refusal::QuestionRef { tree, line } => says(22, tree, line),
-            Refusal::LoneNode { tree, line } => says(23, tree, line),
+            Refusal::Unlinked { fault, tree, line } => says(fault.number(), tree, line),
             Refusal::WalkTable => says(24, 0, 0),
             Refusal::Steps => says(25, 0, 0),
             Refusal::NoTrailer => says(26, 0, 0),

@@ -9,6 +9,7 @@ use lib.Dec.{ltb}
 use lib.ListN.{length}
 use lib.Seq.{sets, length-sets}
 use Rattle.error.specs.Numbers.{numberOf}
+use Rattle.error.specs.declared.LinkFault.the-variants as fault
 use Rattle.error.specs.declared.Refusal.{Refusal}
 use Rattle.error.specs.declared.Refusal.the-variants as refusal
 use Rattle.head_lines.specs.declared.Verdict.{Verdict}
@@ -38,9 +39,9 @@ above-zero (refusal.Text p) = omega arith
 above-zero refusal.State = omega arith
 above-zero refusal.Block = omega arith
 above-zero refusal.Room = omega arith
-above-zero (refusal.NodeRef t k) = omega arith
-above-zero (refusal.QuestionRef t k) = omega arith
-above-zero (refusal.LoneNode t k) = omega arith
+above-zero (refusal.Unlinked fault.NodeRef t k) = omega arith
+above-zero (refusal.Unlinked fault.QuestionRef t k) = omega arith
+above-zero (refusal.Unlinked fault.LoneNode t k) = omega arith
 above-zero refusal.WalkTable = omega arith
 above-zero refusal.Steps = omega arith
 above-zero refusal.NoTrailer = omega arith

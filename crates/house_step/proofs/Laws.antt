@@ -78,9 +78,7 @@ module _ (x : Side) (d : List ℕ) (p : Plan) (other : Held) (T : Lent) where
           → kept o (own x 2 (T .patterns) (p .patterns)) (patternWords (questionsAt (take (p .«text_end») d) (p .text) .items)) ≡ patternWords (questionsAt (take (p .«text_end») d) (p .text) .items)
       linked-there linked.Done e =
           sets-all (own x 2 (T .patterns) (p .patterns)) (patternWords (questionsAt (take (p .«text_end») d) (p .text) .items)) (words-length ∙ sym (length-own x 2 (T .patterns) (p .patterns) pattern-room))
-      linked-there (linked.NodeRef i k) e = let u : _≡_ {A = ℕ} 0 1 = cc in absurd (omega arith)
-      linked-there (linked.QuestionRef i k) e = let u : _≡_ {A = ℕ} 0 1 = cc in absurd (omega arith)
-      linked-there (linked.LoneNode i) e = let u : _≡_ {A = ℕ} 0 1 = cc in absurd (omega arith)
+      linked-there (linked.Refused g i k) e = let u : _≡_ {A = ℕ} 0 1 = cc in absurd (omega arith)
 
       placed-in : {q a t c v : ℕ} {T₁ : Lent} → loaded.Done q a t c v ≡ placedIn x d p T .answer → T₁ ≡ placedIn x d p T .tables
           → LoadedIn x d p (length (T₁ .questions)) (T₁ .patterns) (length (T₁ .trees)) (length (T₁ .values))

@@ -12,6 +12,7 @@ use Rattle.written.specs.Said.{QuestionPlace}
 use Rattle.laws.proofs.Every.{first-of}
 use Rattle.table_rows.specs.Rows.{recordRows}
 use Rattle.laws.specs.Steps.{Ending, doneAt, brokenAt}
+use Rattle.error.specs.declared.LinkFault.{LinkFault}
 use Rattle.tree_reference.specs.References.{sameIndex}
 use Rattle.tree_line.specs.Lines.{lineStepAt, linesAt}
 use Rattle.tree_line.specs.declared.Line.{Line}
@@ -21,7 +22,7 @@ use Rattle.tree_survey_lines.specs.declared.LineCount.the-variants as count
 use Rattle.tree_survey_lines.proofs.Counting.{items-next, items-last, items-broken, counted, not-counted}
 use Rattle.link_alone.specs.Alone.{isLeaf, linkIn, judgedLine, onward, ended, judgedLines, singleIn, judgedSingle, judgedEnding, judgedBraces}
 use Rattle.link_alone.specs.declared.Judged.{Judged}
-use Rattle.link_alone.specs.declared.Judged.the-variants.{Told, NodeRef, QuestionRef, LoneNode}
+use Rattle.link_alone.specs.declared.Judged.the-variants.{Told, Refused}
 use Rattle.link_alone.specs.declared.Single.{Single}
 use Rattle.link_alone.specs.declared.Single.the-variants.{One, Several}
 
@@ -47,14 +48,8 @@ module _ (s : List ℕ) (qs : List QuestionPlace) (ls : List Line) (R : List ℕ
             few = omega (arith, g .few);
           }
 
-      pub judged-node : {m : ℕ} → NodeRef m ≡ a → NodeRef m ≡ judgedLines s qs ls R 0 true ls
-      judged-node p = ap (onward (λ x. judgedLines s qs ls R (suc k) (b && x) (linesAt s j .items))) p ∙ stepped
-
-      pub judged-question : {m : ℕ} → QuestionRef m ≡ a → QuestionRef m ≡ judgedLines s qs ls R 0 true ls
-      judged-question p = ap (onward (λ x. judgedLines s qs ls R (suc k) (b && x) (linesAt s j .items))) p ∙ stepped
-
-      pub judged-lone : LoneNode ≡ a → LoneNode ≡ judgedLines s qs ls R 0 true ls
-      judged-lone p = ap (onward (λ x. judgedLines s qs ls R (suc k) (b && x) (linesAt s j .items))) p ∙ stepped
+      pub judged-refused : {f : LinkFault} {m : ℕ} → Refused f m ≡ a → Refused f m ≡ judgedLines s qs ls R 0 true ls
+      judged-refused p = ap (onward (λ x. judgedLines s qs ls R (suc k) (b && x) (linesAt s j .items))) p ∙ stepped
 
     pub judged-last : {j : ℕ} → answer.Last l j ≡ lineStepAt s i → {a r : Judged} → a ≡ judgedLine R k (linkIn s qs ls l) → r ≡ ended b a → r ≡ judgedLines s qs ls R 0 true ls
     unfolding judgedLines

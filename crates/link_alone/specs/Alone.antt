@@ -5,6 +5,7 @@ use Prim.Native.Nat.{ℕ, suc, _-_}
 use lib.Dec.{eqb, ltb}
 use lib.ListN.{length}
 use Rattle.written.specs.Said.{QuestionPlace}
+use Rattle.error.specs.declared.LinkFault.the-variants.{NodeRef, QuestionRef, LoneNode}
 use Rattle.laws.specs.Every.{all}
 use Rattle.laws.specs.Steps.{Ending, doneAt, brokenAt, Reading}
 use Rattle.tree_reference.specs.References.{sameIndex}
@@ -26,7 +27,7 @@ use Rattle.link_alone.specs.declared.Target.the-variants.{Line, Leaf, No
 use Rattle.link_alone.specs.declared.LineLink.{LineLink}
 use Rattle.link_alone.specs.declared.LineLink.the-variants as link
 use Rattle.link_alone.specs.declared.Judged.{Judged}
-use Rattle.link_alone.specs.declared.Judged.the-variants.{Told, NodeRef, QuestionRef, LoneNode}
+use Rattle.link_alone.specs.declared.Judged.the-variants.{Told, Refused}
 use Rattle.link_alone.specs.declared.Single.{Single}
 use Rattle.link_alone.specs.declared.Single.the-variants.{One, Several}
 
@@ -50,11 +51,11 @@ targetIn ls (Pdf x) = Leaf (natOf x)
 
 abbrev pub linkAsked : Target → Target → Found → LineLink
 linkAsked y n (At q) = link.Goes q y n
-linkAsked y n Nothing = link.QuestionRef
+linkAsked y n Nothing = link.Fails QuestionRef
 
 -- tested in the order yes, no, question
 unfoldable pub linkOf : Target → Target → Found → LineLink
-linkOf y n f = cond (nowhere y) link.NodeRef (cond (nowhere n) link.NodeRef (linkAsked y n f))
+linkOf y n f = cond (nowhere y) (link.Fails NodeRef) (cond (nowhere n) (link.Fails NodeRef) (linkAsked y n f))
 
 unfoldable pub linkIn : List ℕ → List QuestionPlace → List code.Line → code.Line → LineLink
 linkIn s qs ls l = linkOf (targetIn ls (l .yes)) (targetIn ls (l .no)) (asked s (partInside s (l .start) (l .len)) qs)
@@ -85,15 +86,12 @@ leavesFrom R n = all (isLeaf R) n (recordRows R - n)
 
 abbrev pub judgedLine : List ℕ → ℕ → LineLink → Judged
 judgedLine R k (link.Goes q y n) = Told (rowFits R k q y n)
-judgedLine R k link.NodeRef = NodeRef k
-judgedLine R k link.QuestionRef = QuestionRef k
+judgedLine R k (link.Fails f) = Refused f k
 
 -- a fault ends it
 abbrev pub onward : (Bool → Judged) → Judged → Judged
 onward f (Told b) = f b
-onward f (NodeRef k) = NodeRef k
-onward f (QuestionRef k) = QuestionRef k
-onward f LoneNode = LoneNode
+onward f (Refused g k) = Refused g k
 
 -- b, and what was told
 abbrev pub ended : Bool → Judged → Judged
@@ -109,7 +107,7 @@ judgedLines s qs ls R k b (l ∷ rest) = onward (λ x. judgedLines s qs ls R (su
 -- one reference: with a PDF one leaf and no other row, with a node refused
 abbrev pub judgedAlone : List ℕ → TreeIndex → Judged
 judgedAlone R (Pdf x) = Told (eqb (recordRows R) 1 && leafOf R (natOf x) 0)
-judgedAlone R (Node x) = LoneNode
+judgedAlone R (Node x) = Refused LoneNode 0
 
 -- the reference that one line with equal references is
 abbrev pub singleIn : List code.Line → Single

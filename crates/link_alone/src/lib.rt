@@ -1,6 +1,7 @@
 // The linking of one tree by reading its text, without tables or work: where each reference leads, the first line with a fault (01, 'Linking and tables'), and
 // whether record rows that somebody else linked are the tree's (02, Wish 13). Linking alone is asked for with no rows.
 // Every function takes any bytes and any rows. A place is an index into the slice; the questions are those of the text that begins at `at`.
+use error::LinkFault;
 use link_find::ids_in_order;
 use link_find::last_question;
 use link_find::line_of;
@@ -47,16 +48,13 @@ pub enum LineLink {
         yes: Target,
         no: Target,
     },
-    NodeRef,
-    QuestionRef,
+    Fails(LinkFault),
 }
 
 // A tree that links, and whether the rows are its own; or at which line it doesn't.
 pub enum Judged {
     Told(bool),
-    NodeRef(usize),
-    QuestionRef(usize),
-    LoneNode,
+    Refused { fault: LinkFault, line: usize },
 }
 
 pub fn is_nowhere(target: Target) -> bool
@@ -92,15 +90,15 @@ pub fn link_line(s: &[u8], at: usize, first: usize, n: u64, in_order: bool, line
     let to_no = line.no;
     let yes = target_of(s, first, n, in_order, to_yes);
     if is_nowhere(yes) {
-        return LineLink::NodeRef;
+        return LineLink::Fails(LinkFault::NodeRef);
     }
     let no = target_of(s, first, n, in_order, to_no);
     if is_nowhere(no) {
-        return LineLink::NodeRef;
+        return LineLink::Fails(LinkFault::NodeRef);
     }
     match last_question(s, at, part_inside(s, line.start as u64, line.len as u64)) {
         Found::At(question) => LineLink::Goes { question, yes, no },
-        Found::Nothing => LineLink::QuestionRef,
+        Found::Nothing => LineLink::Fails(LinkFault::QuestionRef),
     }
 }
 
@@ -178,8 +176,10 @@ fn judge_line(
         LineLink::Goes { question, yes, no } => {
             Judged::Told(row_fits(records, k, question, yes, no))
         }
-        LineLink::NodeRef => Judged::NodeRef(k as usize),
-        LineLink::QuestionRef => Judged::QuestionRef(k as usize),
+        LineLink::Fails(fault) => Judged::Refused {
+            fault,
+            line: k as usize,
+        },
     }
 }
 
@@ -206,14 +206,8 @@ fn judge_lines(s: &[u8], at: usize, first: usize, n: u64, in_order: bool, record
                         k = k + 1;
                         i = next;
                     }
-                    Judged::NodeRef(line) => {
-                        return Judged::NodeRef(line);
-                    }
-                    Judged::QuestionRef(line) => {
-                        return Judged::QuestionRef(line);
-                    }
-                    Judged::LoneNode => {
-                        return Judged::LoneNode;
+                    Judged::Refused { fault, line } => {
+                        return Judged::Refused { fault, line };
                     }
                 }
             }
@@ -236,9 +230,7 @@ fn last_judged(judged: Judged, fits: bool) -> Judged
 {
     match judged {
         Judged::Told(fit) => Judged::Told(both(fits, fit)),
-        Judged::NodeRef(line) => Judged::NodeRef(line),
-        Judged::QuestionRef(line) => Judged::QuestionRef(line),
-        Judged::LoneNode => Judged::LoneNode,
+        Judged::Refused { fault, line } => Judged::Refused { fault, line },
     }
 }
 
@@ -266,7 +258,10 @@ fn judge_alone(records: &[u64], index: TreeIndex) -> Judged
             let one = record_rows(records) == 1;
             Judged::Told(both(one, is_leaf_of(records, 0, natural(number))))
         }
-        TreeIndex::Node(_) => Judged::LoneNode,
+        TreeIndex::Node(_) => Judged::Refused {
+            fault: LinkFault::LoneNode,
+            line: 0,
+        },
     }
 }
 

@@ -16,6 +16,9 @@ use Rattle.written.specs.Linking.{Nth, here, there, Last, First, LastLine, Last
 use Rattle.laws.specs.Wholes.{eqZ}
 use Rattle.laws.proofs.Nth.{nth-inside, flatten-append}
 use Rattle.laws.proofs.Wholes.{eqZ-true}
+use Rattle.error.specs.Numbers.{faultNumber}
+use Rattle.error.specs.declared.LinkFault.{LinkFault}
+use Rattle.error.specs.declared.LinkFault.the-variants.{NodeRef, QuestionRef, LoneNode}
 use Rattle.link_order.specs.Keys.{idKey, idAt, keyOf}
 use Rattle.link_sort.specs.Sorted.{sorted}
 use Rattle.link_sort.proofs.Order.{le-or-lt}
@@ -34,9 +37,10 @@ use Rattle.link_tree.proofs.Whole.{length-lines}
 use Rattle.link_tree.specs.Steps.{stepQuestion, stepNo, stepYes, stepOf, first, outcome, goalsOf, goals}
 use Rattle.link_tree.specs.Linked.{leavesOf, stepIn, recordRows, linkOutcome, linkedRows}
 use Rattle.link_tree.specs.declared.Link.{Link}
-use Rattle.link_tree.specs.declared.Link.the-variants.{Done, NodeRef, QuestionRef}
+use Rattle.link_tree.specs.declared.Link.the-variants.{Done}
+use Rattle.link_tree.specs.declared.Link.the-variants as link
 use Rattle.link_tree.specs.declared.Step.{Step}
-use Rattle.link_tree.specs.declared.Step.the-variants.{Goes, NoNode, NoQuestion}
+use Rattle.link_tree.specs.declared.Step.the-variants.{Goes, Fails}
 
 -- ---- the first leaf of a number
 
@@ -232,7 +236,7 @@ module _ (qs : List Question) (w : List ℤ) where
     unfolding stepQuestion
     step-goes q (At a) (At b) {y} {m} e = go (eqb q 0) refl e
       where
-        go : (c : Bool) → eqb q 0 ≡ c → cond c NoQuestion (Goes a b) ≡ Goes y m → (At a ≡ At y) × (At b ≡ At m) × (eqb q 0 ≡ false)
+        go : (c : Bool) → eqb q 0 ≡ c → cond c (Fails QuestionRef) (Goes a b) ≡ Goes y m → (At a ≡ At y) × (At b ≡ At m) × (eqb q 0 ≡ false)
         go true p e = let u : _≡_ {A = ℕ} 0 1 = cc in absurd (omega arith)
         go false p e = let s : a ≡ y = cc in let t : b ≡ m = cc in (ap At s, ap At t, p)
     step-goes q (At a) Nothing e = let u : _≡_ {A = ℕ} 0 1 = cc in absurd (omega arith)
@@ -264,8 +268,7 @@ module _ (qs : List Question) (w : List ℤ) where
         go (Goes y z) p e r =
             let R = r e in
             (branch (lineIn w j .question - 1) y z ∷ R .0, Forall₂·cons (row-is j l s p) (R .1), ap (λ t. 0 ∷ (lineIn w j .question - 1) ∷ y ∷ z ∷ t) (R .2))
-        go NoNode p e r = let u : _≡_ {A = ℕ} 0 1 = cc in absurd (omega arith)
-        go NoQuestion p e r = let u : _≡_ {A = ℕ} 0 1 = cc in absurd (omega arith)
+        go (Fails f) p e r = let u : _≡_ {A = ℕ} 0 1 = cc in absurd (omega arith)
 
     -- the records of the tree
     pub link-done : linkOutcome w n ≡ Done → NotSingle ls → (rows : List Row) × Records qs (braces ls) rows × (flatten rows ≡ linkedRows w n)
@@ -308,8 +311,7 @@ module _ (qs : List Question) (w : List ℤ) where
             )
 
         go : (a : Step) → stepIn w n (lineIn w j) ≡ a → (¬ (outcome (stepIn w n) (suc k) (linesFrom w (suc j) m) ≡ Done) → Stop (suc k) (suc j) m) → Stop k j (suc m)
-        go NoNode p r = at-once NoNode p refl
-        go NoQuestion p r = at-once NoQuestion p refl
+        go (Fails f) p r = at-once (Fails f) p refl
         go (Goes y z) p r =
             let on : outcome (stepIn w n) k (linesFrom w j (suc m)) ≡ outcome (stepIn w n) (suc k) (linesFrom w (suc j) m) = ap (λ s. first k s (outcome (stepIn w n) (suc k) (linesFrom w (suc j) m))) p in
             let R = r (λ q. h (on ∙ q)) in
@@ -335,25 +337,35 @@ module _ (qs : List Question) (w : List ℤ) where
         go (At r) q e = let u : _≡_ {A = ℕ} 0 1 = cc in omega arith
         go Nothing q e = let z : times v (leavesOf w n) ≡ times v (pdfsOf (linesFrom w 0 n)) = leaf-times v in omega (arith, first-missing v 0 (leavesOf w n) q, h v refl)
 
-    step-node : (q : ℕ) (f g : Found) → stepYes q f g ≡ NoNode → (f ≡ Nothing) ⊎ ((y : ℕ) × (f ≡ At y) × (g ≡ Nothing))
+    step-node : (q : ℕ) (f g : Found) → stepYes q f g ≡ Fails NodeRef → (f ≡ Nothing) ⊎ ((y : ℕ) × (f ≡ At y) × (g ≡ Nothing))
     unfolding stepQuestion
     step-node q Nothing g e = inl refl
     step-node q (At y) Nothing e = inr (y, refl, refl)
     step-node q (At y) (At m) e = go (eqb q 0) e
       where
-        go : (c : Bool) → cond c NoQuestion (Goes y m) ≡ NoNode → (At y ≡ Nothing) ⊎ ((x : ℕ) × (At y ≡ At x) × (At m ≡ Nothing))
+        go : (c : Bool) → cond c (Fails QuestionRef) (Goes y m) ≡ Fails NodeRef → (At y ≡ Nothing) ⊎ ((x : ℕ) × (At y ≡ At x) × (At m ≡ Nothing))
         go true e = let u : _≡_ {A = ℕ} 0 1 = cc in absurd (omega arith)
         go false e = let u : _≡_ {A = ℕ} 0 1 = cc in absurd (omega arith)
 
-    step-unasked : (q : ℕ) (f g : Found) → stepYes q f g ≡ NoQuestion → (y : ℕ) × (m : ℕ) × (f ≡ At y) × (g ≡ At m) × (eqb q 0 ≡ true)
+    step-unasked : (q : ℕ) (f g : Found) → stepYes q f g ≡ Fails QuestionRef → (y : ℕ) × (m : ℕ) × (f ≡ At y) × (g ≡ At m) × (eqb q 0 ≡ true)
     unfolding stepQuestion
     step-unasked q Nothing g e = let u : _≡_ {A = ℕ} 0 1 = cc in absurd (omega arith)
     step-unasked q (At y) Nothing e = let u : _≡_ {A = ℕ} 0 1 = cc in absurd (omega arith)
     step-unasked q (At y) (At m) e = go (eqb q 0) refl e
       where
-        go : (c : Bool) → eqb q 0 ≡ c → cond c NoQuestion (Goes y m) ≡ NoQuestion → (x : ℕ) × (z : ℕ) × (At y ≡ At x) × (At m ≡ At z) × (eqb q 0 ≡ true)
+        go : (c : Bool) → eqb q 0 ≡ c → cond c (Fails QuestionRef) (Goes y m) ≡ Fails QuestionRef → (x : ℕ) × (z : ℕ) × (At y ≡ At x) × (At m ≡ At z) × (eqb q 0 ≡ true)
         go true p e = (y, m, refl, refl, p)
         go false p e = let u : _≡_ {A = ℕ} 0 1 = cc in absurd (omega arith)
+
+    step-lone : (q : ℕ) (f g : Found) → ¬ (stepYes q f g ≡ Fails LoneNode)
+    unfolding stepQuestion
+    step-lone q Nothing g e = let u : _≡_ {A = ℕ} 0 1 = cc in omega arith
+    step-lone q (At y) Nothing e = let u : _≡_ {A = ℕ} 0 1 = cc in omega arith
+    step-lone q (At y) (At m) e = go (eqb q 0) e
+      where
+        go : (c : Bool) → ¬ (cond c (Fails QuestionRef) (Goes y m) ≡ Fails LoneNode)
+        go true e = let u : _≡_ {A = ℕ} 0 1 = cc in omega arith
+        go false e = let u : _≡_ {A = ℕ} 0 1 = cc in omega arith
 
     unasked : (name : List ℕ) (q : ℕ) → AskedAs qs name q → eqb q 0 ≡ true → ¬ Asked qs name
     unasked name zero (none h) e = h
@@ -381,49 +393,39 @@ module _ (qs : List Question) (w : List ℤ) where
       no-goes : (y : ℕ) → targetOf w n (leavesOf w n) (lineIn w (0 + i) .no) ≡ At y → Declared ls (l .no)
       no-goes y e = declared (l .no) y (goes (l .no) (ref-small (6 * (0 + i) + 3) (l .no) (s .no)) y (ap (targetOf w n (leavesOf w n)) (sym (s .no)) ∙ e))
 
-      fault-node : stepIn w n (lineIn w (0 + i)) ≡ NoNode → Fault qs ls l 21
+      fault-node : stepIn w n (lineIn w (0 + i)) ≡ Fails NodeRef → Fault qs ls l 21
       fault-node e = go (step-node (lineIn w (0 + i) .question) (targetOf w n (leavesOf w n) (lineIn w (0 + i) .yes)) (targetOf w n (leavesOf w n) (lineIn w (0 + i) .no)) e)
         where
           go : (targetOf w n (leavesOf w n) (lineIn w (0 + i) .yes) ≡ Nothing) ⊎ ((y : ℕ) × (targetOf w n (leavesOf w n) (lineIn w (0 + i) .yes) ≡ At y) × (targetOf w n (leavesOf w n) (lineIn w (0 + i) .no) ≡ Nothing)) → Fault qs ls l 21
           go (inl p) = yes-undeclared (undeclared (l .yes) (λ v q. in-yes i h v (s .yes ∙ q)) (ap (targetOf w n (leavesOf w n)) (sym (s .yes)) ∙ p))
           go (inr (y, p, q)) = no-undeclared (yes-goes y p) (undeclared (l .no) (λ v z. in-no i h v (s .no ∙ z)) (ap (targetOf w n (leavesOf w n)) (sym (s .no)) ∙ q))
 
-      fault-question : stepIn w n (lineIn w (0 + i)) ≡ NoQuestion → Fault qs ls l 22
+      fault-question : stepIn w n (lineIn w (0 + i)) ≡ Fails QuestionRef → Fault qs ls l 22
       fault-question e =
           let u = step-unasked (lineIn w (0 + i) .question) (targetOf w n (leavesOf w n) (lineIn w (0 + i) .yes)) (targetOf w n (leavesOf w n) (lineIn w (0 + i) .no)) e in
           not-asked (yes-goes (u .0) (u .2)) (no-goes (u .1) (u .3)) (unasked (l .question) (lineIn w (0 + i) .question) (s .question) (u .4))
+
+      fault-at : (f : LinkFault) → stepIn w n (lineIn w (0 + i)) ≡ Fails f → Fault qs ls l (faultNumber f)
+      fault-at NodeRef e = fault-node e
+      fault-at QuestionRef e = fault-question e
+      fault-at LoneNode e = absurd (step-lone (lineIn w (0 + i) .question) (targetOf w n (leavesOf w n) (lineIn w (0 + i) .yes)) (targetOf w n (leavesOf w n) (lineIn w (0 + i) .no)) e)
 
     refusal : NotSingle ls → (i c : ℕ) → i < n → ((l : Line) → Says qs (lineIn w (0 + i)) l → Fault qs ls l c) → ((b : ℕ) → b < i → GoesAt (0 + b)) → Refused qs (braces ls) c i
     refusal h i c l f g =
         let r = line-nth 0 n i ls l said in
         L.Refused.lines h (r .1) (f (r .0) (r .2)) (λ m e d b s. no-fault (0 + m) e (nth-line 0 n m ls e said s .1) (g m b) d)
 
-    -- 21 at the first line with an id that no line bears
-    pub link-node : (k : ℕ) → linkOutcome w n ≡ NodeRef k → NotSingle ls → Refused qs (braces ls) 21 k
+    -- 21 at the first line with an id that no line bears, 22 at the first whose question no QS line has
+    pub link-refused : (f : LinkFault) (k : ℕ) → linkOutcome w n ≡ link.Refused f k → NotSingle ls → Refused qs (braces ls) (faultNumber f) k
     unfolding linkOutcome
-    link-node k e h =
+    link-refused f k e h =
         let S = stops 0 0 n (λ d. let u : _≡_ {A = ℕ} 0 1 = cc in omega arith) in
         go (S .0) (S .1) (S .3) (stepIn w n (lineIn w (0 + S .0))) refl (sym (S .2) ∙ e)
       where
-        go : (i : ℕ) → i < n → ((b : ℕ) → b < i → GoesAt (0 + b)) → (a : Step) → stepIn w n (lineIn w (0 + i)) ≡ a → first (0 + i) a Done ≡ NodeRef k → Refused qs (braces ls) 21 k
-        go i l g NoNode p q =
+        go : (i : ℕ) → i < n → ((b : ℕ) → b < i → GoesAt (0 + b)) → (a : Step) → stepIn w n (lineIn w (0 + i)) ≡ a → first (0 + i) a Done ≡ link.Refused f k → Refused qs (braces ls) (faultNumber f) k
+        go i l g (Fails b) p q =
             let z : 0 + i ≡ k = cc in
             let y : i ≡ k = omega arith in
-            subst (λ (j : ℕ). Refused qs (braces ls) 21 j) y (refusal h i 21 l (λ x s. fault-node i l x s p) g)
-        go i l g NoQuestion p q = let u : _≡_ {A = ℕ} 0 1 = cc in absurd (omega arith)
-        go i l g (Goes y z) p q = let u : _≡_ {A = ℕ} 0 1 = cc in absurd (omega arith)
-
-    -- 22 at the first line whose question no QS line has
-    pub link-question : (k : ℕ) → linkOutcome w n ≡ QuestionRef k → NotSingle ls → Refused qs (braces ls) 22 k
-    unfolding linkOutcome
-    link-question k e h =
-        let S = stops 0 0 n (λ d. let u : _≡_ {A = ℕ} 0 1 = cc in omega arith) in
-        go (S .0) (S .1) (S .3) (stepIn w n (lineIn w (0 + S .0))) refl (sym (S .2) ∙ e)
-      where
-        go : (i : ℕ) → i < n → ((b : ℕ) → b < i → GoesAt (0 + b)) → (a : Step) → stepIn w n (lineIn w (0 + i)) ≡ a → first (0 + i) a Done ≡ QuestionRef k → Refused qs (braces ls) 22 k
-        go i l g NoQuestion p q =
-            let z : 0 + i ≡ k = cc in
-            let y : i ≡ k = omega arith in
-            subst (λ (j : ℕ). Refused qs (braces ls) 22 j) y (refusal h i 22 l (λ x s. fault-question i l x s p) g)
-        go i l g NoNode p q = let u : _≡_ {A = ℕ} 0 1 = cc in absurd (omega arith)
+            let v : b ≡ f = cc in
+            subst (λ (j : ℕ). Refused qs (braces ls) (faultNumber f) j) y (refusal h i (faultNumber f) l (λ x s. fault-at i l x s f (p ∙ ap Fails v)) g)
         go i l g (Goes y z) p q = let u : _≡_ {A = ℕ} 0 1 = cc in absurd (omega arith)

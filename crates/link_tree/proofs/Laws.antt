@@ -16,15 +16,17 @@ use Rattle.link_search.specs.declared.Found.the-variants.{At, Nothing}
 use Rattle.link_targets.specs.Lines.{WorkLine, lineIn, linesFrom}
 use Rattle.link_targets.specs.Targets.{targetOf, Ready, Rows}
 use Rattle.link_tree.specs.Steps.{stepQuestion, stepNo, stepYes, stepOf, first, outcome, goalsOf, goals}
+use Rattle.error.specs.declared.LinkFault.{LinkFault}
+use Rattle.error.specs.declared.LinkFault.the-variants.{NodeRef, QuestionRef}
 use Rattle.link_tree.specs.declared.Step.{Step}
-use Rattle.link_tree.specs.declared.Step.the-variants.{Goes, NoNode, NoQuestion}
+use Rattle.link_tree.specs.declared.Step.the-variants.{Goes, Fails}
 use Rattle.link_tree.specs.declared.Link.{Link}
-use Rattle.link_tree.specs.declared.Link.the-variants.{Done, NodeRef, QuestionRef}
+use Rattle.link_tree.specs.declared.Link.the-variants.{Done, Refused}
 
 -- ---- one line
 
 module _ (to : Ref → Found) (l : WorkLine) {f g : Found} {y n : ℕ} where
-  pub step-unasked : f ≡ to (l .yes) → f ≡ At y → g ≡ to (l .no) → g ≡ At n → l .question ≡ 0 → NoQuestion ≡ stepOf to l
+  pub step-unasked : f ≡ to (l .yes) → f ≡ At y → g ≡ to (l .no) → g ≡ At n → l .question ≡ 0 → Fails QuestionRef ≡ stepOf to l
   unfolding stepQuestion
   step-unasked p q r s e = sym (ap₂ (stepYes (l .question)) (sym p ∙ q) (sym r ∙ s) ∙ rw (eq-eqb (l .question) 0 e))
 
@@ -33,10 +35,10 @@ module _ (to : Ref → Found) (l : WorkLine) {f g : Found} {y n : ℕ} where
   step-goes p q r s e = sym (ap₂ (stepYes (l .question)) (sym p ∙ q) (sym r ∙ s) ∙ rw (ne-eqb (l .question) 0 e))
 
 module _ (to : Ref → Found) (l : WorkLine) {f g : Found} {y : ℕ} where
-  pub step-no : f ≡ to (l .yes) → f ≡ At y → g ≡ to (l .no) → g ≡ Nothing → NoNode ≡ stepOf to l
+  pub step-no : f ≡ to (l .yes) → f ≡ At y → g ≡ to (l .no) → g ≡ Nothing → Fails NodeRef ≡ stepOf to l
   step-no p q r s = sym (ap₂ (stepYes (l .question)) (sym p ∙ q) (sym r ∙ s))
 
-pub step-yes : (to : Ref → Found) (l : WorkLine) {f : Found} → f ≡ to (l .yes) → f ≡ Nothing → NoNode ≡ stepOf to l
+pub step-yes : (to : Ref → Found) (l : WorkLine) {f : Found} → f ≡ to (l .yes) → f ≡ Nothing → Fails NodeRef ≡ stepOf to l
 step-yes to l p q = sym (ap (λ (x : Found). stepYes (l .question) x (to (l .no))) (sym p ∙ q))
 
 -- ---- the lines of the work
@@ -118,11 +120,8 @@ module _ (w : List ℤ) (n leaves : ℕ) (ordered : Bool) (rows₀ : List ℕ) w
             out = sym (l .1) ∙ p .out;
           }
 
-      pub resolve-node : s ≡ NoNode → (NodeRef line ≡ outcome to 0 (linesFrom w 0 n)) × (rows ≡ sets rows₀ (2 * n) (goals to (linesFrom w 0 n)))
-      resolve-node q = let l = left NoNode q in (sym (l .1) ∙ p .out, sym (ap (sets rows (2 * n + 2 * line)) (l .0)) ∙ p .stored)
-
-      pub resolve-question : s ≡ NoQuestion → (QuestionRef line ≡ outcome to 0 (linesFrom w 0 n)) × (rows ≡ sets rows₀ (2 * n) (goals to (linesFrom w 0 n)))
-      resolve-question q = let l = left NoQuestion q in (sym (l .1) ∙ p .out, sym (ap (sets rows (2 * n + 2 * line)) (l .0)) ∙ p .stored)
+      pub resolve-fails : {f : LinkFault} → s ≡ Fails f → (Refused f line ≡ outcome to 0 (linesFrom w 0 n)) × (rows ≡ sets rows₀ (2 * n) (goals to (linesFrom w 0 n)))
+      resolve-fails {f} q = let l = left (Fails f) q in (sym (l .1) ∙ p .out, sym (ap (sets rows (2 * n + 2 * line)) (l .0)) ∙ p .stored)
 
     pub resolve-done : n ≤ line → (Done ≡ outcome to 0 (linesFrom w 0 n)) × (rows ≡ sets rows₀ (2 * n) (goals to (linesFrom w 0 n)))
     unfolding goals outcome

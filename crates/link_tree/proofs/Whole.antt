@@ -22,9 +22,9 @@ use Rattle.link_rows.specs.Rows.{leafRows, lineRows}
 use Rattle.link_tree.specs.Steps.{stepOf, first, outcome, goalsOf, goals}
 use Rattle.link_tree.specs.Linked.{leavesOf, stepIn, recordRows, linkOutcome, linkedRows}
 use Rattle.link_tree.specs.declared.Step.{Step}
-use Rattle.link_tree.specs.declared.Step.the-variants.{Goes, NoNode, NoQuestion}
+use Rattle.link_tree.specs.declared.Step.the-variants.{Goes, Fails}
 use Rattle.link_tree.specs.declared.Link.{Link}
-use Rattle.link_tree.specs.declared.Link.the-variants.{Done, NodeRef, QuestionRef}
+use Rattle.link_tree.specs.declared.Link.the-variants.{Done}
 
 -- ---- leaves and index
 
@@ -103,8 +103,7 @@ goals-length S k (l ∷ ls) e = go (S l) e (goals-length S (suc k) ls)
   where
     go : (s : Step) → first k s (outcome S (suc k) ls) ≡ Done → (outcome S (suc k) ls ≡ Done → length (goals S ls) ≡ 2 * length ls) → length (goalsOf s (goals S ls)) ≡ 2 * suc (length ls)
     go (Goes y n) e r = omega (arith, r e)
-    go NoNode e r = let u : _≡_ {A = ℕ} 0 1 = cc in absurd (omega arith)
-    go NoQuestion e r = let u : _≡_ {A = ℕ} 0 1 = cc in absurd (omega arith)
+    go (Fails f) e r = let u : _≡_ {A = ℕ} 0 1 = cc in absurd (omega arith)
 
 pub length-lines : (w : List ℤ) (k n : ℕ) → length (linesFrom w k n) ≡ n
 unfolding linesFrom

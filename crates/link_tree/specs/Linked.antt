@@ -12,7 +12,7 @@ use Rattle.link_rows.specs.Rows.{leafRows}
 use Rattle.link_tree.specs.Steps.{stepOf, outcome, goals}
 use Rattle.link_tree.specs.declared.Step.{Step}
 use Rattle.link_tree.specs.declared.Link.{Link}
-use Rattle.link_tree.specs.declared.Link.the-variants.{Done, NodeRef, QuestionRef}
+use Rattle.link_tree.specs.declared.Link.the-variants.{Done, Refused}
 
 unfoldable pub leavesOf : List ℤ → ℕ → List ℕ
 leavesOf w n = sorted (keyOf (λ x. 0)) (pdfsOf (linesFrom w 0 n))
@@ -36,8 +36,7 @@ linkedRows w n = recordRows (linesFrom w 0 n) (goals (stepIn w n) (linesFrom w 0
 -- the rows after linking: the records, or zeros where it is refused
 abbrev pub rowsAfter : Link → List ℕ → ℕ → List ℕ
 rowsAfter Done rows n = rows
-rowsAfter (NodeRef k) rows n = replicate n 0
-rowsAfter (QuestionRef k) rows n = replicate n 0
+rowsAfter (Refused f k) rows n = replicate n 0
 
 pub record Linking (w : List ℤ) (n : ℕ) (before after : List ℕ) (r : Link) : Type 0 where
   pub is : r ≡ linkOutcome w n

@@ -1,5 +1,6 @@
 // After model/mod.rs, `convert_tree`: the records of one tree out of its lines (01, 'Linking and tables').
 // A tree that is one reference is not for this crate: its record is written by whoever reads the tree.
+use error::LinkFault;
 use link_rows::spread_leaves;
 use link_rows::write_lines;
 use link_search::Found;
@@ -33,17 +34,13 @@ ghost use Rattle.link_tree.specs.Linked.{leavesOf, Linking};
 // Where a line leads: both records, or what is wrong with it.
 pub enum Step {
     Goes { yes: u64, no: u64 },
-    // yes or no is an id that no line bears
-    NoNode,
-    // no question has the line's name
-    NoQuestion,
+    Fails(LinkFault),
 }
 
 // How linking a tree ends; a line is counted from 0.
 pub enum Link {
     Done,
-    NodeRef(usize),
-    QuestionRef(usize),
+    Refused { fault: LinkFault, line: usize },
 }
 
 // Where a line leads, tested in 01's order: yes, no, question.
@@ -77,14 +74,14 @@ fn resolve_line(
             Found::At(no) => {
                 let q = work[WORK_A_LINE * line + LINE_QUESTION];
                 if natural(q) == 0 {
-                    Step::NoQuestion
+                    Step::Fails(LinkFault::QuestionRef)
                 } else {
                     Step::Goes { yes, no }
                 }
             }
-            Found::Nothing => Step::NoNode,
+            Found::Nothing => Step::Fails(LinkFault::NodeRef),
         },
-        Found::Nothing => Step::NoNode,
+        Found::Nothing => Step::Fails(LinkFault::NodeRef),
     }
 }
 
@@ -99,11 +96,8 @@ fn resolve_lines(work: &[i64], n: usize, rows: &mut [u64], leaves: usize, ordere
             Step::Goes { yes, no } => {
                 put2(rows, 2 * n + 2 * line, yes, no);
             }
-            Step::NoNode => {
-                return Link::NodeRef(line);
-            }
-            Step::NoQuestion => {
-                return Link::QuestionRef(line);
+            Step::Fails(fault) => {
+                return Link::Refused { fault, line };
             }
         }
         line = line + 1;
@@ -147,13 +141,9 @@ pub fn link_tree(work: &[i64], n: usize, leaves: usize, rows: &mut [u64]) -> Lin
             write_lines(work, n, rows);
             Link::Done
         }
-        Link::NodeRef(line) => {
+        Link::Refused { fault, line } => {
             zero(rows);
-            Link::NodeRef(line)
-        }
-        Link::QuestionRef(line) => {
-            zero(rows);
-            Link::QuestionRef(line)
+            Link::Refused { fault, line }
         }
     }
 }

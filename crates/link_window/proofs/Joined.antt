@@ -23,16 +23,15 @@ use Rattle.link_alone.specs.declared.Judged.the-variants as judged
 use Rattle.link_alone.specs.declared.Single.{Single}
 use Rattle.link_alone.specs.declared.Single.the-variants.{One, Several}
 use Rattle.link_window.specs.Windows.{firstFrom, noRow, unheard, strays, faultLines, faultAlone, faultSingle, faultEnding, faultBraces, faultHead}
+use Rattle.error.specs.declared.LinkFault.the-variants.{NodeRef, QuestionRef}
 use Rattle.link_window.specs.declared.Linking.{Linking}
-use Rattle.link_window.specs.declared.Linking.the-variants.{Whole, NodeRef, QuestionRef, LoneNode}
+use Rattle.link_window.specs.declared.Linking.the-variants.{Whole, Refused}
 use Rattle.link_window.proofs.Laws.{lower-question, lower-node}
 
 -- what was judged, without the rows
 abbrev pub faultOf : Judged → Linking
 faultOf (judged.Told b) = Whole
-faultOf (judged.NodeRef k) = NodeRef k
-faultOf (judged.QuestionRef k) = QuestionRef k
-faultOf judged.LoneNode = LoneNode
+faultOf (judged.Refused f k) = Refused f k
 
 -- ---- the first of a list stands at k or behind it
 
@@ -54,11 +53,11 @@ first-from p k (x ∷ xs) = go (p x) (first-from p (suc k) xs)
     go true f = at {m = k} (omega arith)
     go false f = further f
 
-fault-node : (k : ℕ) {f : Found} → From k f → faultLines (At k) f ≡ NodeRef k
+fault-node : (k : ℕ) {f : Found} → From k f → faultLines (At k) f ≡ Refused NodeRef k
 fault-node k (at h) = sym (lower-node h)
 fault-node k nothing = refl
 
-fault-question : (k : ℕ) {f : Found} → From (suc k) f → faultLines f (At k) ≡ QuestionRef k
+fault-question : (k : ℕ) {f : Found} → From (suc k) f → faultLines f (At k) ≡ Refused QuestionRef k
 fault-question k (at h) = sym (lower-question (omega arith))
 fault-question k nothing = refl
 
@@ -84,7 +83,7 @@ module _ (s : List ℕ) (qs : List QuestionPlace) (ls : List Line) (R : List ℕ
 
       go : (y n : Bool) (f : Found) → From (suc k) (firstFrom (strays ls) (suc k) rest) → From (suc k) (firstFrom (unheard s qs) (suc k) rest)
           → ((x : Bool) → faultOf (judgedLines s qs ls R (suc k) (b && x) rest) ≡ faultLines (firstFrom (strays ls) (suc k) rest) (firstFrom (unheard s qs) (suc k) rest))
-          → faultOf (onward (λ x. judgedLines s qs ls R (suc k) (b && x) rest) (judgedLine R k (cond y link.NodeRef (cond n link.NodeRef (linkAsked (targetIn ls (l .yes)) (targetIn ls (l .no)) f)))))
+          → faultOf (onward (λ x. judgedLines s qs ls R (suc k) (b && x) rest) (judgedLine R k (cond y (link.Fails NodeRef) (cond n (link.Fails NodeRef) (linkAsked (targetIn ls (l .yes)) (targetIn ls (l .no)) f)))))
           ≡ faultLines (cond (y || n) (At k) (firstFrom (strays ls) (suc k) rest)) (cond (noRow f) (At k) (firstFrom (unheard s qs) (suc k) rest))
       go true n f a u r = sym (fault-node k (here-first (noRow f) u))
       go false true f a u r = sym (fault-node k (here-first (noRow f) u))
@@ -92,9 +91,7 @@ module _ (s : List ℕ) (qs : List QuestionPlace) (ls : List Line) (R : List ℕ
 
   ended-fault : (b : Bool) (j : Judged) → faultOf (ended b j) ≡ faultOf j
   ended-fault b (judged.Told x) = refl
-  ended-fault b (judged.NodeRef k) = refl
-  ended-fault b (judged.QuestionRef k) = refl
-  ended-fault b judged.LoneNode = refl
+  ended-fault b (judged.Refused f k) = refl
 
 -- ---- a tree
 

@@ -33,8 +33,9 @@ use Rattle.link_find.proofs.Finding.{Named, hit}
 use Rattle.link_alone.specs.Alone.{singleIn}
 use Rattle.link_alone.specs.declared.Single.{Single}
 use Rattle.link_window.specs.Windows.{firstFrom, FirstOf, off, none, nameIn, heard, Marked, Holds, Taken, more, all, Filling, noRow, unheard, Windowed, missing, next, clean, faultLines, faultSingle, faultEnding, faultBraces}
+use Rattle.error.specs.declared.LinkFault.the-variants.{NodeRef, QuestionRef}
 use Rattle.link_window.specs.declared.Linking.{Linking}
-use Rattle.link_window.specs.declared.Linking.the-variants.{Whole, NodeRef, QuestionRef}
+use Rattle.link_window.specs.declared.Linking.the-variants.{Whole, Refused}
 use Rattle.link_window.specs.declared.Filled.the-variants.{More, All}
 use Rattle.link_window.specs.declared.Window.{Window}
 use Rattle.link_window.specs.declared.Window.the-variants.{Missing, Next, Clean}
@@ -434,11 +435,11 @@ module _ (s : List ℕ) (qs : List QuestionPlace) (first : ℕ) where
 
 -- ---- the lower line
 
-pub lower-question : {a b : ℕ} → b < a → QuestionRef b ≡ faultLines (At a) (At b)
-lower-question {a} {b} h = sym (ap (λ (x : Bool). cond x (QuestionRef b) (NodeRef a)) (lt-ltb b a h))
+pub lower-question : {a b : ℕ} → b < a → Refused QuestionRef b ≡ faultLines (At a) (At b)
+lower-question {a} {b} h = sym (ap (λ (x : Bool). cond x (Refused QuestionRef b) (Refused NodeRef a)) (lt-ltb b a h))
 
-pub lower-node : {a b : ℕ} → a ≤ b → NodeRef a ≡ faultLines (At a) (At b)
-lower-node {a} {b} h = sym (ap (λ (x : Bool). cond x (QuestionRef b) (NodeRef a)) (le-ltb b a h))
+pub lower-node : {a b : ℕ} → a ≤ b → Refused NodeRef a ≡ faultLines (At a) (At b)
+lower-node {a} {b} h = sym (ap (λ (x : Bool). cond x (Refused QuestionRef b) (Refused NodeRef a)) (le-ltb b a h))
 
 -- ---- a tree in braces
 

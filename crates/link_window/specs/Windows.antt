@@ -9,6 +9,7 @@ use Rattle.written.specs.Said.{QuestionPlace}
 use Rattle.written.specs.Linking.{Nth}
 use Rattle.written.specs.Walks.{isYes}
 use Rattle.laws.specs.Steps.{Ending, doneAt, brokenAt, Reading}
+use Rattle.error.specs.declared.LinkFault.the-variants.{NodeRef, QuestionRef, LoneNode}
 use Rattle.tree_reference.specs.declared.TreeIndex.{TreeIndex}
 use Rattle.tree_reference.specs.declared.TreeIndex.the-variants.{Node, Pdf}
 use Rattle.tree_line.specs.Lines.{linesAt}
@@ -23,7 +24,7 @@ use Rattle.link_alone.specs.Alone.{nowhere, targetIn, singleIn}
 use Rattle.link_alone.specs.declared.Single.{Single}
 use Rattle.link_alone.specs.declared.Single.the-variants.{One, Several}
 use Rattle.link_window.specs.declared.Linking.{Linking}
-use Rattle.link_window.specs.declared.Linking.the-variants.{Whole, NodeRef, QuestionRef, LoneNode}
+use Rattle.link_window.specs.declared.Linking.the-variants.{Whole, Refused}
 use Rattle.link_window.specs.declared.Filled.{Filled}
 use Rattle.link_window.specs.declared.Filled.the-variants.{More, All}
 use Rattle.link_window.specs.declared.Window.{Window}
@@ -97,14 +98,14 @@ pub data Windowed (s : List ℕ) (qs : List QuestionPlace) (i : ℕ) : Window �
 
 -- the fault of the lower line; on one line a reference comes before the question
 abbrev pub faultLines : Found → Found → Linking
-faultLines (At a) (At b) = cond (ltb b a) (QuestionRef b) (NodeRef a)
-faultLines (At a) Nothing = NodeRef a
-faultLines Nothing (At b) = QuestionRef b
+faultLines (At a) (At b) = cond (ltb b a) (Refused QuestionRef b) (Refused NodeRef a)
+faultLines (At a) Nothing = Refused NodeRef a
+faultLines Nothing (At b) = Refused QuestionRef b
 faultLines Nothing Nothing = Whole
 
 abbrev pub faultAlone : TreeIndex → Linking
 faultAlone (Pdf x) = Whole
-faultAlone (Node x) = LoneNode
+faultAlone (Node x) = Refused LoneNode 0
 
 abbrev pub faultSingle : List ℕ → List QuestionPlace → List Line → Single → Linking
 faultSingle s qs ls (One x) = faultAlone x

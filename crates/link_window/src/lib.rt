@@ -1,6 +1,7 @@
 // The linking of one tree by reading its text, without tables or work, and quickly: the first line with a fault (01, 'Linking and tables'; 02, Wish 12).
 // A question is looked for in the text for 32 lines at a time, their names' places on the stack: reading the questions once for each line would take lines times
 // questions. Every function takes any bytes and any place, also one past the end. A place is an index into the slice; the questions are those of the text that begins at `at`.
+use error::LinkFault;
 use link_alone::Single;
 use link_alone::is_nowhere;
 use link_alone::single_of;
@@ -33,6 +34,7 @@ ghost use Rattle.tree_question.specs.Questions.{questionStepAt, questionsAt};
 ghost use Rattle.tree_body.specs.Trees.{headAt};
 ghost use Rattle.text_parts.specs.Parts.{partInside};
 ghost use Rattle.link_find.specs.Find.{Lines};
+ghost use Rattle.link_window.specs.declared.Linking.the-variants.{Refused};
 ghost use Rattle.link_window.specs.Windows.{nameIn, heard, Marked, FirstOf, Filling, Windowed, unheard, strays, firstFrom, faultAlone, faultLines, faultBraces, faultHead};
 
 // How many lines are looked up at a time.
@@ -41,9 +43,7 @@ const WINDOW: usize = 32;
 // Whether a tree links, or at which line it doesn't.
 pub enum Linking {
     Whole,
-    NodeRef(usize),
-    QuestionRef(usize),
-    LoneNode,
+    Refused { fault: LinkFault, line: usize },
 }
 
 // Whether more lines follow those whose names were taken, or how many were taken in all.
@@ -273,6 +273,15 @@ pub fn first_astray(s: &[u8], first: usize, n: u64, in_order: bool) -> Found
     }
 }
 
+fn refused(fault: LinkFault, line: u64) -> Linking
+    ensures { λ r. ⌜ r ≡ Refused fault line ⌝ }
+{
+    Linking::Refused {
+        fault,
+        line: line as usize,
+    }
+}
+
 // The fault of the lower line; on one line a reference comes before the question.
 fn lower(astray: Found, unasked: Found) -> Linking
     ensures { λ r. ⌜ r ≡ faultLines astray unasked ⌝ }
@@ -281,15 +290,15 @@ fn lower(astray: Found, unasked: Found) -> Linking
         Found::At(a) => match unasked {
             Found::At(b) => {
                 if b < a {
-                    Linking::QuestionRef(b as usize)
+                    refused(LinkFault::QuestionRef, b)
                 } else {
-                    Linking::NodeRef(a as usize)
+                    refused(LinkFault::NodeRef, a)
                 }
             }
-            Found::Nothing => Linking::NodeRef(a as usize),
+            Found::Nothing => refused(LinkFault::NodeRef, a),
         },
         Found::Nothing => match unasked {
-            Found::At(b) => Linking::QuestionRef(b as usize),
+            Found::At(b) => refused(LinkFault::QuestionRef, b),
             Found::Nothing => Linking::Whole,
         },
     }
@@ -303,7 +312,7 @@ fn link_alone(index: TreeIndex) -> Linking
 {
     match index {
         TreeIndex::Pdf(_) => Linking::Whole,
-        TreeIndex::Node(_) => Linking::LoneNode,
+        TreeIndex::Node(_) => refused(LinkFault::LoneNode, 0),
     }
 }
 

@@ -69,9 +69,7 @@ pub record BlockRoom (s : List ℕ) (p : Plan) (trees values : ℕ) : Type 0 whe
 
 abbrev pub answerFor : Plan → Linked → Loaded
 answerFor p linked.Done = Done (p .questions) (p .patterns) (p .trees) (p .records) (p .entries * p .width)
-answerFor p (linked.NodeRef i k) = Refused (refusal.NodeRef i k)
-answerFor p (linked.QuestionRef i k) = Refused (refusal.QuestionRef i k)
-answerFor p (linked.LoneNode i) = Refused (refusal.LoneNode i 0)
+answerFor p (linked.Refused f i k) = Refused (refusal.Unlinked f i k)
 
 -- ---- what was lent
 

@@ -54,9 +54,9 @@ pub fn answer(p: Plan, linked: Linked) -> Loaded
             records: p.records,
             values: p.entries * p.width,
         },
-        Linked::NodeRef { tree, line } => Loaded::Refused(Refusal::NodeRef { tree, line }),
-        Linked::QuestionRef { tree, line } => Loaded::Refused(Refusal::QuestionRef { tree, line }),
-        Linked::LoneNode { tree } => Loaded::Refused(Refusal::LoneNode { tree, line: 0 }),
+        Linked::Refused { fault, tree, line } => {
+            Loaded::Refused(Refusal::Unlinked { fault, tree, line })
+        }
     }
 }
 

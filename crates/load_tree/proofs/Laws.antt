@@ -218,8 +218,7 @@ module _ (s questions : List ℕ) (nq : ℕ) where
     where
       go : (o : Link) → linkOutcome w n ≡ o → linkEnds n m o ≡ filled.Done a b → (a ≡ m) × (length (rowsAfter o (linkedRows w n) (4 * m)) ≡ 4 * a)
       go link.Done q h = let u : m ≡ a = cc in (sym u, omega (arith, length-linked w n q))
-      go (link.NodeRef k) q h = let u : _≡_ {A = ℕ} 0 1 = cc in absurd (omega arith)
-      go (link.QuestionRef k) q h = let u : _≡_ {A = ℕ} 0 1 = cc in absurd (omega arith)
+      go (link.Refused f k) q h = let u : _≡_ {A = ℕ} 0 1 = cc in absurd (omega arith)
 
   leaf-size : (r : TreeIndex) {a b : ℕ} → leafResult r .ends ≡ filled.Done a b → (a ≡ 1) × (length (leafResult r .rows) ≡ 4 * a)
   leaf-size (Pdf x) {a} h = let u : 1 ≡ a = cc in (sym u, omega arith)

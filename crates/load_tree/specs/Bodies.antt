@@ -7,6 +7,7 @@ use lib.IntN.{ℤ}
 use lib.ListN.{length, replicate}
 use lib.Seq.{sets}
 use Rattle.laws.specs.Steps.{Ending, doneAt, brokenAt}
+use Rattle.error.specs.declared.LinkFault.the-variants.{LoneNode}
 use Rattle.tree_reference.specs.References.{sameIndex}
 use Rattle.tree_reference.specs.declared.TreeIndex.{TreeIndex}
 use Rattle.tree_reference.specs.declared.TreeIndex.the-variants.{Node, Pdf}
@@ -23,7 +24,7 @@ use Rattle.load_tree.specs.declared.Single.{Single}
 use Rattle.load_tree.specs.declared.Single.the-variants.{One, Several}
 use Rattle.load_tree.specs.declared.Filled.{Filled}
 use Rattle.load_tree.specs.declared.TreeFill.{TreeFill}
-use Rattle.load_tree.specs.declared.Filled.the-variants.{Done, NodeRef, QuestionRef, LoneNode}
+use Rattle.load_tree.specs.declared.Filled.the-variants.{Done, Refused}
 
 -- how a tree ends, and the numbers that stand in its part of the records
 pub record Result : Type 0 where
@@ -33,13 +34,12 @@ pub record Result : Type 0 where
 -- a tree that is one reference: with a PDF a bare leaf, with a node refused
 abbrev pub leafResult : TreeIndex → Result
 leafResult (Pdf x) = record { ends = Done 1 0; rows = 1 ∷ natOf x ∷ 0 ∷ 0 ∷ [] }
-leafResult (Node x) = record { ends = LoneNode; rows = [] }
+leafResult (Node x) = record { ends = Refused LoneNode 0; rows = [] }
 
 -- n lines that need m records, linked
 abbrev pub linkEnds : ℕ → ℕ → Link → Filled
 linkEnds n m link.Done = Done m n
-linkEnds n m (link.NodeRef k) = NodeRef k
-linkEnds n m (link.QuestionRef k) = QuestionRef k
+linkEnds n m (link.Refused f k) = Refused f k
 
 unfoldable pub linkResult : List ℤ → ℕ → ℕ → Result
 linkResult w n m = record { ends = linkEnds n m (linkOutcome w n); rows = rowsAfter (linkOutcome w n) (linkedRows w n) (4 * m) }

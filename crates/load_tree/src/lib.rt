@@ -1,5 +1,6 @@
 // After model/mod.rs, `convert_tree`: the records of one tree of the text, into its part of the record table (01, 'Linking and tables').
 // A lone reference, or one braced line with equal references, is a bare leaf if it is a PDF.
+use error::LinkFault;
 use link_tree::Link;
 use link_tree::link_tree;
 use load_lines::fill_lines;
@@ -28,9 +29,7 @@ ghost use Rattle.load_tree.specs.Bodies.{leafResult, linkResult, linesEn
 // How a tree ends: with so many records, and the lines of its row; or refused, at a line.
 pub enum Filled {
     Done { records: usize, lines: usize },
-    NodeRef(usize),
-    QuestionRef(usize),
-    LoneNode,
+    Refused { fault: LinkFault, line: usize },
 }
 
 // How a tree ends, and the place past its body.
@@ -52,7 +51,10 @@ pub fn fill_leaf(records: &mut [u64], first: usize, index: TreeIndex) -> Filled
                 lines: 0,
             }
         }
-        TreeIndex::Node(_) => Filled::LoneNode,
+        TreeIndex::Node(_) => Filled::Refused {
+            fault: LinkFault::LoneNode,
+            line: 0,
+        },
     }
 }
 
@@ -105,8 +107,7 @@ fn link_lines(
             records: needed,
             lines,
         },
-        Link::NodeRef(line) => Filled::NodeRef(line),
-        Link::QuestionRef(line) => Filled::QuestionRef(line),
+        Link::Refused { fault, line } => Filled::Refused { fault, line },
     }
 }
 
@@ -138,7 +139,10 @@ pub fn fill_braces(
         },
         // never, of lines that can be read
         LineCount::Broken => TreeFill {
-            filled: Filled::LoneNode,
+            filled: Filled::Refused {
+                fault: LinkFault::LoneNode,
+                line: 0,
+            },
             next: at,
         },
     }

@@ -15,6 +15,7 @@ use Rattle.laws.proofs.Tables.{sets-append}
 use Rattle.tree_line.specs.Lines.{linesAt}
 use Rattle.tree_body.specs.Trees.{Body, lone, braces, Tree, headAt, afterTree, treeFollowed, treeRead, treeHeaded, treeStepAt, treesAt}
 use Rattle.tree_body.specs.declared.TreeHead.{TreeHead}
+use Rattle.error.specs.declared.LinkFault.{LinkFault}
 use Rattle.tree_body.specs.declared.TreeHead.the-variants as head
 use Rattle.tree_body.specs.declared.TreeStep.{TreeStep}
 use Rattle.tree_body.specs.declared.TreeStep.the-variants as after
@@ -29,7 +30,7 @@ use Rattle.load_tree.specs.declared.Filled.the-variants as filled
 use Rattle.load_tree.specs.declared.TreeFill.{TreeFill}
 use Rattle.load_tree.proofs.Laws.{lines-size, lone-size}
 use Rattle.load_trees.specs.declared.Linked.{Linked}
-use Rattle.load_trees.specs.declared.Linked.the-variants.{Done, NodeRef, QuestionRef, LoneNode}
+use Rattle.load_trees.specs.declared.Linked.the-variants.{Done, Refused}
 use Rattle.load_trees.specs.declared.Following.{Following}
 use Rattle.load_trees.specs.declared.Following.the-variants as following
 use Rattle.load_trees.specs.Trees.{headState, headBody, headEnd, Whole, Through, leaf, empty, lines, rowWords, workOf, endedAt, followsStep, followsAt, thenRest, treesEnd, treeWords, recordWords, workAfter, TreeFilled, TreesFilled}
@@ -320,14 +321,8 @@ module _ (s : List ℕ) where
                 work-is ∙ sym d ∙ ap (λ (f : Filled). thenRest f (workOf s q n work B) (λ m. workAfter s q n (workOf s q n work B) (w .rest))) h ∙ sym (ap (workAfter s q n work) (w .all)) ∙ p .left,
               )
 
-          refused-node : {k : ℕ} → r ≡ filled.NodeRef k → Ended (endedAt row r) trees₁ records₁ work₁
-          refused-node {k} h = closing (filled.NodeRef k) (sym h ∙ ends-are) refl refl refl refl (sym h)
-
-          refused-question : {k : ℕ} → r ≡ filled.QuestionRef k → Ended (endedAt row r) trees₁ records₁ work₁
-          refused-question {k} h = closing (filled.QuestionRef k) (sym h ∙ ends-are) refl refl refl refl (sym h)
-
-          refused-lone : r ≡ filled.LoneNode → Ended (endedAt row r) trees₁ records₁ work₁
-          refused-lone h = closing filled.LoneNode (sym h ∙ ends-are) refl refl refl refl (sym h)
+          refused : {g : LinkFault} {k : ℕ} → r ≡ filled.Refused g k → Ended (endedAt row r) trees₁ records₁ work₁
+          refused {g} {k} h = closing (filled.Refused g k) (sym h ∙ ends-are) refl refl refl refl (sym h)
 
           -- the last tree has its records
           closed-last : {a k : ℕ} → after.End ≡ afterTree s (t .next) → r ≡ filled.Done a k → Ended (endedAt row r) trees₁ records₁ work₁
@@ -363,9 +358,7 @@ module _ (s : List ℕ) where
 
               go : (y : Filled) → r ≡ y → following.Tree j a ≡ followsAt s row (t .next) r → Filling trees₁ records₁ work₁ j (row + 1) (first + a) × (i < j) × (j ≤ length s)
               go (filled.Done b k) d h = step k b d (afterTree s (t .next)) refl (h ∙ ap (followsAt s row (t .next)) d)
-              go (filled.NodeRef k) d h = let v = h ∙ ap (followsAt s row (t .next)) d in let z : _≡_ {A = ℕ} 0 1 = cc in absurd (omega arith)
-              go (filled.QuestionRef k) d h = let v = h ∙ ap (followsAt s row (t .next)) d in let z : _≡_ {A = ℕ} 0 1 = cc in absurd (omega arith)
-              go filled.LoneNode d h = let v = h ∙ ap (followsAt s row (t .next)) d in let z : _≡_ {A = ℕ} 0 1 = cc in absurd (omega arith)
+              go (filled.Refused b k) d h = let v = h ∙ ap (followsAt s row (t .next)) d in let z : _≡_ {A = ℕ} 0 1 = cc in absurd (omega arith)
 
           -- linking ends
           pub filling-ends : {o : Linked} {x : Following} → x ≡ followsAt s row (t .next) r → x ≡ following.End o → Ended o trees₁ records₁ work₁
@@ -381,6 +374,4 @@ module _ (s : List ℕ) where
 
               go : (y : Filled) → r ≡ y → following.End o ≡ followsAt s row (t .next) r → Ended o trees₁ records₁ work₁
               go (filled.Done b k) d h = step k b d (afterTree s (t .next)) refl (h ∙ ap (followsAt s row (t .next)) d)
-              go (filled.NodeRef k) d h = let v = h ∙ ap (followsAt s row (t .next)) d in let z : o ≡ NodeRef row k = cc in ends-so (z ∙ sym (ap (endedAt row) d)) (refused-node d)
-              go (filled.QuestionRef k) d h = let v = h ∙ ap (followsAt s row (t .next)) d in let z : o ≡ QuestionRef row k = cc in ends-so (z ∙ sym (ap (endedAt row) d)) (refused-question d)
-              go filled.LoneNode d h = let v = h ∙ ap (followsAt s row (t .next)) d in let z : o ≡ LoneNode row = cc in ends-so (z ∙ sym (ap (endedAt row) d)) (refused-lone d)
+              go (filled.Refused b k) d h = let v = h ∙ ap (followsAt s row (t .next)) d in let z : o ≡ Refused b row k = cc in ends-so (z ∙ sym (ap (endedAt row) d)) (refused d)

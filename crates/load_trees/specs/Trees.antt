@@ -22,15 +22,13 @@ use Rattle.load_tree.specs.declared.Filled.{Filled}
 use Rattle.load_tree.specs.declared.Filled.the-variants as filled
 use Rattle.load_tree.specs.declared.TreeFill.{TreeFill}
 use Rattle.load_trees.specs.declared.Linked.{Linked}
-use Rattle.load_trees.specs.declared.Linked.the-variants.{Done, NodeRef, QuestionRef, LoneNode}
+use Rattle.load_trees.specs.declared.Linked.the-variants.{Done, Refused}
 use Rattle.load_trees.specs.declared.Following.{Following}
 use Rattle.load_trees.specs.declared.Following.the-variants as following
 
 abbrev pub allLinked : Linked → Bool
 allLinked Done = true
-allLinked (NodeRef i k) = false
-allLinked (QuestionRef i k) = false
-allLinked (LoneNode i) = false
+allLinked (Refused f i k) = false
 
 -- ---- a tree by its head
 
@@ -69,9 +67,7 @@ pub record Through (s : List ℕ) (i : ℕ) : Type 0 where
 -- its row, where f is its first record; none where it is refused
 abbrev pub rowWords : ℕ → ℕ → Filled → List ℕ
 rowWords x f (filled.Done m n) = x ∷ f ∷ m ∷ n ∷ 0 ∷ 0 ∷ []
-rowWords x f (filled.NodeRef k) = []
-rowWords x f (filled.QuestionRef k) = []
-rowWords x f filled.LoneNode = []
+rowWords x f (filled.Refused g k) = []
 
 -- the work after it
 abbrev pub workOf : List ℕ → List ℕ → ℕ → List ℤ → Body → List ℤ
@@ -80,9 +76,7 @@ workOf s questions n w (braces ls) = sets w 0 (lineWords s questions n ls)
 
 abbrev pub endedAt : ℕ → Filled → Linked
 endedAt k (filled.Done m n) = Done
-endedAt k (filled.NodeRef j) = NodeRef k j
-endedAt k (filled.QuestionRef j) = QuestionRef k j
-endedAt k filled.LoneNode = LoneNode k
+endedAt k (filled.Refused f j) = Refused f k j
 
 -- what follows tree k, which has m records; and which ended so before the place e
 abbrev pub followsStep : ℕ → TreeStep → Following
@@ -92,18 +86,14 @@ followsStep m (after.Broken j) = following.End Done
 
 abbrev pub followsAt : List ℕ → ℕ → ℕ → Filled → Following
 followsAt s k e (filled.Done m n) = followsStep m (afterTree s e)
-followsAt s k e (filled.NodeRef j) = following.End (NodeRef k j)
-followsAt s k e (filled.QuestionRef j) = following.End (QuestionRef k j)
-followsAt s k e filled.LoneNode = following.End (LoneNode k)
+followsAt s k e (filled.Refused f j) = following.End (Refused f k j)
 
 -- ---- one tree after another; a tree that is refused is the last
 
 -- what one tree gives, and where it has records what the others give behind it
 abbrev pub thenRest : {A : Type 0} → Filled → A → (ℕ → A) → A
 thenRest (filled.Done m n) a rest = rest m
-thenRest (filled.NodeRef k) a rest = a
-thenRest (filled.QuestionRef k) a rest = a
-thenRest filled.LoneNode a rest = a
+thenRest (filled.Refused f k) a rest = a
 
 module _ (s questions : List ℕ) (n : ℕ) where
   -- of the n questions of the table

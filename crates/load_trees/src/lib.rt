@@ -2,6 +2,7 @@
 // (01, 'Linking and tables'). The first tree that linking refuses ends it. The text is known to be in the grammar, so that no tree is surveyed once more
 // before it is filled.
 //
+use error::LinkFault;
 use load_tree::Filled;
 use load_tree::TreeFill;
 use load_tree::fill_braces;
@@ -27,9 +28,11 @@ ghost use Rattle.load_trees.specs.Trees.{allLinked, headState, headBody,
 // How linking ends: all trees have their records; or the first that is refused, and the line.
 pub enum Linked {
     Done,
-    NodeRef { tree: usize, line: usize },
-    QuestionRef { tree: usize, line: usize },
-    LoneNode { tree: usize },
+    Refused {
+        fault: LinkFault,
+        tree: usize,
+        line: usize,
+    },
 }
 
 // What follows a tree that was filled: another tree, where this one has so many records; or linking ends.
@@ -44,9 +47,11 @@ pub fn all_linked(linked: Linked) -> bool
 {
     match linked {
         Linked::Done => true,
-        Linked::NodeRef { tree: _, line: _ } => false,
-        Linked::QuestionRef { tree: _, line: _ } => false,
-        Linked::LoneNode { tree: _ } => false,
+        Linked::Refused {
+            fault: _,
+            tree: _,
+            line: _,
+        } => false,
     }
 }
 
@@ -126,9 +131,7 @@ fn put_row(trees: &mut [u64], row: usize, state: u64, first: usize, filled: Fill
                 lines as u64,
             );
         }
-        Filled::NodeRef(_) => {}
-        Filled::QuestionRef(_) => {}
-        Filled::LoneNode => {}
+        Filled::Refused { fault: _, line: _ } => {}
     }
 }
 
@@ -166,9 +169,11 @@ pub fn ended(row: usize, filled: Filled) -> Linked
             records: _,
             lines: _,
         } => Linked::Done,
-        Filled::NodeRef(line) => Linked::NodeRef { tree: row, line },
-        Filled::QuestionRef(line) => Linked::QuestionRef { tree: row, line },
-        Filled::LoneNode => Linked::LoneNode { tree: row },
+        Filled::Refused { fault, line } => Linked::Refused {
+            fault,
+            tree: row,
+            line,
+        },
     }
 }
 
@@ -183,9 +188,7 @@ fn what_follows(s: &[u8], row: usize, filled: Filled, next: usize) -> Following
             // never, of a text in the grammar
             TreeStep::Broken(_) => Following::End(Linked::Done),
         },
-        Filled::NodeRef(_) => Following::End(ended(row, filled)),
-        Filled::QuestionRef(_) => Following::End(ended(row, filled)),
-        Filled::LoneNode => Following::End(ended(row, filled)),
+        Filled::Refused { fault: _, line: _ } => Following::End(ended(row, filled)),
     }
 }
 

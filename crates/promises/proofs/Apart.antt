@@ -13,6 +13,7 @@ use borrow.Author.Tests.{leb-true}
 use Rattle.laws.proofs.Tables.{sets-at}
 use Rattle.written.specs.Sharing.{Side, opposite, Table, questions, patterns, trees, records, values, Tables, Held, nothing, seen, Stand, holds, stands, roomBeside}
 use Rattle.error.specs.Numbers.{numberOf}
+use Rattle.error.specs.declared.LinkFault.the-variants as fault
 use Rattle.error.specs.declared.Refusal.{Refusal}
 use Rattle.error.specs.declared.Refusal.the-variants as refusal
 use Rattle.load_model.specs.Load.{Tables as Lent}
@@ -55,9 +56,9 @@ never-zero (refusal.Text p) = refl
 never-zero refusal.State = refl
 never-zero refusal.Block = refl
 never-zero refusal.Room = refl
-never-zero (refusal.NodeRef t k) = refl
-never-zero (refusal.QuestionRef t k) = refl
-never-zero (refusal.LoneNode t k) = refl
+never-zero (refusal.Unlinked fault.NodeRef t k) = refl
+never-zero (refusal.Unlinked fault.QuestionRef t k) = refl
+never-zero (refusal.Unlinked fault.LoneNode t k) = refl
 never-zero refusal.WalkTable = refl
 never-zero refusal.Steps = refl
 never-zero refusal.NoTrailer = refl

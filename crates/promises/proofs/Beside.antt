@@ -59,7 +59,7 @@ use Rattle.shown_words.proofs.Shaped.{record-back}
 use Rattle.shown_text.proofs.Text.{text-questions, text-patterns}
 use Rattle.shown_load.specs.Stored.{Stored}
 use Rattle.shown_load.proofs.Says.{S-short, load-stored, load-unlinked}
-use Rattle.shown_load.proofs.Numbers.{demand₁}
+use Rattle.shown_load.proofs.Numbers.{fault-between, demand₁}
 use Rattle.shown_models.proofs.Chosen.{whichOf}
 use Rattle.shown_apart.proofs.Fills.{sets-all, question-words, pattern-words}
 use Rattle.promises.specs.Opening.{recordWords}
@@ -123,9 +123,7 @@ module _ {s : List ℕ} {h : record-of.Header} {m : models.Model} {p : Plan} (k 
 -- what linking refuses is above 20
 above : (p : Plan) (o : Linked) {y : Refusal} → answerFor p o ≡ ending.Refused y → 20 < numberOf y
 above p linked.Done e = clash (cc)
-above p (linked.NodeRef i k) {y} e = let u : refusal.NodeRef i k ≡ y = cc in subst (λ (z : Refusal). 20 < numberOf z) u (omega arith)
-above p (linked.QuestionRef i k) {y} e = let u : refusal.QuestionRef i k ≡ y = cc in subst (λ (z : Refusal). 20 < numberOf z) u (omega arith)
-above p (linked.LoneNode i) {y} e = let u : refusal.LoneNode i 0 ≡ y = cc in subst (λ (z : Refusal). 20 < numberOf z) u (omega arith)
+above p (linked.Refused g i k) {y} e = let u : refusal.Unlinked g i k ≡ y = cc in subst (λ (z : Refusal). 20 < numberOf z) u (fault-between g .0)
 
 module _ {s : List ℕ} (bytes : Bytes s) {h : record-of.Header} (says : record-of.Says s h) (m : models.Model) (x : Side) (other : Held) (t : Lent) where
   abbrev pub L : After

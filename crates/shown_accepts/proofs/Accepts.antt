@@ -30,14 +30,14 @@ use Rattle.tree_survey.proofs.Said.{said-negative, negative-said}
 use Rattle.link_find.specs.Find.{starOf}
 use Rattle.link_alone.specs.Alone.{judgedHead}
 use Rattle.link_alone.specs.declared.Judged.{Judged}
-use Rattle.link_alone.specs.declared.Judged.the-variants.{Told, NodeRef, QuestionRef, LoneNode}
+use Rattle.link_alone.specs.declared.Judged.the-variants.{Told}
 use Rattle.walk_accepts.specs.Accepting.{foundTree, inText, surveyed, chosenTree, acceptedOf, acceptsAt, acceptsOf, acceptsTold}
 use Rattle.walk_accepts.specs.declared.Choice.{Choice}
 use Rattle.walk_accepts.specs.declared.Choice.the-variants as choice
 use Rattle.walk_accepts.specs.declared.Accepted.{Accepted}
 use Rattle.shown_breaks.proofs.Place.{broken-breaks}
 use Rattle.shown_text.proofs.Text.{says-begins}
-use Rattle.shown_accepts.proofs.Verdicts.{Verdict, fits, other, node-ref, question-ref, lone-node}
+use Rattle.shown_accepts.proofs.Verdicts.{Verdict, fits, other, refused}
 use Rattle.shown_accepts.proofs.Texts.{Reads, tree-judged, tree-missing}
 use Rattle.shown_accepts.proofs.Lines.{QuestionSaid}
 
@@ -93,9 +93,7 @@ told-in : (s : List ℕ) (t : ℕ) (R : List ℕ) {x : Text} {e : said.Tree} {j 
     → (let r = acceptsTold (acceptedOf t j) in Accepts x (recordTable R) t (r .number) (r .place) (r .line))
 told-in s t R w h (fits r l) = Accepts.accepted w h r l
 told-in s t R w h (other r l) = Accepts.other w h r l
-told-in s t R w h (node-ref f) = Accepts.unlinked w h f
-told-in s t R w h (question-ref f) = Accepts.unlinked w h f
-told-in s t R w h (lone-node f) = Accepts.unlinked w h f
+told-in s t R w h (refused f) = Accepts.unlinked w h f
 
 -- what is answered is what `written` says of the text, the tree and the rows
 pub accepts-said : (s : List ℕ) (t : ℕ) (R : List ℕ) → (let r = acceptsTold (acceptsOf s t R) in AcceptsIn s 0 (recordTable R) t (r .number) (r .place) (r .line))

@@ -10,11 +10,13 @@ use Rattle.written.specs.Linking.{Nth, here, there, Fault}
 use Rattle.written.proofs.Walk.{no-row}
 use Rattle.laws.proofs.Every.{both, first-of, second-of}
 use Rattle.tree_line.specs.declared.Line as code
+use Rattle.error.specs.Numbers.{faultNumber}
+use Rattle.error.specs.declared.LinkFault.{LinkFault}
 use Rattle.link_alone.specs.Alone.{linkIn, rowFits, judgedLine, onward, judgedLines}
 use Rattle.link_alone.specs.declared.LineLink.{LineLink}
 use Rattle.link_alone.specs.declared.Judged.{Judged}
-use Rattle.link_alone.specs.declared.Judged.the-variants.{Told, NodeRef, QuestionRef, LoneNode}
-use Rattle.shown_accepts.proofs.Lines.{LineSaid, QuestionSaid, Links, goes, no-line, no-question, line-links, no-fault}
+use Rattle.link_alone.specs.declared.Judged.the-variants.{Told, Refused}
+use Rattle.shown_accepts.proofs.Lines.{LineSaid, QuestionSaid, Links, goes, fails, line-links, no-fault}
 use Rattle.shown_accepts.proofs.Rows.{Fits, fits-row, row-fits}
 
 module _ (R s : List ℕ) {qs : List Question} {ps : List QuestionPlace} (asks : Forall₂ (QuestionSaid s) qs ps) {ls : List said.Line} {cs : List code.Line} (lines : Forall₂ (LineSaid s) ls cs) where
@@ -30,8 +32,7 @@ module _ (R s : List ℕ) {qs : List Question} {ps : List QuestionPlace} (asks :
     told : {c : Bool} → ((m : ℕ) (l : said.Line) (n : ℕ) → Nth rest m l → ¬ Fault qs ls l n)
         → (c ≡ true → (b ≡ true) × ((m : ℕ) (l : said.Line) → Nth rest m l → Fit l (k + m)))
         → (b ≡ true → ((m : ℕ) (l : said.Line) → Nth rest m l → Fit l (k + m)) → c ≡ true) → Judges rest k b (Told c)
-    node-at : {m : ℕ} {l : said.Line} → Nth rest m l → Fault qs ls l 21 → Clean rest m → Judges rest k b (NodeRef (k + m))
-    question-at : {m : ℕ} {l : said.Line} → Nth rest m l → Fault qs ls l 22 → Clean rest m → Judges rest k b (QuestionRef (k + m))
+    fault-at : {g : LinkFault} {m : ℕ} {l : said.Line} → Nth rest m l → Fault qs ls l (faultNumber g) → Clean rest m → Judges rest k b (Refused g (k + m))
 
   -- one line more in front, which has no fault and fits where f says so
   module _ {l : said.Line} {rest : List said.Line} {k : ℕ} {f : Bool} (clean : (n : ℕ) → ¬ Fault qs ls l n) (to : f ≡ true → Fit l k) (from : Fit l k → f ≡ true) where
@@ -53,8 +54,7 @@ module _ (R s : List ℕ) {qs : List Question} {ps : List QuestionPlace} (asks :
         (λ h. let w = p h in (first-of b f (w .0), λ m e o. each (to (second-of b f (w .0))) (w .1) o))
         (λ h w. let y : k + 0 ≡ k = omega arith in
         q (both h (from (subst (Fit l) y (w 0 l here)))) (λ m e o. let z : k + suc m ≡ suc k + m = omega arith in subst (Fit e) z (w (suc m) e (there o))))
-    in-front {b} (node-at {m = m} h t g) = let z : k + suc m ≡ suc k + m = omega arith in subst (λ (i : ℕ). Judges (l ∷ rest) k b (NodeRef i)) z (node-at (there h) t (clean-on g))
-    in-front {b} (question-at {m = m} h t g) = let z : k + suc m ≡ suc k + m = omega arith in subst (λ (i : ℕ). Judges (l ∷ rest) k b (QuestionRef i)) z (question-at (there h) t (clean-on g))
+    in-front {b} (fault-at {g = g} {m = m} h t w) = let z : k + suc m ≡ suc k + m = omega arith in subst (λ (i : ℕ). Judges (l ∷ rest) k b (Refused g i)) z (fault-at (there h) t (clean-on w))
 
   pub judges : {rest : List said.Line} {crest : List code.Line} → Forall₂ (LineSaid s) rest crest → (k : ℕ) (b : Bool) → Judges rest k b (judgedLines s ps cs R k b crest)
   unfolding judgedLines
@@ -65,5 +65,4 @@ module _ (R s : List ℕ) {qs : List Question} {ps : List QuestionPlace} (asks :
           → Judges (l ∷ rest) k b (onward (λ x. judgedLines s ps cs R (suc k) (b && x) crest) (judgedLine R k a))
       go (goes {q = q} {y = y} {n = n} u v e w g) f =
           in-front (λ m. no-fault s asks lines u v e w g) (fits-row R s asks lines k u v w) (row-fits R s asks lines k u v w) (f (rowFits R k q y n))
-      go (no-line d) f = let z : k + 0 ≡ k = omega arith in subst (λ (i : ℕ). Judges (l ∷ rest) k b (NodeRef i)) z (node-at here d (λ j e n i o. absurd (omega arith)))
-      go (no-question d) f = let z : k + 0 ≡ k = omega arith in subst (λ (i : ℕ). Judges (l ∷ rest) k b (QuestionRef i)) z (question-at here d (λ j e n i o. absurd (omega arith)))
+      go (fails {g = g} d) f = let z : k + 0 ≡ k = omega arith in subst (λ (i : ℕ). Judges (l ∷ rest) k b (Refused g i)) z (fault-at here d (λ j e n i o. absurd (omega arith)))

@@ -23,6 +23,9 @@ use Rattle.link_search.specs.declared.Found.{Found}
 use Rattle.link_search.specs.declared.Found.the-variants.{At, Nothing}
 use Rattle.link_search.proofs.Ids.{same-id, same-true, true-same}
 use Rattle.link_find.specs.Find as find
+use Rattle.error.specs.Numbers.{faultNumber}
+use Rattle.error.specs.declared.LinkFault.{LinkFault}
+use Rattle.error.specs.declared.LinkFault.the-variants.{NodeRef, QuestionRef}
 use Rattle.link_alone.specs.Alone.{nowhere, toLine, targetIn, linkAsked, linkOf, linkIn}
 use Rattle.link_alone.specs.declared.Target.{Target}
 use Rattle.link_alone.specs.declared.Target.the-variants.{Line, Leaf, Nowhere}
@@ -146,8 +149,7 @@ module _ (s : List ℕ) where
     -- what is wrong with a line, or where it goes
     pub data Links (l : said.Line) : LineLink → Type 0 where
       goes : {q : ℕ} {y n : Target} → LastQuestion qs (l .question) q → Leads (l .yes) y → nowhere y ≡ false → Leads (l .no) n → nowhere n ≡ false → Links l (link.Goes q y n)
-      no-line : Fault qs ls l 21 → Links l link.NodeRef
-      no-question : Fault qs ls l 22 → Links l link.QuestionRef
+      fails : {g : LinkFault} → Fault qs ls l (faultNumber g) → Links l (link.Fails g)
 
     pub line-links : {l : said.Line} {c : code.Line} → LineSaid l c → Links l (linkIn s ps cs c)
     unfolding linkIn linkOf
@@ -158,17 +160,17 @@ module _ (s : List ℕ) where
       where
         by-asked : {y n : Target} {f : Found} → Leads (l .yes) y → nowhere y ≡ false → Leads (l .no) n → nowhere n ≡ false → Asks (l .question) f → Links l (linkAsked y n f)
         by-asked a e b g (of-row q) = goes q a e b g
-        by-asked a e b g (of-none n) = no-question (not-asked (declared a e) (declared b g) n)
+        by-asked a e b g (of-none n) = fails {g = QuestionRef} (not-asked (declared a e) (declared b g) n)
 
         go : (y : Target) → Leads (l .yes) y → (u : Bool) → nowhere y ≡ u → (n : Target) → Leads (l .no) n → (v : Bool) → nowhere n ≡ v → {f : Found} → Asks (l .question) f
-            → Links l (cond (nowhere y) link.NodeRef (cond (nowhere n) link.NodeRef (linkAsked y n f)))
-        go y a true e n b v g {f} q = subst (λ (x : Bool). Links l (cond x link.NodeRef (cond (nowhere n) link.NodeRef (linkAsked y n f)))) (sym e) (no-line (yes-undeclared (undeclared a e)))
+            → Links l (cond (nowhere y) (link.Fails NodeRef) (cond (nowhere n) (link.Fails NodeRef) (linkAsked y n f)))
+        go y a true e n b v g {f} q = subst (λ (x : Bool). Links l (cond x (link.Fails NodeRef) (cond (nowhere n) (link.Fails NodeRef) (linkAsked y n f)))) (sym e) (fails {g = NodeRef} (yes-undeclared (undeclared a e)))
         go y a false e n b true g {f} q =
-            subst (λ (x : Bool). Links l (cond x link.NodeRef (cond (nowhere n) link.NodeRef (linkAsked y n f)))) (sym e)
-            (subst (λ (x : Bool). Links l (cond x link.NodeRef (linkAsked y n f))) (sym g) (no-line (no-undeclared (declared a e) (undeclared b g))))
+            subst (λ (x : Bool). Links l (cond x (link.Fails NodeRef) (cond (nowhere n) (link.Fails NodeRef) (linkAsked y n f)))) (sym e)
+            (subst (λ (x : Bool). Links l (cond x (link.Fails NodeRef) (linkAsked y n f))) (sym g) (fails {g = NodeRef} (no-undeclared (declared a e) (undeclared b g))))
         go y a false e n b false g {f} q =
-            subst (λ (x : Bool). Links l (cond x link.NodeRef (cond (nowhere n) link.NodeRef (linkAsked y n f)))) (sym e)
-            (subst (λ (x : Bool). Links l (cond x link.NodeRef (linkAsked y n f))) (sym g) (by-asked a e b g q))
+            subst (λ (x : Bool). Links l (cond x (link.Fails NodeRef) (cond (nowhere n) (link.Fails NodeRef) (linkAsked y n f)))) (sym e)
+            (subst (λ (x : Bool). Links l (cond x (link.Fails NodeRef) (linkAsked y n f))) (sym g) (by-asked a e b g q))
 
     -- a line that goes on has no fault
     pub no-fault : {l : said.Line} {q : ℕ} {y n : Target} → LastQuestion qs (l .question) q → Leads (l .yes) y → nowhere y ≡ false → Leads (l .no) n → nowhere n ≡ false → {c : ℕ} → ¬ Fault qs ls l c

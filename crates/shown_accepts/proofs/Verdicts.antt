@@ -26,21 +26,23 @@ use Rattle.tree_line.specs.Lines.{lineOf}
 use Rattle.tree_line.specs.declared.Line as code
 use Rattle.tree_body.specs.Trees as tree
 use Rattle.tree_body.specs.Trees.{bodyOf}
+use Rattle.error.specs.Numbers.{faultNumber}
+use Rattle.error.specs.declared.LinkFault.{LinkFault}
+use Rattle.error.specs.declared.LinkFault.the-variants.{LoneNode}
 use Rattle.link_alone.specs.Alone.{isLeaf, leafOf, leavesFrom, ended, judgedLines, judgedAlone, singleIn, judgedSingle}
 use Rattle.link_alone.specs.declared.Judged.{Judged}
-use Rattle.link_alone.specs.declared.Judged.the-variants.{Told, NodeRef, QuestionRef, LoneNode}
+use Rattle.link_alone.specs.declared.Judged.the-variants.{Told}
+use Rattle.link_alone.specs.declared.Judged.the-variants as judged
 use Rattle.link_alone.specs.declared.Single.the-variants.{One, Several}
 use Rattle.shown_accepts.proofs.Lines.{LineSaid, QuestionSaid, lines-said}
 use Rattle.shown_accepts.proofs.Rows.{row-is, leaf-row, row-leaf, leaf-of, of-leaf, Fits}
-use Rattle.shown_accepts.proofs.Judged.{Judges, told, node-at, question-at, judges}
+use Rattle.shown_accepts.proofs.Judged.{Judges, told, fault-at, judges}
 
 -- how a tree is judged, against its questions and the rows of a table
 pub data Verdict (qs : List Question) (R : List ℕ) (t : Body) : Judged → Type 0 where
   fits : {own : List Row} → Records qs t own → Linked qs t (recordTable R) → Verdict qs R t (Told true)
   other : {own : List Row} → Records qs t own → ¬ Linked qs t (recordTable R) → Verdict qs R t (Told false)
-  node-ref : {k : ℕ} → Refused qs t 21 k → Verdict qs R t (NodeRef k)
-  question-ref : {k : ℕ} → Refused qs t 22 k → Verdict qs R t (QuestionRef k)
-  lone-node : Refused qs t 23 0 → Verdict qs R t LoneNode
+  refused : {g : LinkFault} {k : ℕ} → Refused qs t (faultNumber g) k → Verdict qs R t (judged.Refused g k)
 
 -- ---- tables by their rows
 
@@ -65,7 +67,7 @@ module _ (qs : List Question) (R : List ℕ) where
   linked-one {n = n} s (Linked.lines ns o f e) = absurd (o (pdf n) s)
 
   pub alone-verdict : {t : Body} (r : Ref) → Single t r → Verdict qs R t (judgedAlone R (indexOf r))
-  alone-verdict (node x) s = lone-node (Refused.single s)
+  alone-verdict (node x) s = refused {g = LoneNode} (Refused.single s)
   alone-verdict {t} (pdf n) s =
       of-told (eqb (recordRows R) 1 && leafOf R n 0) (Records.single s)
       (λ h. subst (Linked qs t) (sym (one-row R n (eqb-true (recordRows R) 1 (first-of (eqb (recordRows R) 1) (leafOf R n 0) h)) (second-of (eqb (recordRows R) 1) (leafOf R n 0) h))) (Linked.single s))
@@ -226,8 +228,7 @@ module _ (R s : List ℕ) {qs : List Question} {ps : List QuestionPlace} (asks :
           of-told qs R (leavesFrom R (length ls) && c) (r .1)
           (λ h. fit-linked some (to (second-of (leavesFrom R (length ls)) c h) .1) (first-of (leavesFrom R (length ls)) c h))
           (λ l. let f = linked-fit refl refl l in both (f .1) (from refl (f .0)))
-      go (node-at {m = m} h f g) = let z : m ≡ 0 + m = omega arith in subst (λ (k : ℕ). Verdict qs R (braces ls) (NodeRef k)) z (node-ref (Refused.lines o h f g))
-      go (question-at {m = m} h f g) = let z : m ≡ 0 + m = omega arith in subst (λ (k : ℕ). Verdict qs R (braces ls) (QuestionRef k)) z (question-ref (Refused.lines o h f g))
+      go (fault-at {g = e} {m = m} h f g) = let z : m ≡ 0 + m = omega arith in subst (λ (k : ℕ). Verdict qs R (braces ls) (judged.Refused e k)) z (refused {g = e} (Refused.lines o h f g))
 
 -- ---- a tree's body, as it is read
 

@@ -76,9 +76,7 @@ module _ (d : List ℕ) (p : Plan) (sound : Sound d p) (w : List ℤ) where
 
   linked-done : (o : real.Linked) → allLinked o ≡ true → o ≡ ends.Done
   linked-done ends.Done e = refl
-  linked-done (ends.NodeRef i j) e = let u : _≡_ {A = ℕ} 0 1 = cc in absurd (omega arith)
-  linked-done (ends.QuestionRef i j) e = let u : _≡_ {A = ℕ} 0 1 = cc in absurd (omega arith)
-  linked-done (ends.LoneNode i) e = let u : _≡_ {A = ℕ} 0 1 = cc in absurd (omega arith)
+  linked-done (ends.Refused g i j) e = let u : _≡_ {A = ℕ} 0 1 = cc in absurd (omega arith)
 
   -- ---- how many words are stored
 
@@ -145,9 +143,7 @@ module _ (d : List ℕ) (p : Plan) (sound : Sound d p) (w : List ℤ) where
   -- a refused link is not linked
   unlinked-not : (o : real.Linked) (z : Refusal) → endingOf (answerFor p o) ≡ unlinked z → allLinked o ≡ false
   unlinked-not ends.Done z e = let u : _≡_ {A = ℕ} 0 1 = cc in absurd (omega arith)
-  unlinked-not (ends.NodeRef i j) z e = refl
-  unlinked-not (ends.QuestionRef i j) z e = refl
-  unlinked-not (ends.LoneNode i) z e = refl
+  unlinked-not (ends.Refused g i j) z e = refl
 
   by-not : (words zeros : List ℕ) (b : Bool) → b ≡ false → cond b words zeros ≡ zeros
   by-not words zeros b e = ap (λ (c : Bool). cond c words zeros) e

@@ -60,9 +60,7 @@ as-it-was T mine f a e g = record { rows = g; tables = ap rowsOf e }
 -- what a fill answers is told by the plan's rows and how linking ends
 answered : (p : Plan) (o : real.Linked) → rowsBy (answerFor p o) ≡ rowsFor (answerOf (needOf p) (endingOf (answerFor p o)))
 answered p ends.Done = refl
-answered p (ends.NodeRef i k) = refl
-answered p (ends.QuestionRef i k) = refl
-answered p (ends.LoneNode i) = refl
+answered p (ends.Refused g i k) = refl
 
 module _ (x : Side) (mine other : Held) (T : Lent) where
   filled-so : (d : List ℕ) (p : Plan) → Numbers (filledBy (placedIn x d p T)) (filledIn x (modelOf d p (T .work)) mine (rowsOf T))

@@ -22,13 +22,16 @@ use Rattle.tree_line.specs.declared.Line as code
 use Rattle.tree_body.specs.Trees.{headAt}
 use Rattle.tree_body.specs.declared.TreeHead.{TreeHead}
 use Rattle.tree_survey_lines.proofs.Counting.{lines-some}
+use Rattle.error.specs.Numbers.{faultNumber}
+use Rattle.error.specs.declared.LinkFault.{LinkFault}
 use Rattle.link_alone.specs.Alone.{judgedHead, singleIn}
 use Rattle.link_alone.specs.declared.Judged.{Judged}
 use Rattle.link_alone.specs.declared.Single as alone-of
 use Rattle.link_alone.specs.declared.Single.the-variants.{One, Several}
 use Rattle.link_window.specs.Windows.{faultHead}
 use Rattle.link_window.specs.declared.Linking.{Linking}
-use Rattle.link_window.specs.declared.Linking.the-variants.{Whole, NodeRef, QuestionRef, LoneNode}
+use Rattle.link_window.specs.declared.Linking.the-variants.{Whole}
+use Rattle.link_window.specs.declared.Linking.the-variants as linking
 use Rattle.link_window.proofs.Joined.{faultOf, head-fault}
 use Rattle.walk.specs.Walking.{walkFrom}
 use Rattle.walk.specs.Answer as answer
@@ -39,7 +42,7 @@ use Rattle.walk_accepts.specs.declared.Choice.{Choice}
 use Rattle.walk_bare.specs.Bare.{meetsIn, readCount, endedOf, aloneOf, singleOf, endingOf, bracesOf, headOf, meteredOf, linkedAs, meterAt, chosenOf, bareOf}
 use Rattle.walk_bare.specs.declared.Meter as told
 use Rattle.shown_accepts.proofs.Lines.{LineSaid, QuestionSaid}
-use Rattle.shown_accepts.proofs.Verdicts.{Verdict, fits, other, node-ref, question-ref, lone-node, not-alike, not-two, pair-lengths}
+use Rattle.shown_accepts.proofs.Verdicts.{Verdict, fits, other, refused, not-alike, not-two, pair-lengths}
 use Rattle.shown_accepts.proofs.Texts as texts
 use Rattle.shown_accepts.proofs.Texts.{Reads}
 use Rattle.shown_accepts.proofs.Accepts.{Chosen, breaks-at, negative, missing, tree, chosen}
@@ -53,16 +56,12 @@ capped m = record { number = m .number; place = m .place; line = m .line; pdf = 
 
 data Linkage (qs : List Question) (t : Body) : Linking → Type 0 where
   whole : {own : List Row} → Records qs t own → Linkage qs t Whole
-  node-at : {k : ℕ} → Refused qs t 21 k → Linkage qs t (NodeRef k)
-  question-at : {k : ℕ} → Refused qs t 22 k → Linkage qs t (QuestionRef k)
-  lone-at : Refused qs t 23 0 → Linkage qs t LoneNode
+  fault-at : {g : LinkFault} {k : ℕ} → Refused qs t (faultNumber g) k → Linkage qs t (linking.Refused g k)
 
 linkage : {qs : List Question} {R : List ℕ} {t : Body} {j : Judged} → Verdict qs R t j → Linkage qs t (faultOf j)
 linkage (fits r l) = whole r
 linkage (other r l) = whole r
-linkage (node-ref f) = node-at f
-linkage (question-ref f) = question-at f
-linkage (lone-node f) = lone-at f
+linkage (refused {g = g} f) = fault-at {g = g} f
 
 -- ---- the walk of a tree that links
 
@@ -181,6 +180,4 @@ bare-says s t bytes m = go (chosen s t)
       where
         linked : {l : Linking} → Linkage (x .questions) (e .body) l → Says-so s t bytes m (linkedAs t (meteredOf (headOf s (questionsAt s 0 .items) bytes m (headAt s i))) l)
         linked (whole r) = let k = walked-tree s bytes q m g r in record { meter = meterOf (k .ending); said = Meters.says h (MetersText.walks w n r (k .over)); tells = k .same }
-        linked (node-at {k = k} f) = record { meter = meterRefused 21 t k; said = Meters.says h (MetersText.unlinked w n f); tells = refl }
-        linked (question-at {k = k} f) = record { meter = meterRefused 22 t k; said = Meters.says h (MetersText.unlinked w n f); tells = refl }
-        linked (lone-at f) = record { meter = meterRefused 23 t 0; said = Meters.says h (MetersText.unlinked w n f); tells = refl }
+        linked (fault-at {g = g} {k = k} f) = record { meter = meterRefused (faultNumber g) t k; said = Meters.says h (MetersText.unlinked w n f); tells = refl }

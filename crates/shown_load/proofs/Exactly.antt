@@ -49,7 +49,7 @@ use Rattle.load_plan.specs.declared.Planned.{Planned}
 use Rattle.load_plan.specs.declared.Planned.the-variants as planned
 use Rattle.load_model.specs.Load.{Tables, After, roomIn, answerFor, filled, untouched, loadFor, loadOf}
 use Rattle.load_model.specs.declared.Loaded.the-variants as loaded
-use Rattle.shown_text.specs.Refusals.{RefusedAs, node, question, lone}
+use Rattle.shown_text.specs.Refusals.{RefusedAs, refused}
 use Rattle.shown_text.proofs.Text.{refused-ends}
 use Rattle.shown_breaks.proofs.Place.{breaks-broken}
 use Rattle.shown_load.specs.Stored.{Chose}
@@ -203,9 +203,7 @@ module _ (s : List ℕ) (h : Header) (which : Which) (short : length s < 2 ^ 63)
       where
         as-is : (o : Linked) → loadOf s h which L .answer ≡ answerFor p o → {n i j : ℕ} → RefusedAs o n i j
             → (y : Refusal) × (loadOf s h which L .answer ≡ loaded.Refused y) × (numberOf y ≡ n) × (placeOf y ≡ i) × (lineOf y ≡ j)
-        as-is _ e (node {a = i} {k = j}) = (refusal.NodeRef i j, e, refl, refl, refl)
-        as-is _ e (question {a = i} {k = j}) = (refusal.QuestionRef i j, e, refl, refl, refl)
-        as-is _ e (lone {a = i}) = (refusal.LoneNode i 0, e, refl, refl, refl)
+        as-is _ e (refused {g = g} {a = i} {k = j}) = (refusal.Unlinked g i j, e, refl, refl, refl)
 
   -- what is wrong is refused, with that number, place and line
   pub not-load : {z : Refusal} → NotLoaded s h which L z → RefusedLike z

@@ -8,7 +8,9 @@ use native.Mathlib.Omega.{arith}
 use lib.Dec.{ltb}
 use lib.IntN.{ℤ, pos}
 use lib.ListN.{length, getD, replicate, take}
-use Rattle.error.specs.Numbers.{numberOf}
+use Rattle.error.specs.Numbers.{faultNumber, numberOf}
+use Rattle.error.specs.declared.LinkFault.{LinkFault}
+use Rattle.error.specs.declared.LinkFault.the-variants.{NodeRef, QuestionRef, LoneNode}
 use Rattle.error.specs.declared.Refusal.{Refusal}
 use Rattle.error.specs.declared.Refusal.the-variants as refusal
 use Rattle.head_record.specs.declared.Header.{Header}
@@ -73,6 +75,12 @@ gv-early d p = go (d .«use_gv» && p .«has_gv_tree» && p .«has_gv_pdf»)
     go : (c : Bool) → Early (cond c (modelOf (p .«gv_tree») (p .«gv_pdf») (2 * d .«vector_length»)) (chosen.Refused refusal.UseGv))
     go true = model-early _ _ _
     go false = omega arith
+
+-- what linking refuses is 21, 22 or 23
+pub fault-between : (g : LinkFault) → (20 < faultNumber g) × (faultNumber g ≤ 23)
+fault-between NodeRef = (omega arith, omega arith)
+fault-between QuestionRef = (omega arith, omega arith)
+fault-between LoneNode = (omega arith, omega arith)
 
 module _ (make : StreamData → PositionData → Chosen) (early : (d : StreamData) (p : PositionData) → Early (make d p)) where
   named-early : (s : List ℕ) (h : Header) (w : List ℕ) → Early (named make s h w)
@@ -196,18 +204,11 @@ module _ (s : List ℕ) (h : Header) (which : Which) (L : Tables) where
 
   linked-number : (p : Plan) (e : Linked) → (y : Refusal) → answerFor p e ≡ loaded.Refused y → (c : List ℕ) (i f : ℕ) (d : List ℕ) → ByNumber (filledBy p c i f d e L) y
   linked-number p linked.Done y h c i f d = let u : _≡_ {A = ℕ} 0 1 = cc in absurd (omega arith)
-  linked-number p (linked.NodeRef x k) y h c i f d =
-      let u : refusal.NodeRef x k ≡ y = cc in
-      let n : 21 ≡ numberOf y = ap numberOf u in
-      (omega arith, λ l. absurd (omega arith), λ l. (refl, refl, refl, refl, refl, refl))
-  linked-number p (linked.QuestionRef x k) y h c i f d =
-      let u : refusal.QuestionRef x k ≡ y = cc in
-      let n : 22 ≡ numberOf y = ap numberOf u in
-      (omega arith, λ l. absurd (omega arith), λ l. (refl, refl, refl, refl, refl, refl))
-  linked-number p (linked.LoneNode x) y h c i f d =
-      let u : refusal.LoneNode x 0 ≡ y = cc in
-      let n : 23 ≡ numberOf y = ap numberOf u in
-      (omega arith, λ l. absurd (omega arith), λ l. (refl, refl, refl, refl, refl, refl))
+  linked-number p (linked.Refused g x k) y h c i f d =
+      let u : refusal.Unlinked g x k ≡ y = cc in
+      let n : faultNumber g ≡ numberOf y = ap numberOf u in
+      let b = fault-between g in
+      (omega (arith, n, b .1), λ l. absurd (omega (arith, n, b .0)), λ l. (refl, refl, refl, refl, refl, refl))
 
   way-number : (x : After) → Way x → (y : Refusal) → x .answer ≡ loaded.Refused y → ByNumber x y
   unfolding filled

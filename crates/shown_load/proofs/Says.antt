@@ -49,7 +49,7 @@ use Rattle.load_model.specs.Load.{Tables, After, answerFor, blocksOf, keptTrees
 use Rattle.load_model.specs.declared.Loaded.{Loaded}
 use Rattle.load_model.specs.declared.Loaded.the-variants as loaded
 use Rattle.load_model.proofs.Laws.{part-short, take-short}
-use Rattle.shown_text.specs.Refusals.{node, question, lone}
+use Rattle.shown_text.specs.Refusals as refused-as
 use Rattle.shown_text.proofs.Text.{text-questions, text-patterns, text-done, text-refused}
 use Rattle.shown_text.proofs.Walks.{bytes-answer}
 use Rattle.tree_survey.proofs.Rows.{rows-counted}
@@ -150,9 +150,7 @@ module _ (s : List ℕ) (h : Header) (which : Which) (short : length s < 2 ^ 63)
       pub refused : (o : Linked) → endAt (S p e) (p .text) (p .first) ≡ o → (y : Refusal) → answerFor p o ≡ loaded.Refused y
           → ModelRefused (spoken p e .text .questions) (spoken p e .text .trees) (numberOf y) (placeOf y) (lineOf y)
       refused linked.Done d y k = let u : _≡_ {A = ℕ} 0 1 = cc in absurd (omega arith)
-      refused (linked.NodeRef i j) d y k = let u : refusal.NodeRef i j ≡ y = cc in subst of u (text-refused (spoken p e .says) (read p e .begins) (S-short p e) (natural p e) d node)
-      refused (linked.QuestionRef i j) d y k = let u : refusal.QuestionRef i j ≡ y = cc in subst of u (text-refused (spoken p e .says) (read p e .begins) (S-short p e) (natural p e) d question)
-      refused (linked.LoneNode i) d y k = let u : refusal.LoneNode i 0 ≡ y = cc in subst of u (text-refused (spoken p e .says) (read p e .begins) (S-short p e) (natural p e) d lone)
+      refused (linked.Refused g i j) d y k = let u : refusal.Unlinked g i j ≡ y = cc in subst of u (text-refused (spoken p e .says) (read p e .begins) (S-short p e) (natural p e) d refused-as.refused)
 
       unlinked : (o : Linked) → endAt (S p e) (p .text) (p .first) ≡ o → (y : Refusal) → answerFor p o ≡ loaded.Refused y → Unlinked s h which y
       unlinked o d y k = record { p = p; t = spoken p e .text; l = spoken p e .layout; chose = chose p e; refused = refused o d y k }
@@ -167,9 +165,7 @@ module _ (s : List ℕ) (h : Header) (which : Which) (short : length s < 2 ^ 63)
         ended : (p : Plan) (e : Model p ≡ planned s h which) (o : Linked) → endAt (S p e) (p .text) (p .first) ≡ o → answerFor p o ≡ loaded.Done n₁ n₂ n₃ n₄ n₅
             → Stored s h which L (filled (dataOf s h) p L)
         ended p e linked.Done d k = stored p e d
-        ended p e (linked.NodeRef i j) d k = let u : _≡_ {A = ℕ} 0 1 = cc in absurd (omega arith)
-        ended p e (linked.QuestionRef i j) d k = let u : _≡_ {A = ℕ} 0 1 = cc in absurd (omega arith)
-        ended p e (linked.LoneNode i) d k = let u : _≡_ {A = ℕ} 0 1 = cc in absurd (omega arith)
+        ended p e (linked.Refused g i j) d k = let u : _≡_ {A = ℕ} 0 1 = cc in absurd (omega arith)
 
         go : (x : After) → Way s h which L x → x .answer ≡ loaded.Done n₁ n₂ n₃ n₄ n₅ → Stored s h which L x
         go x (untouched y n) k = let u : _≡_ {A = ℕ} 0 1 = cc in absurd (omega arith)

@@ -94,9 +94,7 @@ alone {qs} {x} {trees} {table} a R v = go (R .ends) refl v
     refused r = absurd (model-never-both (a .by-itself) (ModelRefused.here r))
 
     go : (e : Filled) → R .ends ≡ e → Verdict qs (x .body) e (R .rows) → Alone R (a .state) (a .first) (a .count) (a .lines) x table
-    go (filled.NodeRef j) e r = refused r
-    go (filled.QuestionRef j) e r = refused r
-    go filled.LoneNode e r = refused r
+    go (filled.Refused g j) e r = refused r
     go (filled.Done m n) e (rows, r, f, l, d) =
         let z = model-rows-once (TreeRows.more {f = 0} s r d TreeRows.none) (a .by-itself) refl in
         let p = z .0 in

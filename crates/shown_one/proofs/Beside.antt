@@ -10,6 +10,7 @@ use lib.ListN.{length, take, replicate}
 use Rattle.written.specs.Said as said
 use Rattle.written.specs.Linking.{Nth}
 use Rattle.written.specs.Sharing.{Side, Held, seen}
+use Rattle.error.specs.declared.LinkFault.{LinkFault}
 use Rattle.error.specs.declared.Refusal.{Refusal}
 use Rattle.error.specs.declared.Refusal.the-variants as refusal
 use Rattle.head_record.specs.declared.Header.{Header}
@@ -68,9 +69,7 @@ module _ (s : List ℕ) (h : Header) (which : Which) (short : length s < 2 ^ 63)
 
 -- a refusal of linking
 pub data OfLinking : Refusal → Type 0 where
-  node : {i k : ℕ} → OfLinking (refusal.NodeRef i k)
-  question : {i k : ℕ} → OfLinking (refusal.QuestionRef i k)
-  lone : {i : ℕ} → OfLinking (refusal.LoneNode i 0)
+  unlinked : {g : LinkFault} {i k : ℕ} → OfLinking (refusal.Unlinked g i k)
 
 -- how a load that is not done leaves what was lent
 pub data Refuses (x : Side) (T : Tables) : Refusal → Tables → Type 0 where
@@ -82,9 +81,7 @@ module _ (x : Side) (d : List ℕ) (k : ℕ) (p : Plan) (T : Tables) where
   by-end : (o : Linked) {z : Refusal} → answerFor p o ≡ loaded.Refused z → (a : List ℕ) (b c : ℕ) (g : List ℕ)
       → Refuses x T z (putBack x p T (treeFilledBy p a b c g o (own x p T)) .tables)
   by-end linked.Done e a b c g = clash cc
-  by-end (linked.NodeRef q j) {z} e a b c g = let u : refusal.NodeRef q j ≡ z = cc in subst (λ (z : Refusal). Refuses x T z (putBack x p T (treeFilledBy p a b c g (linked.NodeRef q j) (own x p T)) .tables)) u (zeroed p _ node refl)
-  by-end (linked.QuestionRef q j) {z} e a b c g = let u : refusal.QuestionRef q j ≡ z = cc in subst (λ (z : Refusal). Refuses x T z (putBack x p T (treeFilledBy p a b c g (linked.QuestionRef q j) (own x p T)) .tables)) u (zeroed p _ question refl)
-  by-end (linked.LoneNode q) {z} e a b c g = let u : refusal.LoneNode q 0 ≡ z = cc in subst (λ (z : Refusal). Refuses x T z (putBack x p T (treeFilledBy p a b c g (linked.LoneNode q) (own x p T)) .tables)) u (zeroed p _ lone refl)
+  by-end (linked.Refused f q j) {z} e a b c g = let u : refusal.Unlinked f q j ≡ z = cc in subst (λ (z : Refusal). Refuses x T z (putBack x p T (treeFilledBy p a b c g (linked.Refused f q j) (own x p T)) .tables)) u (zeroed p _ unlinked refl)
 
 pub tree-refuses : (x : Side) (s : List ℕ) (h : Header) (which : Which) (m k : ℕ) (other : Held) (T : Tables) {z : Refusal} → treeBeside x s h which m k other T .answer ≡ loaded.Refused z
     → Refuses x T z (treeBeside x s h which m k other T .tables)

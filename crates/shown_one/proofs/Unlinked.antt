@@ -57,9 +57,7 @@ module _ (s q : List ℕ) (n : ℕ) where
           let w = rest e in
           let z : c + suc (w .tree) ≡ suc c + w .tree = omega arith in
           record { tree = suc (w .tree); it = w .it; stands = there (w .stands); ends = ap (λ (k : ℕ). endedAt k (treeResult s q n (w .it) .ends)) z ∙ w .ends }
-      go (filled.NodeRef k) h e rest = here-ends (ap (endedAt c) h ∙ e)
-      go (filled.QuestionRef k) h e rest = here-ends (ap (endedAt c) h ∙ e)
-      go filled.LoneNode h e rest = here-ends (ap (endedAt c) h ∙ e)
+      go (filled.Refused g k) h e rest = here-ends (ap (endedAt c) h ∙ e)
 
 -- a tree that is read is one of the text, in its place
 record Said (ts : List said.Tree) (us : List said.TreePlace) (k : ℕ) (z : Tree) : Type 0 where
@@ -79,9 +77,7 @@ said-nth (t ∷ ts) (u ∷ us) (there h) = let w = said-nth ts us h in record { 
 -- the answers of two plans to a refused linking
 same-answer : (p q : Plan) (o : Linked) → allLinked o ≡ false → answerFor p o ≡ answerFor q o
 same-answer p q linked.Done e = clash cc
-same-answer p q (linked.NodeRef i k) e = refl
-same-answer p q (linked.QuestionRef i k) e = refl
-same-answer p q (linked.LoneNode i) e = refl
+same-answer p q (linked.Refused g i k) e = refl
 
 -- the model's linking is refused in this tree, and so is the tree's alone
 pub record RefusedAlone (s : List ℕ) (h : Header) (p : Plan) (t : Text) (l : Layout) (L : Tables) (o : Linked) : Type 0 where

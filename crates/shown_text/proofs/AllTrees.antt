@@ -15,6 +15,7 @@ use Rattle.written.specs.Tables.{TreeRows, ModelRefused, Negative, negative}
 use Rattle.laws.proofs.Nth.{flatten-append}
 use Rattle.pdf_values.specs.Folded.{begun}
 use Rattle.link_order.specs.Keys.{nameAt}
+use Rattle.error.specs.Numbers.{faultNumber}
 use Rattle.tree_body.specs.Trees.{treeOf}
 use Rattle.text_parts.specs.Parts.{natOf}
 use Rattle.load_tree.specs.Bodies.{bodyResult}
@@ -22,7 +23,8 @@ use Rattle.load_tree.specs.declared.Filled.{Filled}
 use Rattle.load_tree.specs.declared.Filled.the-variants as filled
 use Rattle.load_trees.specs.Trees.{rowWords, endedAt, thenRest, treesEnd, treeWords, recordWords}
 use Rattle.load_trees.specs.declared.Linked.{Linked}
-use Rattle.load_trees.specs.declared.Linked.the-variants.{Done, NodeRef, QuestionRef, LoneNode}
+use Rattle.load_trees.specs.declared.Linked.the-variants.{Done}
+use Rattle.load_trees.specs.declared.Linked.the-variants as linked
 use Rattle.shown_text.proofs.OneTree.{Verdict, tree-verdict}
 
 -- refused at tree a, where k is the number of the first
@@ -32,9 +34,7 @@ Refusal qs ts k c a j = (i : ℕ) × (a ≡ k + i) × ModelRefused qs ts c i j
 -- what `written` says of trees that end so, with these words, where k is the number of the first and f its first record
 abbrev pub ModelVerdict : List Question → List Tree → ℕ → ℕ → Linked → List ℕ → List ℕ → Type 0
 ModelVerdict qs ts k f Done trees records = (t : List Row) × (r : List Row) × TreeRows qs f ts t r × (flatten (map begun t) ≡ trees) × (flatten r ≡ records)
-ModelVerdict qs ts k f (NodeRef a j) trees records = Refusal qs ts k 21 a j
-ModelVerdict qs ts k f (QuestionRef a j) trees records = Refusal qs ts k 22 a j
-ModelVerdict qs ts k f (LoneNode a) trees records = Refusal qs ts k 23 a 0
+ModelVerdict qs ts k f (linked.Refused g a j) trees records = Refusal qs ts k (faultNumber g) a j
 
 -- ---- one tree, and then the others
 
@@ -62,17 +62,13 @@ module _ (qs : List Question) (x : Tree) (ts : List Tree) where
     ap₂ (λ (i : ℕ) (y : List ℕ). natOf (x .state) ∷ f ∷ i ∷ n ∷ 0 ∷ 0 ∷ y) l a,
     flatten-append rows u ∙ ap₂ _++_ e b,
   )
-  then h k f m n w (rows, r, e, l, d) (NodeRef a j) trees records g = further k r g
-  then h k f m n w (rows, r, e, l, d) (QuestionRef a j) trees records g = further k r g
-  then h k f m n w (rows, r, e, l, d) (LoneNode a) trees records g = further k r g
+  then h k f m n w (rows, r, e, l, d) (linked.Refused b a j) trees records g = further k r g
 
   one-more : (¬ Negative (x ∷ ts)) → (k f : ℕ) (e : Filled) (w : List ℕ) → Verdict qs (x .body) e w
       → (o : Linked) (trees : ℕ → List ℕ) (records : List ℕ) → ((g : ℕ) → ModelVerdict qs ts (suc k) g o (trees g) records)
       → ModelVerdict qs (x ∷ ts) k f (thenRest e (endedAt k e) (λ m. o)) (rowWords (natOf (x .state)) f e ++ thenRest e [] (λ m. trees (f + m))) (w ++ thenRest e [] (λ m. records))
   one-more h k f (filled.Done m n) w v o trees records rest = then h k f m n w v o (trees (f + m)) records (rest (f + m))
-  one-more h k f (filled.NodeRef j) w v o trees records rest = at-once k v
-  one-more h k f (filled.QuestionRef j) w v o trees records rest = at-once k v
-  one-more h k f filled.LoneNode w v o trees records rest = at-once k v
+  one-more h k f (filled.Refused g j) w v o trees records rest = at-once k v
 
 -- ---- all trees
 

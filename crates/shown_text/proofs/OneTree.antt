@@ -22,15 +22,17 @@ use Rattle.tree_reference.proofs.Same.{same-index, index-same}
 use Rattle.tree_line.specs.Lines.{lineOf}
 use Rattle.tree_body.specs.Trees.{bodyOf, treeOf}
 use Rattle.tree_survey_lines.specs.Counts.{recordsOf}
+use Rattle.error.specs.Numbers.{faultNumber}
 use Rattle.link_tree.specs.Linked.{linkOutcome, linkedRows, rowsAfter}
 use Rattle.link_tree.specs.declared.Link.{Link}
 use Rattle.link_tree.specs.declared.Link.the-variants as link
-use Rattle.link_tree.proofs.Joined.{link-done, link-node, link-question}
+use Rattle.link_tree.proofs.Joined.{link-done, link-refused}
 use Rattle.load_lines.specs.Words.{lineWords}
 use Rattle.load_lines.proofs.Decoded.{words-length}
 use Rattle.load_tree.specs.Bodies.{Result, leafResult, linkEnds, linkResult, linesResult, bodyResult}
 use Rattle.load_tree.specs.declared.Filled.{Filled}
-use Rattle.load_tree.specs.declared.Filled.the-variants.{Done, NodeRef, QuestionRef, LoneNode}
+use Rattle.load_tree.specs.declared.Filled.the-variants.{Done}
+use Rattle.load_tree.specs.declared.Filled.the-variants as filled
 use Rattle.load_tree.proofs.Laws.{lines-size}
 use Rattle.load_tree.proofs.Joined as joined
 use Rattle.load_tree.proofs.Joined.{Stand, work-says}
@@ -41,9 +43,7 @@ use Rattle.shown_text.proofs.Words.{zipped-length, name-stands, words-s
 -- what `written` says of a tree that ends so, with these words
 abbrev pub Verdict : List Question → Body → Filled → List ℕ → Type 0
 Verdict qs t (Done m k) words = (rows : List Row) × Records qs t rows × (flatten rows ≡ words) × (length rows ≡ m) × LinesOf t k
-Verdict qs t (NodeRef k) words = Refused qs t 21 k
-Verdict qs t (QuestionRef k) words = Refused qs t 22 k
-Verdict qs t LoneNode words = Refused qs t 23 0
+Verdict qs t (filled.Refused g k) words = Refused qs t (faultNumber g) k
 
 abbrev ResultVerdict : List Question → Body → Result → Type 0
 ResultVerdict qs t r = Verdict qs t (r .ends) (r .rows)
@@ -103,8 +103,7 @@ module _ (s words : List ℕ) (qs : List Question) (named : (e : ℕ) (q : Quest
             let w : length (linesResult s words (length qs) (zipWith lineOf ls ws) .rows) ≡ length (linkedRows W N) = ap (λ (r : Result). length (r .rows)) same ∙ ap (λ (r : Link). length (rowsAfter r (linkedRows W N) (4 * M))) e in
             let many : length (d .0) ≡ M = omega (arith, length-flat (d .0) (fours-records (d .1)), ap length (d .2), w, z .1) in
             (d .0, d .1, d .2, many, subst (LinesOf (braces ls)) (sym (zipped-length lineOf p)) (T.LinesOf.lines o))
-        go (link.NodeRef k) e = link-node qs W N room small ls (work-says s words qs named ls ws (stand p)) k e o
-        go (link.QuestionRef k) e = link-question qs W N room small ls (work-says s words qs named ls ws (stand p)) k e o
+        go (link.Refused g k) e = link-refused qs W N room small ls (work-says s words qs named ls ws (stand p)) g k e o
 
   lines-verdict : {b c : ℕ} {ls : List Line} {ws : List Span} → Parted (LineParting s) (LineAt s) b c ls ws → ResultVerdict qs (braces ls) (linesResult s words (length qs) (zipWith lineOf ls ws))
   unfolding zipWith

@@ -53,9 +53,7 @@ module _ (s words : List ℕ) (n : ℕ) where
           let b = body-size (z .body) q in
           let c = rest (f + a) e in
           (omega (arith, c .0), omega (arith, length-append (bodyResult s words n (z .body) .rows) (recordWords s words n zs), b .0, b .1, c .1))
-      go (filled.NodeRef j) q e rest = let u : _≡_ {A = ℕ} 0 1 = cc in absurd (omega arith)
-      go (filled.QuestionRef j) q e rest = let u : _≡_ {A = ℕ} 0 1 = cc in absurd (omega arith)
-      go filled.LoneNode q e rest = let u : _≡_ {A = ℕ} 0 1 = cc in absurd (omega arith)
+      go (filled.Refused g j) q e rest = let u : _≡_ {A = ℕ} 0 1 = cc in absurd (omega arith)
 
 -- ---- the tables that filling leaves, where it is done: `fill_text`'s contract has `is` and the two equations
 

@@ -12,6 +12,8 @@ use Rattle.written.specs.Linking.{Nth, Row, Records, Refused}
 use Rattle.written.specs.Tables.{patternRows, questionRows, LinesOf, TreeRows, ModelRefused, Negative}
 use Rattle.written.proofs.Walk.{nth-once, no-row}
 use Rattle.laws.specs.Steps.{Ending, doneAt, brokenAt}
+use Rattle.error.specs.Numbers.{faultNumber}
+use Rattle.error.specs.declared.LinkFault.{LinkFault}
 use Rattle.link_order.specs.Keys.{nameAt}
 use Rattle.tree_question.specs.Questions.{questionsAt}
 use Rattle.tree_body.specs.Trees.{Tree, treeOf, treesAt}
@@ -28,9 +30,10 @@ use Rattle.load_tree.specs.declared.Filled.{Filled}
 use Rattle.load_tree.specs.declared.Filled.the-variants as filled
 use Rattle.load_trees.specs.Trees.{treesEnd, treeWords, recordWords}
 use Rattle.load_trees.specs.declared.Linked.{Linked}
-use Rattle.load_trees.specs.declared.Linked.the-variants.{Done, NodeRef, QuestionRef, LoneNode}
+use Rattle.load_trees.specs.declared.Linked.the-variants.{Done}
+use Rattle.load_trees.specs.declared.Linked.the-variants as linked
 use Rattle.load_text.specs.Text.{wordsAt, endAt, treesStored, recordsStored}
-use Rattle.shown_text.specs.Refusals.{RefusedAs, node, question, lone}
+use Rattle.shown_text.specs.Refusals.{RefusedAs, refused}
 use Rattle.shown_text.proofs.Words.{parted-nth, question-named, questions-few}
 use Rattle.shown_text.proofs.OneTree.{Verdict, tree-verdict}
 use Rattle.written.proofs.ModelOnce.{model-rows-once, model-refused-once, model-never-both}
@@ -110,17 +113,9 @@ module _ {s : List ℕ} {i f : ℕ} {t : Text} {l : Layout} (says : Says s i t l
         → (rows : List Row) × Records (t .questions) (x .body) rows × (flatten rows ≡ resultOf x y .rows) × (length rows ≡ m) × LinesOf (x .body) k
     tree-done e = as-ended e
 
-    -- 21: an id that no line bears
-    pub tree-node : {k : ℕ} → resultOf x y .ends ≡ filled.NodeRef k → Refused (t .questions) (x .body) 21 k
-    tree-node e = as-ended e
-
-    -- 22: a question that no QS line has
-    pub tree-question : {k : ℕ} → resultOf x y .ends ≡ filled.QuestionRef k → Refused (t .questions) (x .body) 22 k
-    tree-question e = as-ended e
-
-    -- 23: a node as the one reference
-    pub tree-lone : resultOf x y .ends ≡ filled.LoneNode → Refused (t .questions) (x .body) 23 0
-    tree-lone e = as-ended e
+    -- 21: an id that no line bears; 22: a question that no QS line has; 23: a node as the one reference
+    pub tree-refused : {g : LinkFault} {k : ℕ} → resultOf x y .ends ≡ filled.Refused g k → Refused (t .questions) (x .body) (faultNumber g) k
+    tree-refused e = as-ended e
 
   -- ---- all trees
 
@@ -152,27 +147,14 @@ module _ {s : List ℕ} {i f : ℕ} {t : Text} {l : Layout} (says : Says s i t l
         at {c} {a} {k} (j, e, m) = let z : j ≡ a = omega (arith, e) in subst (λ (n : ℕ). ModelRefused (t .questions) (t .trees) c n k) z m
 
         go : {e : Linked} {c a k : ℕ} → RefusedAs e c a k → ModelVerdict (t .questions) (t .trees) 0 0 e (treesStored s i f) (recordsStored s i f) → ModelRefused (t .questions) (t .trees) c a k
-        go node v = at v
-        go question v = at v
-        go lone v = at v
-
-    pub text-node : {a k : ℕ} → endAt s i f ≡ NodeRef a k → ModelRefused (t .questions) (t .trees) 21 a k
-    text-node e = text-refused e node
-
-    pub text-question : {a k : ℕ} → endAt s i f ≡ QuestionRef a k → ModelRefused (t .questions) (t .trees) 22 a k
-    text-question e = text-refused e question
-
-    pub text-lone : {a : ℕ} → endAt s i f ≡ LoneNode a → ModelRefused (t .questions) (t .trees) 23 a 0
-    text-lone e = text-refused e lone
+        go refused v = at v
 
     -- ---- 4. conversely
 
     -- a linking is done or refused
     done-or-refused : (o : Linked) → endAt s i f ≡ o → {A : Type 0} → (endAt s i f ≡ Done → A) → ((c a k : ℕ) → RefusedAs o c a k → ModelRefused (t .questions) (t .trees) c a k → A) → A
     done-or-refused Done e d r = d e
-    done-or-refused (NodeRef a k) e d r = r 21 a k node (text-refused e node)
-    done-or-refused (QuestionRef a k) e d r = r 22 a k question (text-refused e question)
-    done-or-refused (LoneNode a) e d r = r 23 a 0 lone (text-refused e lone)
+    done-or-refused (linked.Refused g a k) e d r = r (faultNumber g) a k refused (text-refused e refused)
 
     -- a model that has rows is linked, and its rows are stored
     pub rows-stored : {trees records : List Row} → TreeRows (t .questions) 0 (t .trees) trees records

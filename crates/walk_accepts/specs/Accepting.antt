@@ -47,9 +47,7 @@ chosenTree s t = surveyed s t (surveyAt s 0)
 -- 21 to 23, then 37
 abbrev pub acceptedOf : ℕ → Judged → Accepted
 acceptedOf t (judged.Told b) = cond b accepted.Yes (accepted.Refused refusal.OtherRows)
-acceptedOf t (judged.NodeRef k) = accepted.Refused (refusal.NodeRef t k)
-acceptedOf t (judged.QuestionRef k) = accepted.Refused (refusal.QuestionRef t k)
-acceptedOf t judged.LoneNode = accepted.Refused (refusal.LoneNode t 0)
+acceptedOf t (judged.Refused f k) = accepted.Refused (refusal.Unlinked f t k)
 
 abbrev pub acceptsAt : List ℕ → ℕ → List ℕ → Choice → Accepted
 acceptsAt s t R (choice.Tree i) = acceptedOf t (judgedHead s (questionsAt s 0 .items) R (headAt s i))

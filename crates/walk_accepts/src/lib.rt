@@ -73,9 +73,9 @@ fn accepted_of(tree: u64, judged: Judged) -> Accepted
                 Accepted::Refused(Refusal::OtherRows)
             }
         }
-        Judged::NodeRef(line) => Accepted::Refused(Refusal::NodeRef { tree, line }),
-        Judged::QuestionRef(line) => Accepted::Refused(Refusal::QuestionRef { tree, line }),
-        Judged::LoneNode => Accepted::Refused(Refusal::LoneNode { tree, line: 0 }),
+        Judged::Refused { fault, line } => {
+            Accepted::Refused(Refusal::Unlinked { fault, tree, line })
+        }
     }
 }
 

@@ -9,7 +9,7 @@ use lib.Seq.{sets}
 use Rattle.written.specs.Said.{QuestionPlace}
 use Rattle.written.specs.Walks.{chosen, isYes}
 use Rattle.laws.specs.Steps.{Ending, doneAt, brokenAt, Reading}
-use Rattle.error.specs.Numbers.{numberOf, placeOf, lineOf}
+use Rattle.error.specs.Numbers.{faultNumber, numberOf, placeOf, lineOf}
 use Rattle.error.specs.declared.Refusal.{Refusal}
 use Rattle.error.specs.declared.Refusal.the-variants as refusal
 use Rattle.tree_question.specs.Questions.{questionsAt}
@@ -33,7 +33,7 @@ use Rattle.link_alone.specs.declared.Single.{Single}
 use Rattle.link_alone.specs.declared.Single.the-variants.{One, Several}
 use Rattle.link_window.specs.Windows.{faultHead}
 use Rattle.link_window.specs.declared.Linking.{Linking}
-use Rattle.link_window.specs.declared.Linking.the-variants.{Whole, NodeRef, QuestionRef, LoneNode}
+use Rattle.link_window.specs.declared.Linking.the-variants.{Whole, Refused}
 use Rattle.walk.specs.Walking.{walkFrom}
 use Rattle.walk.specs.declared.Met.{Met}
 use Rattle.walk.specs.declared.Met.the-variants as met
@@ -143,9 +143,7 @@ meteredOf (bare.Refused r) = refusedBy (numberOf r) 0 0
 -- 21 to 23 of the tree alone, then the walk
 abbrev pub linkedAs : ℕ → Meter → Linking → Meter
 linkedAs t m Whole = m
-linkedAs t m (NodeRef k) = refusedBy 21 t k
-linkedAs t m (QuestionRef k) = refusedBy 22 t k
-linkedAs t m LoneNode = refusedBy 23 t 0
+linkedAs t m (Refused f k) = refusedBy (faultNumber f) t k
 
 unfoldable pub meterAt : List ℕ → ℕ → List ℕ → ℕ → ℕ → Meter
 meterAt s t bytes limit i = linkedAs t (meteredOf (headOf s (questionsAt s 0 .items) bytes limit (headAt s i))) (faultHead s (questionsAt s 0 .items) (headAt s i))

@@ -303,9 +303,7 @@ fn meter_tree(s: &[u8], tree: u64, star: usize, answers: &[u8], limit: u64) -> M
 {
     match link_tree(s, 0, star) {
         Linking::Whole => metered(walk_tree(s, 0, star, answers, limit)),
-        Linking::NodeRef(line) => refused_by(21, tree, line as u64),
-        Linking::QuestionRef(line) => refused_by(22, tree, line as u64),
-        Linking::LoneNode => refused_by(23, tree, 0),
+        Linking::Refused { fault, line } => refused_by(fault.number(), tree, line as u64),
     }
 }
 

@@ -15,20 +15,14 @@ enum-known-question c = search needs
 row-fits-requires : tie.Need-row-fits-requires
 row-fits-requires c κs = search needs
 
-enum-told : tie.Need-enum-told
-enum-told c = search needs
-
-enum-told-2 : tie.Need-enum-told-2
-enum-told-2 c = search needs
+enum-known-fault : tie.Need-enum-known-fault
+enum-known-fault c = search needs
 
 returns : tie.Need-returns
 returns c = ap Told (c .row-fits .ensures) ∙ ap (judgedLine (c .before .before .before .before .before .before .before .args .records .now) (c .before .before .before .before .before .before .before .args .k)) (sym (c .before .before .question .given .1) ∙ c .before .before .before .before .link-line .ensures)
 
 returns-2 : tie.Need-returns-2
-returns-2 c = ap (judgedLine (c .before .before .before .before .before .args .records .now) (c .before .before .before .before .before .args .k)) (sym (c .enum-told .given .1) ∙ c .before .before .link-line .ensures)
-
-returns-3 : tie.Need-returns-3
-returns-3 c = ap (judgedLine (c .before .before .before .before .before .args .records .now) (c .before .before .before .before .before .args .k)) (sym (c .enum-told2 .given .1) ∙ c .before .before .link-line .ensures)
+returns-2 c = ap (judgedLine (c .before .before .before .before .before .before .args .records .now) (c .before .before .before .before .before .before .args .k)) (sym (c .before .fault .given .1) ∙ c .before .before .before .link-line .ensures)
 
 pub judge-line-spec : {M : Type 1} → statement M
 judge-line-spec =
@@ -37,8 +31,6 @@ judge-line-spec =
     link-line-requires
     enum-known-question
     row-fits-requires
-    enum-told
-    enum-told-2
+    enum-known-fault
     returns
-    returns-2
-    returns-3)
+    returns-2)

@@ -6,7 +6,7 @@ use lib.ListN.{length}
 use Rattle.tree_question.specs.Questions.{questionsAt}
 use Rattle.tree_line.specs.Lines.{linesAt}
 use Rattle.tree_survey_lines.proofs.Counting.{next-in}
-use Rattle.link_alone.proofs.Judging.{Going, judged-on, judged-node, judged-question, judged-lone, judged-last, judged-none}
+use Rattle.link_alone.proofs.Judging.{Going, judged-on, judged-refused, judged-last, judged-none}
 use borrow.Author.Needs.{needs}
 use Rattle.link_alone.proofs.judge_lines.Statement.{statement}
 use Rattle.link_alone.proofs.judge_lines.Tie as tie
@@ -44,26 +44,14 @@ loop-less c = omega (arith, next-in _ _ (sym (c .before .before .before .before 
 loop-again : tie.Need-loop-again Inv-loop μ-loop
 loop-again c = judged-on _ _ _ _ (c .before .before .before .before .before .before .before .before .before .loop .inv) (sym (c .before .before .before .before .before .before .line .given .1) ∙ c .before .before .before .before .before .before .before .before .next-line .ensures) (c .before .before .before .before .judge-line .ensures) (sym (c .before .before .fit .given .1)) (c .both .ensures) (omega (arith, next-in _ _ (sym (c .before .before .before .before .before .before .line .given .1) ∙ c .before .before .before .before .before .before .before .before .next-line .ensures)))
 
-enum-known-line-2 : tie.Need-enum-known-line-2 Inv-loop μ-loop
-enum-known-line-2 c = search needs
+enum-known-fault : tie.Need-enum-known-fault Inv-loop μ-loop
+enum-known-fault c = search needs
 
 returns : tie.Need-returns Inv-loop μ-loop
-returns c = judged-node _ _ _ _ (c .before .before .before .before .before .before .before .before .loop .inv) (sym (c .before .before .before .before .before .line .given .1) ∙ c .before .before .before .before .before .before .before .next-line .ensures) (c .before .before .before .judge-line .ensures) (sym (c .before .line2 .given .1))
+returns c = judged-refused _ _ _ _ (c .before .before .before .before .before .before .before .before .loop .inv) (sym (c .before .before .before .before .before .line .given .1) ∙ c .before .before .before .before .before .before .before .next-line .ensures) (c .before .before .before .judge-line .ensures) (sym (c .before .fault .given .1))
 
-enum-known-line-3 : tie.Need-enum-known-line-3 Inv-loop μ-loop
-enum-known-line-3 c = search needs
-
-returns-2 : tie.Need-returns-2 Inv-loop μ-loop
-returns-2 c = judged-question _ _ _ _ (c .before .before .before .before .before .before .before .before .loop .inv) (sym (c .before .before .before .before .before .line .given .1) ∙ c .before .before .before .before .before .before .before .next-line .ensures) (c .before .before .before .judge-line .ensures) (sym (c .before .line3 .given .1))
-
-enum-told : tie.Need-enum-told Inv-loop μ-loop
-enum-told c = search needs
-
-returns-3 : tie.Need-returns-3 Inv-loop μ-loop
-returns-3 c = judged-lone _ _ _ _ (c .before .before .before .before .before .before .before .loop .inv) (sym (c .before .before .before .before .line .given .1) ∙ c .before .before .before .before .before .before .next-line .ensures) (c .before .before .judge-line .ensures) (sym (c .enum-told .given .1))
-
-enum-known-line-4 : tie.Need-enum-known-line-4 Inv-loop μ-loop
-enum-known-line-4 c = search needs
+enum-known-line-2 : tie.Need-enum-known-line-2 Inv-loop μ-loop
+enum-known-line-2 c = search needs
 
 judge-line-requires-2 : tie.Need-judge-line-requires-2 Inv-loop μ-loop
 judge-line-requires-2 c κs = c .before .before .before .before .before .before .before .pre
@@ -71,14 +59,14 @@ judge-line-requires-2 c κs = c .before .before .before .before .before .before 
 last-judged-requires : tie.Need-last-judged-requires Inv-loop μ-loop
 last-judged-requires c κs = search needs
 
-returns-4 : tie.Need-returns-4 Inv-loop μ-loop
-returns-4 c = judged-last _ _ _ _ (c .before .before .before .before .before .before .loop .inv) (sym (c .before .before .before .line4 .given .1) ∙ c .before .before .before .before .before .next-line .ensures) (c .before .judge-line2 .ensures) (c .last-judged .ensures)
+returns-2 : tie.Need-returns-2 Inv-loop μ-loop
+returns-2 c = judged-last _ _ _ _ (c .before .before .before .before .before .before .loop .inv) (sym (c .before .before .before .line2 .given .1) ∙ c .before .before .before .before .before .next-line .ensures) (c .before .judge-line2 .ensures) (c .last-judged .ensures)
 
-enum-told-2 : tie.Need-enum-told-2 Inv-loop μ-loop
-enum-told-2 c = search needs
+enum-told : tie.Need-enum-told Inv-loop μ-loop
+enum-told c = search needs
 
-returns-5 : tie.Need-returns-5 Inv-loop μ-loop
-returns-5 c = judged-none _ _ _ _ (c .before .before .before .loop .inv) (sym (c .enum-told2 .given .1) ∙ c .before .before .next-line .ensures)
+returns-3 : tie.Need-returns-3 Inv-loop μ-loop
+returns-3 c = judged-none _ _ _ _ (c .before .before .before .loop .inv) (sym (c .enum-told .given .1) ∙ c .before .before .next-line .ensures)
 
 pub judge-lines-spec : {M : Type 1} → statement M
 judge-lines-spec =
@@ -95,15 +83,11 @@ judge-lines-spec =
     add-k
     loop-less
     loop-again
-    enum-known-line-2
+    enum-known-fault
     returns
-    enum-known-line-3
-    returns-2
-    enum-told
-    returns-3
-    enum-known-line-4
+    enum-known-line-2
     judge-line-requires-2
     last-judged-requires
-    returns-4
-    enum-told-2
-    returns-5)
+    returns-2
+    enum-told
+    returns-3)

@@ -4,6 +4,7 @@ use mathlib.Core.Bool.{Bool, true, false, cond}
 use mathlib.Core.List.{List}
 use Prim.Native.Nat.{ℕ}
 use Rattle.written.specs.Said.{QuestionPlace}
+use Rattle.error.specs.declared.LinkFault.the-variants.{NodeRef}
 use Rattle.tree_line.specs.declared.Line.{Line}
 use Rattle.text_parts.specs.Parts.{partInside}
 use Rattle.link_search.specs.declared.Found.{Found}
@@ -18,24 +19,24 @@ use Rattle.link_alone.proofs.link_line.Statement.{statement}
 use Rattle.link_alone.proofs.link_line.Tie as tie
 
 module _ (s : List ℕ) (qs : List QuestionPlace) (ls : List Line) (l : Line) {y : Target} (p : y ≡ targetIn ls (l .yes)) where
-  yes-nowhere : {b : Bool} → b ≡ nowhere y → b ≡ true → link.NodeRef ≡ linkIn s qs ls l
+  yes-nowhere : {b : Bool} → b ≡ nowhere y → b ≡ true → link.Fails NodeRef ≡ linkIn s qs ls l
   unfolding linkIn linkOf
-  yes-nowhere e h = sym (ap (λ (x : Bool). cond x link.NodeRef (cond (nowhere (targetIn ls (l .no))) link.NodeRef (linkAsked (targetIn ls (l .yes)) (targetIn ls (l .no)) (asked s (partInside s (l .start) (l .len)) qs)))) (ap nowhere (sym p) ∙ sym e ∙ h))
+  yes-nowhere e h = sym (ap (λ (x : Bool). cond x (link.Fails NodeRef) (cond (nowhere (targetIn ls (l .no))) (link.Fails NodeRef) (linkAsked (targetIn ls (l .yes)) (targetIn ls (l .no)) (asked s (partInside s (l .start) (l .len)) qs)))) (ap nowhere (sym p) ∙ sym e ∙ h))
 
   module _ {n : Target} (q : n ≡ targetIn ls (l .no)) {b : Bool} (e : b ≡ nowhere y) (h : b ≡ false) where
-    past-yes : linkIn s qs ls l ≡ cond (nowhere n) link.NodeRef (linkAsked y n (asked s (partInside s (l .start) (l .len)) qs))
+    past-yes : linkIn s qs ls l ≡ cond (nowhere n) (link.Fails NodeRef) (linkAsked y n (asked s (partInside s (l .start) (l .len)) qs))
     unfolding linkIn linkOf
     past-yes =
         ap₂ (λ (u v : Target). linkOf u v (asked s (partInside s (l .start) (l .len)) qs)) (sym p) (sym q)
-        ∙ ap (λ (x : Bool). cond x link.NodeRef (cond (nowhere n) link.NodeRef (linkAsked y n (asked s (partInside s (l .start) (l .len)) qs)))) (sym e ∙ h)
+        ∙ ap (λ (x : Bool). cond x (link.Fails NodeRef) (cond (nowhere n) (link.Fails NodeRef) (linkAsked y n (asked s (partInside s (l .start) (l .len)) qs)))) (sym e ∙ h)
 
-    no-nowhere : {c : Bool} → c ≡ nowhere n → c ≡ true → link.NodeRef ≡ linkIn s qs ls l
-    no-nowhere f k = sym (past-yes ∙ ap (λ (x : Bool). cond x link.NodeRef (linkAsked y n (asked s (partInside s (l .start) (l .len)) qs))) (sym f ∙ k))
+    no-nowhere : {c : Bool} → c ≡ nowhere n → c ≡ true → link.Fails NodeRef ≡ linkIn s qs ls l
+    no-nowhere f k = sym (past-yes ∙ ap (λ (x : Bool). cond x (link.Fails NodeRef) (linkAsked y n (asked s (partInside s (l .start) (l .len)) qs))) (sym f ∙ k))
 
     then-asked : {c : Bool} → c ≡ nowhere n → c ≡ false → {r : Found} {w : List ℕ} → w ≡ partInside s (l .start) (l .len) → r ≡ asked s w qs → linkAsked y n r ≡ linkIn s qs ls l
     then-asked f k w t =
         ap (linkAsked y n) (t ∙ ap (λ (x : List ℕ). asked s x qs) w)
-        ∙ sym (past-yes ∙ ap (λ (x : Bool). cond x link.NodeRef (linkAsked y n (asked s (partInside s (l .start) (l .len)) qs))) (sym f ∙ k))
+        ∙ sym (past-yes ∙ ap (λ (x : Bool). cond x (link.Fails NodeRef) (linkAsked y n (asked s (partInside s (l .start) (l .len)) qs))) (sym f ∙ k))
 
 target-of-requires : tie.Need-target-of-requires
 target-of-requires c κs = search needs

@@ -40,17 +40,11 @@ spread-leaves-requires c κs = search needs
 write-lines-requires : tie.Need-write-lines-requires
 write-lines-requires c κs = search needs
 
-enum-known-line : tie.Need-enum-known-line
-enum-known-line c = search needs
+enum-known-fault : tie.Need-enum-known-fault
+enum-known-fault c = search needs
 
 zero-requires : tie.Need-zero-requires
 zero-requires c κs = search needs
-
-enum-known-line-2 : tie.Need-enum-known-line-2
-enum-known-line-2 c = search needs
-
-zero-requires-2 : tie.Need-zero-requires-2
-zero-requires-2 c κs = search needs
 
 same-length : tie.Need-same-length
 same-length c = search needs
@@ -77,20 +71,7 @@ returns-2 c =
     let room = size₂ (a .work .now) (a .n) (a .leaves) (a .rows .now) (pre .1) (pre .2) _ (c .before .before .before .before .before .before .before .before .before .before .before .before .before .before .before .before .before .sort-leaves .ensures) _ (c .before .before .before .before .before .before .before .before .before .before .before .before .before .index-lines .ensures .1) ∙ pre .2 in
     let r = c .before .before .before .before .before .before .before .before .before .resolve-lines in
     let o = outcome-is (a .work .now) (a .n) (a .leaves) _ (pre .1) room there (r .ensures .0) in
-    ended o (c .before .before .before .before .before .line .given .1) (c .before .before .zero .ensures ∙ ap (λ (k : ℕ). replicate k 0) (r .kept .1 .1 .0 ∙ room ∙ sym (pre .2)))
-
-same-length-3 : tie.Need-same-length-3
-same-length-3 c = search needs
-
-returns-3 : tie.Need-returns-3
-returns-3 c =
-    let a = c .before .before .before .before .before .before .before .before .before .before .before .before .before .before .before .before .before .before .before .before .args in
-    let pre = c .before .before .before .before .before .before .before .before .before .before .before .before .before .before .before .before .before .before .before .before .pre in
-    let there = leaves-there (a .work .now) (a .n) (a .leaves) (a .rows .now) (pre .1) (pre .2) _ (c .before .before .before .before .before .before .before .before .before .before .before .before .before .before .before .before .before .sort-leaves .ensures) _ (c .before .before .before .before .before .before .before .before .before .before .before .before .before .index-lines .ensures .1) in
-    let room = size₂ (a .work .now) (a .n) (a .leaves) (a .rows .now) (pre .1) (pre .2) _ (c .before .before .before .before .before .before .before .before .before .before .before .before .before .before .before .before .before .sort-leaves .ensures) _ (c .before .before .before .before .before .before .before .before .before .before .before .before .before .index-lines .ensures .1) ∙ pre .2 in
-    let r = c .before .before .before .before .before .before .before .before .before .resolve-lines in
-    let o = outcome-is (a .work .now) (a .n) (a .leaves) _ (pre .1) room there (r .ensures .0) in
-    ended o (c .before .before .before .before .before .line2 .given .1) (c .before .before .zero2 .ensures ∙ ap (λ (k : ℕ). replicate k 0) (r .kept .1 .1 .0 ∙ room ∙ sym (pre .2)))
+    ended o (c .before .before .before .before .before .fault .given .1) (c .before .before .zero .ensures ∙ ap (λ (k : ℕ). replicate k 0) (r .kept .1 .1 .0 ∙ room ∙ sym (pre .2)))
 
 pub link-tree-spec : {M : Type 1} → statement M
 link-tree-spec =
@@ -103,13 +84,9 @@ link-tree-spec =
     mul-spread-leaves
     spread-leaves-requires
     write-lines-requires
-    enum-known-line
+    enum-known-fault
     zero-requires
-    enum-known-line-2
-    zero-requires-2
     same-length
     returns
     same-length-2
-    returns-2
-    same-length-3
-    returns-3)
+    returns-2)

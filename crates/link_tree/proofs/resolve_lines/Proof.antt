@@ -3,7 +3,7 @@ use mathlib.Core.Path.{_≡_, refl}
 use Prim.Native.Nat.{_-_}
 use native.Mathlib.Omega.{arith}
 use borrow.Author.Needs.{needs}
-use Rattle.link_tree.proofs.Laws.{Resolving, resolve-none, resolve-more, resolve-node, resolve-question, resolve-done}
+use Rattle.link_tree.proofs.Laws.{Resolving, resolve-none, resolve-more, resolve-fails, resolve-done}
 use Rattle.link_tree.proofs.resolve_lines.Statement.{statement}
 use Rattle.link_tree.proofs.resolve_lines.Tie as tie
 
@@ -34,23 +34,14 @@ add-put2 c = search needs
 put2-requires : tie.Need-put2-requires Inv-loop μ-loop
 put2-requires c κs = omega (arith, c .before .before .before .before .before .before .before .loop .inv .ready .room, c .before .before .before .before .before .before .loop-test .taken)
 
-enum-told : tie.Need-enum-told Inv-loop μ-loop
-enum-told c = search needs
+enum-known-fault : tie.Need-enum-known-fault Inv-loop μ-loop
+enum-known-fault c = search needs
 
 same-length : tie.Need-same-length Inv-loop μ-loop
-same-length c = c .before .before .before .before .before .loop .inv .long
+same-length c = c .before .before .before .before .before .before .loop .inv .long
 
 returns : tie.Need-returns Inv-loop μ-loop
-returns c = resolve-node _ _ _ _ _ _ _ (c .before .before .before .before .before .loop .inv) (c .before .before .before .before .loop-test .taken) (c .before .before .resolve-line .ensures) (c .enum-told .given .1)
-
-enum-told-2 : tie.Need-enum-told-2 Inv-loop μ-loop
-enum-told-2 c = search needs
-
-same-length-2 : tie.Need-same-length-2 Inv-loop μ-loop
-same-length-2 c = c .before .before .before .before .before .loop .inv .long
-
-returns-2 : tie.Need-returns-2 Inv-loop μ-loop
-returns-2 c = resolve-question _ _ _ _ _ _ _ (c .before .before .before .before .before .loop .inv) (c .before .before .before .before .loop-test .taken) (c .before .before .resolve-line .ensures) (c .enum-told2 .given .1)
+returns c = resolve-fails _ _ _ _ _ _ _ (c .before .before .before .before .before .before .loop .inv) (c .before .before .before .before .before .loop-test .taken) (c .before .before .before .resolve-line .ensures) (c .before .fault .given .1)
 
 add-line : tie.Need-add-line Inv-loop μ-loop
 add-line c = search needs
@@ -61,11 +52,11 @@ loop-less c = search needs
 loop-again : tie.Need-loop-again Inv-loop μ-loop
 loop-again c = resolve-more _ _ _ _ _ _ _ (c .before .before .before .before .before .before .before .before .before .before .loop .inv) (c .before .before .before .before .before .before .before .before .before .loop-test .taken) (c .before .before .before .before .before .before .before .resolve-line .ensures) _ _ (c .before .before .before .before .before .yes .given .1) _ (c .before .before .put2 .ensures)
 
-same-length-3 : tie.Need-same-length-3 Inv-loop μ-loop
-same-length-3 c = c .before .loop .inv .long
+same-length-2 : tie.Need-same-length-2 Inv-loop μ-loop
+same-length-2 c = c .before .loop .inv .long
 
-returns-3 : tie.Need-returns-3 Inv-loop μ-loop
-returns-3 c = resolve-done _ _ _ _ _ _ _ (c .before .loop .inv) (c .loop-test .left)
+returns-2 : tie.Need-returns-2 Inv-loop μ-loop
+returns-2 c = resolve-done _ _ _ _ _ _ _ (c .before .loop .inv) (c .loop-test .left)
 
 pub resolve-lines-spec : {M : Type 1} → statement M
 resolve-lines-spec =
@@ -80,14 +71,11 @@ resolve-lines-spec =
     mul-put2-2
     add-put2
     put2-requires
-    enum-told
+    enum-known-fault
     same-length
     returns
-    enum-told-2
-    same-length-2
-    returns-2
     add-line
     loop-less
     loop-again
-    same-length-3
-    returns-3)
+    same-length-2
+    returns-2)

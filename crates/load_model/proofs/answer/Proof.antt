@@ -10,17 +10,11 @@ use Rattle.load_model.proofs.answer.Lts as lts
 enum-told : tie.Need-enum-told
 enum-told c = search needs
 
-mul-t9 : tie.Need-mul-t9
-mul-t9 c = search needs
+mul-t7 : tie.Need-mul-t7
+mul-t7 c = search needs
 
 enum-known-linked : tie.Need-enum-known-linked
 enum-known-linked c = search needs
-
-enum-known-linked-2 : tie.Need-enum-known-linked-2
-enum-known-linked-2 c = search needs
-
-enum-known-linked-3 : tie.Need-enum-known-linked-3
-enum-known-linked-3 c = search needs
 
 returns : tie.Need-returns
 returns c = sym (ap (answerFor (c .before .before .before .args .p)) (c .before .enum-told .given .1))
@@ -28,22 +22,12 @@ returns c = sym (ap (answerFor (c .before .before .before .args .p)) (c .before 
 returns-2 : tie.Need-returns-2
 returns-2 c = sym (ap (answerFor (c .before .before .before .args .p)) (c .before .linked .given .1))
 
-returns-3 : tie.Need-returns-3
-returns-3 c = sym (ap (answerFor (c .before .before .before .args .p)) (c .before .linked2 .given .1))
-
-returns-4 : tie.Need-returns-4
-returns-4 c = sym (ap (answerFor (c .before .before .before .args .p)) (c .before .linked3 .given .1))
-
 pub answer-spec : {M : Type 1} → statement M
 answer-spec =
     tie.close
     (tie.spec
     enum-told
-    mul-t9
+    mul-t7
     enum-known-linked
-    enum-known-linked-2
-    enum-known-linked-3
     returns
-    returns-2
-    returns-3
-    returns-4)
+    returns-2)

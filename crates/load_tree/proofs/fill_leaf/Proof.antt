@@ -35,7 +35,10 @@ returns c =
     )
 
 returns-2 : tie.Need-returns-2
-returns-2 c = search needs
+returns-2 c =
+    let a = c .before .before .before .args in
+    let x = c .enum-told .given .1 in
+    (ap (λ x. leafResult x .ends) (sym x), ap (λ x. sets (a .records .now) (a .first) (leafResult x .rows)) (sym x))
 
 pub fill-leaf-spec : {M : Type 1} → statement M
 fill-leaf-spec =

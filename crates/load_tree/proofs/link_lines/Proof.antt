@@ -33,11 +33,8 @@ link-tree-requires c κs = search needs
 enum-told : tie.Need-enum-told
 enum-told c = search needs
 
-enum-known-line : tie.Need-enum-known-line
-enum-known-line c = search needs
-
-enum-known-line-2 : tie.Need-enum-known-line-2
-enum-known-line-2 c = search needs
+enum-known-fault : tie.Need-enum-known-fault
+enum-known-fault c = search needs
 
 same-length : tie.Need-same-length
 same-length c = search needs
@@ -55,16 +52,7 @@ returns-2 : tie.Need-returns-2
 returns-2 c =
     let a = c .before .before .before .before .before .before .before .before .args in
     let p = linked-part (a .work .now) (a .lines) (a .needed) (a .records .now) (a .first) (c .before .before .before .before .before .before .before .before .pre .2) _ refl (part-length (a .work .now) (a .lines) (a .needed) (a .records .now) (a .first) (c .before .before .before .before .before .before .before .before .pre .2)) (c .before .before .before .before .before .link-tree .kept .1 .1 .1 .0) (c .before .before .before .before .before .link-tree .ensures) in
-    (ap (linkEnds (a .lines) (a .needed)) (sym (c .before .line .given .1)) ∙ p .0, p .1)
-
-same-length-3 : tie.Need-same-length-3
-same-length-3 c = search needs
-
-returns-3 : tie.Need-returns-3
-returns-3 c =
-    let a = c .before .before .before .before .before .before .before .before .args in
-    let p = linked-part (a .work .now) (a .lines) (a .needed) (a .records .now) (a .first) (c .before .before .before .before .before .before .before .before .pre .2) _ refl (part-length (a .work .now) (a .lines) (a .needed) (a .records .now) (a .first) (c .before .before .before .before .before .before .before .before .pre .2)) (c .before .before .before .before .before .link-tree .kept .1 .1 .1 .0) (c .before .before .before .before .before .link-tree .ensures) in
-    (ap (linkEnds (a .lines) (a .needed)) (sym (c .before .line2 .given .1)) ∙ p .0, p .1)
+    (ap (linkEnds (a .lines) (a .needed)) (sym (c .before .fault .given .1)) ∙ p .0, p .1)
 
 pub link-lines-spec : {M : Type 1} → statement M
 link-lines-spec =
@@ -79,11 +67,8 @@ link-lines-spec =
     part-link-tree-end
     link-tree-requires
     enum-told
-    enum-known-line
-    enum-known-line-2
+    enum-known-fault
     same-length
     returns
     same-length-2
-    returns-2
-    same-length-3
-    returns-3)
+    returns-2)

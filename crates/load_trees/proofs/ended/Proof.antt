@@ -13,23 +13,11 @@ enum-told c = search needs
 enum-known-filled : tie.Need-enum-known-filled
 enum-known-filled c = search needs
 
-enum-known-filled-2 : tie.Need-enum-known-filled-2
-enum-known-filled-2 c = search needs
-
-enum-told-2 : tie.Need-enum-told-2
-enum-told-2 c = search needs
-
 returns : tie.Need-returns
 returns c = search needs
 
 returns-2 : tie.Need-returns-2
 returns-2 c = sym (ap (endedAt (c .before .before .before .args .row)) (c .before .filled .given .1))
-
-returns-3 : tie.Need-returns-3
-returns-3 c = sym (ap (endedAt (c .before .before .before .args .row)) (c .before .filled2 .given .1))
-
-returns-4 : tie.Need-returns-4
-returns-4 c = sym (ap (endedAt (c .before .before .args .row)) (c .enum-told2 .given .1))
 
 pub ended-spec : {M : Type 1} → statement M
 ended-spec =
@@ -37,9 +25,5 @@ ended-spec =
     (tie.spec
     enum-told
     enum-known-filled
-    enum-known-filled-2
-    enum-told-2
     returns
-    returns-2
-    returns-3
-    returns-4)
+    returns-2)

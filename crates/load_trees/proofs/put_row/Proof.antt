@@ -17,12 +17,6 @@ put-tree-requires c κs = search needs
 enum-told : tie.Need-enum-told
 enum-told c = search needs
 
-enum-told-2 : tie.Need-enum-told-2
-enum-told-2 c = search needs
-
-enum-told-3 : tie.Need-enum-told-3
-enum-told-3 c = search needs
-
 same-length : tie.Need-same-length
 same-length c = search needs
 
@@ -34,12 +28,6 @@ returns c =
 returns-2 : tie.Need-returns-2
 returns-2 c = search needs
 
-returns-3 : tie.Need-returns-3
-returns-3 c = search needs
-
-returns-4 : tie.Need-returns-4
-returns-4 c = search needs
-
 pub put-row-spec : {M : Type 1} → statement M
 put-row-spec =
     tie.close
@@ -47,10 +35,6 @@ put-row-spec =
     enum-known-filled
     put-tree-requires
     enum-told
-    enum-told-2
-    enum-told-3
     same-length
     returns
-    returns-2
-    returns-3
-    returns-4)
+    returns-2)

@@ -27,18 +27,6 @@ enum-told-3 c = search needs
 ended-requires : tie.Need-ended-requires
 ended-requires c κs = search needs
 
-enum-told-4 : tie.Need-enum-told-4
-enum-told-4 c = search needs
-
-ended-requires-2 : tie.Need-ended-requires-2
-ended-requires-2 c κs = search needs
-
-enum-told-5 : tie.Need-enum-told-5
-enum-told-5 c = search needs
-
-ended-requires-3 : tie.Need-ended-requires-3
-ended-requires-3 c κs = search needs
-
 returns : tie.Need-returns
 returns c =
     let a = c .before .before .before .before .before .before .before .before .args in
@@ -63,18 +51,6 @@ returns-4 c =
     let d = c .before .enum-told3 .given .1 in
     ap following.End (c .ended .ensures ∙ ap (endedAt (a .row)) d) ∙ sym (ap (followsAt (a .s .now) (a .row) (a .next)) d)
 
-returns-5 : tie.Need-returns-5
-returns-5 c =
-    let a = c .before .before .before .before .args in
-    let d = c .before .enum-told4 .given .1 in
-    ap following.End (c .ended2 .ensures ∙ ap (endedAt (a .row)) d) ∙ sym (ap (followsAt (a .s .now) (a .row) (a .next)) d)
-
-returns-6 : tie.Need-returns-6
-returns-6 c =
-    let a = c .before .before .before .before .args in
-    let d = c .before .enum-told5 .given .1 in
-    ap following.End (c .ended3 .ensures ∙ ap (endedAt (a .row)) d) ∙ sym (ap (followsAt (a .s .now) (a .row) (a .next)) d)
-
 pub what-follows-spec : {M : Type 1} → statement M
 what-follows-spec =
     tie.close
@@ -86,13 +62,7 @@ what-follows-spec =
     enum-told-2
     enum-told-3
     ended-requires
-    enum-told-4
-    ended-requires-2
-    enum-told-5
-    ended-requires-3
     returns
     returns-2
     returns-3
-    returns-4
-    returns-5
-    returns-6)
+    returns-4)

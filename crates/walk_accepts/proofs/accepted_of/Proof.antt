@@ -14,12 +14,6 @@ enum-known-judged c = search needs
 enum-known-judged-2 : tie.Need-enum-known-judged-2
 enum-known-judged-2 c = search needs
 
-enum-known-judged-3 : tie.Need-enum-known-judged-3
-enum-known-judged-3 c = search needs
-
-enum-told : tie.Need-enum-told
-enum-told c = search needs
-
 returns : tie.Need-returns
 returns c = sym (ap (acceptedOf (c .before .before .before .before .args .tree)) (c .before .before .judged .given .1) ∙ ap (λ (b : Bool). cond b accepted.Yes (accepted.Refused refusal.OtherRows)) (c .if1 .taken))
 
@@ -29,22 +23,12 @@ returns-2 c = sym (ap (acceptedOf (c .before .before .before .before .args .tree
 returns-3 : tie.Need-returns-3
 returns-3 c = sym (ap (acceptedOf (c .before .before .before .args .tree)) (c .before .judged2 .given .1))
 
-returns-4 : tie.Need-returns-4
-returns-4 c = sym (ap (acceptedOf (c .before .before .before .args .tree)) (c .before .judged3 .given .1))
-
-returns-5 : tie.Need-returns-5
-returns-5 c = sym (ap (acceptedOf (c .before .before .args .tree)) (c .enum-told .given .1))
-
 pub accepted-of-spec : {M : Type 1} → statement M
 accepted-of-spec =
     tie.close
     (tie.spec
     enum-known-judged
     enum-known-judged-2
-    enum-known-judged-3
-    enum-told
     returns
     returns-2
-    returns-3
-    returns-4
-    returns-5)
+    returns-3)

@@ -1,9 +1,18 @@
 -- `Refusal::told`: each arm says which case it was.
-use mathlib.Core.Path.{sym, ap, _∙_}
+use mathlib.Core.Path.{_≡_, sym, ap, _∙_}
+use Prim.Native.Nat.{ℕ}
 use borrow.Author.Needs.{needs}
-use Rattle.error.specs.Numbers.{toldOf}
+use Rattle.error.specs.Numbers.{faultNumber, toldOf}
+use Rattle.error.specs.declared.LinkFault.{LinkFault}
+use Rattle.error.specs.declared.Refusal.{Refusal}
+use Rattle.error.specs.declared.Refusal.the-variants.{Unlinked}
+use Rattle.error.specs.declared.Told.{Told}
 use Rattle.error.proofs.Refusal.told.Statement.{statement}
 use Rattle.error.proofs.Refusal.told.Tie as tie
+
+-- the number is that of the fault
+unlinked : {t : Told} {r : Refusal} {f : LinkFault} {n i k : ℕ} → t ≡ (record { number = n; place = i; line = k }) → n ≡ faultNumber f → r ≡ Unlinked f i k → t ≡ toldOf r
+unlinked {i = i} {k = k} e g h = e ∙ ap (λ (n : ℕ). record { number = n; place = i; line = k }) g ∙ ap toldOf (sym h)
 
 enum-told : tie.Need-enum-told
 enum-told c = search needs
@@ -122,62 +131,53 @@ says-requires-19 c κs = search needs
 enum-known-self-10 : tie.Need-enum-known-self-10
 enum-known-self-10 c = search needs
 
+number-requires : tie.Need-number-requires
+number-requires c κs = search needs
+
 says-requires-20 : tie.Need-says-requires-20
 says-requires-20 c κs = search needs
-
-enum-known-self-11 : tie.Need-enum-known-self-11
-enum-known-self-11 c = search needs
-
-says-requires-21 : tie.Need-says-requires-21
-says-requires-21 c κs = search needs
-
-enum-known-self-12 : tie.Need-enum-known-self-12
-enum-known-self-12 c = search needs
-
-says-requires-22 : tie.Need-says-requires-22
-says-requires-22 c κs = search needs
 
 enum-told-11 : tie.Need-enum-told-11
 enum-told-11 c = search needs
 
-says-requires-23 : tie.Need-says-requires-23
-says-requires-23 c κs = search needs
+says-requires-21 : tie.Need-says-requires-21
+says-requires-21 c κs = search needs
 
 enum-told-12 : tie.Need-enum-told-12
 enum-told-12 c = search needs
 
-says-requires-24 : tie.Need-says-requires-24
-says-requires-24 c κs = search needs
+says-requires-22 : tie.Need-says-requires-22
+says-requires-22 c κs = search needs
 
 enum-told-13 : tie.Need-enum-told-13
 enum-told-13 c = search needs
 
-says-requires-25 : tie.Need-says-requires-25
-says-requires-25 c κs = search needs
+says-requires-23 : tie.Need-says-requires-23
+says-requires-23 c κs = search needs
 
 enum-told-14 : tie.Need-enum-told-14
 enum-told-14 c = search needs
 
-says-requires-26 : tie.Need-says-requires-26
-says-requires-26 c κs = search needs
+says-requires-24 : tie.Need-says-requires-24
+says-requires-24 c κs = search needs
 
 enum-told-15 : tie.Need-enum-told-15
 enum-told-15 c = search needs
 
-says-requires-27 : tie.Need-says-requires-27
-says-requires-27 c κs = search needs
+says-requires-25 : tie.Need-says-requires-25
+says-requires-25 c κs = search needs
 
 enum-told-16 : tie.Need-enum-told-16
 enum-told-16 c = search needs
 
-says-requires-28 : tie.Need-says-requires-28
-says-requires-28 c κs = search needs
+says-requires-26 : tie.Need-says-requires-26
+says-requires-26 c κs = search needs
 
 enum-told-17 : tie.Need-enum-told-17
 enum-told-17 c = search needs
 
-says-requires-29 : tie.Need-says-requires-29
-says-requires-29 c κs = search needs
+says-requires-27 : tie.Need-says-requires-27
+says-requires-27 c κs = search needs
 
 returns : tie.Need-returns
 returns c = c .says .ensures ∙ ap toldOf (sym (c .before .enum-told .given .1))
@@ -237,34 +237,28 @@ returns-19 : tie.Need-returns-19
 returns-19 c = c .says19 .ensures ∙ ap toldOf (sym (c .before .enum-told10 .given .1))
 
 returns-20 : tie.Need-returns-20
-returns-20 c = c .says20 .ensures ∙ ap toldOf (sym (c .before .before .self10 .given .1))
+returns-20 c = unlinked (c .says20 .ensures) (c .before .number .ensures) (c .before .before .before .self10 .given .1)
 
 returns-21 : tie.Need-returns-21
-returns-21 c = c .says21 .ensures ∙ ap toldOf (sym (c .before .before .self11 .given .1))
+returns-21 c = c .says21 .ensures ∙ ap toldOf (sym (c .before .enum-told11 .given .1))
 
 returns-22 : tie.Need-returns-22
-returns-22 c = c .says22 .ensures ∙ ap toldOf (sym (c .before .before .self12 .given .1))
+returns-22 c = c .says22 .ensures ∙ ap toldOf (sym (c .before .enum-told12 .given .1))
 
 returns-23 : tie.Need-returns-23
-returns-23 c = c .says23 .ensures ∙ ap toldOf (sym (c .before .enum-told11 .given .1))
+returns-23 c = c .says23 .ensures ∙ ap toldOf (sym (c .before .enum-told13 .given .1))
 
 returns-24 : tie.Need-returns-24
-returns-24 c = c .says24 .ensures ∙ ap toldOf (sym (c .before .enum-told12 .given .1))
+returns-24 c = c .says24 .ensures ∙ ap toldOf (sym (c .before .enum-told14 .given .1))
 
 returns-25 : tie.Need-returns-25
-returns-25 c = c .says25 .ensures ∙ ap toldOf (sym (c .before .enum-told13 .given .1))
+returns-25 c = c .says25 .ensures ∙ ap toldOf (sym (c .before .enum-told15 .given .1))
 
 returns-26 : tie.Need-returns-26
-returns-26 c = c .says26 .ensures ∙ ap toldOf (sym (c .before .enum-told14 .given .1))
+returns-26 c = c .says26 .ensures ∙ ap toldOf (sym (c .before .enum-told16 .given .1))
 
 returns-27 : tie.Need-returns-27
-returns-27 c = c .says27 .ensures ∙ ap toldOf (sym (c .before .enum-told15 .given .1))
-
-returns-28 : tie.Need-returns-28
-returns-28 c = c .says28 .ensures ∙ ap toldOf (sym (c .before .enum-told16 .given .1))
-
-returns-29 : tie.Need-returns-29
-returns-29 c = c .says29 .ensures ∙ ap toldOf (sym (c .before .enum-told17 .given .1))
+returns-27 c = c .says27 .ensures ∙ ap toldOf (sym (c .before .enum-told17 .given .1))
 
 pub told-spec : {M : Type 1} → statement M
 told-spec =
@@ -309,25 +303,22 @@ told-spec =
     enum-told-10
     says-requires-19
     enum-known-self-10
+    number-requires
     says-requires-20
-    enum-known-self-11
-    says-requires-21
-    enum-known-self-12
-    says-requires-22
     enum-told-11
-    says-requires-23
+    says-requires-21
     enum-told-12
-    says-requires-24
+    says-requires-22
     enum-told-13
-    says-requires-25
+    says-requires-23
     enum-told-14
-    says-requires-26
+    says-requires-24
     enum-told-15
-    says-requires-27
+    says-requires-25
     enum-told-16
-    says-requires-28
+    says-requires-26
     enum-told-17
-    says-requires-29
+    says-requires-27
     returns
     returns-2
     returns-3
@@ -354,6 +345,4 @@ told-spec =
     returns-24
     returns-25
     returns-26
-    returns-27
-    returns-28
-    returns-29)
+    returns-27)
