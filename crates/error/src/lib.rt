@@ -1,5 +1,5 @@
-// After header/error.rs: why a call refuses. `Refusal` has a case for each of 01's numbers from 1 to 25 but 11, with the place that 01 gives it, and for
-// those of 02 that have one. 11 is retired (02, Wish 14): no input gave it, and it is not given again.
+// After header/error.rs: why a call refuses. `Refusal` has a case for each of 01's numbers from 1 to 25 but 11, with the place that 01 gives it (one for
+// linking's three, 21 to 23, with its fault), and for those of 02 that have one. 11 is retired (02, Wish 14): no input gave it, and it is not given again.
 // Only this crate and the C boundary look into its cases; all others build a case or pass it on.
 ghost use mathlib.Core.Path.{_≡_};
 ghost use Rattle.error.specs.Numbers.{faultNumber, toldOf, numberOf, placeOf, lineOf};
