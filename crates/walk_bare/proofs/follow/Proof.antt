@@ -10,13 +10,13 @@ use Rattle.walk_bare.proofs.follow.Statement.{statement}
 use Rattle.walk_bare.proofs.follow.Tie as tie
 
 abbrev Inv-loop : tie.InvT-loop
-Inv-loop s at first n answers limit line₀ asked₀ line asked = Walking s (questionsAt s at .items) answers (linesAt s first .items) limit n line asked
+Inv-loop s at first n answers limit place₀ asked₀ place asked = Walking s (questionsAt s at .items) answers (linesAt s first .items) limit n place asked
 
 abbrev μ-loop : tie.MeasureT-loop
-μ-loop s at first n answers limit line₀ asked₀ line asked = n - asked
+μ-loop s at first n answers limit place₀ asked₀ place asked = n - asked
 
 loop-holds : tie.Need-loop-holds Inv-loop μ-loop
-loop-holds c = walking-none _ _ _ _ _ _ (c .before .before .pre .0) (c .before .before .pre .1)
+loop-holds c = walking-none _ _ _ _ _ _ _ (c .before .before .pre) refl
 
 ask-requires : tie.Need-ask-requires Inv-loop μ-loop
 ask-requires c κs = search needs
@@ -40,7 +40,7 @@ enum-known-number : tie.Need-enum-known-number Inv-loop μ-loop
 enum-known-number c = search needs
 
 returns-3 : tie.Need-returns-3 Inv-loop μ-loop
-returns-3 c = walking-leaf _ _ _ _ (c .before .before .before .before .before .before .before .before .before .before .loop .inv) (sym (c .before .before .before .before .before .before .before .index .given .1) ∙ c .before .before .before .before .before .before .before .before .before .ask .ensures) (c .before .before .before .before .before .if1 .left) (c .before .before .before .before .if2 .left) (sym (c .before .number .given .1) ∙ c .before .before .before .go-to .ensures)
+returns-3 c = walking-leaf _ _ _ _ (c .before .before .before .before .before .before .before .before .before .before .loop .inv) (sym (c .before .before .before .before .before .before .before .index .given .1) ∙ c .before .before .before .before .before .before .before .before .before .ask .ensures) (c .before .before .before .before .before .if1 .left) (c .before .before .before .before .if2 .left) (c .before .before .before .go-to .ensures) (c .before .number .given .1)
 
 enum-known-next : tie.Need-enum-known-next Inv-loop μ-loop
 enum-known-next c = search needs
@@ -49,13 +49,13 @@ loop-less : tie.Need-loop-less Inv-loop μ-loop
 loop-less c = omega (arith, c .before .before .before .before .before .before .before .before .before .before .loop .inv .follows .bounded, c .before .before .before .before .if2 .left)
 
 loop-again : tie.Need-loop-again Inv-loop μ-loop
-loop-again c = walking-on _ _ _ _ (c .before .before .before .before .before .before .before .before .before .before .loop .inv) (sym (c .before .before .before .before .before .before .before .index .given .1) ∙ c .before .before .before .before .before .before .before .before .before .ask .ensures) (c .before .before .before .before .before .if1 .left) (c .before .before .before .before .if2 .left) (sym (c .before .next .given .1) ∙ c .before .before .before .go-to .ensures)
+loop-again c = walking-on _ _ _ _ (c .before .before .before .before .before .before .before .before .before .before .loop .inv) (sym (c .before .before .before .before .before .before .before .index .given .1) ∙ c .before .before .before .before .before .before .before .before .before .ask .ensures) (c .before .before .before .before .before .if1 .left) (c .before .before .before .before .if2 .left) (c .before .before .before .go-to .ensures) (c .before .next .given .1)
 
 enum-told : tie.Need-enum-told Inv-loop μ-loop
 enum-told c = search needs
 
 returns-4 : tie.Need-returns-4 Inv-loop μ-loop
-returns-4 c = walking-wrong _ _ _ _ (c .before .before .before .before .before .before .before .before .before .loop .inv) (sym (c .before .before .before .before .before .before .index .given .1) ∙ c .before .before .before .before .before .before .before .before .ask .ensures) (c .before .before .before .before .if1 .left) (c .before .before .before .if2 .left) (sym (c .enum-told .given .1) ∙ c .before .before .go-to .ensures)
+returns-4 c = walking-wrong _ _ _ _ (c .before .before .before .before .before .before .before .before .before .loop .inv) (sym (c .before .before .before .before .before .before .index .given .1) ∙ c .before .before .before .before .before .before .before .before .ask .ensures) (c .before .before .before .before .if1 .left) (c .before .before .before .if2 .left) (c .before .before .go-to .ensures) (c .enum-told .given .1)
 
 enum-told-2 : tie.Need-enum-told-2 Inv-loop μ-loop
 enum-told-2 c = search needs
