@@ -165,20 +165,20 @@ module _ (s : List ℕ) (qs : List QuestionPlace) (bytes : List ℕ) (ls : List 
 
   -- ---- the loop
 
-  -- at a line's place, after so many questions
-  pub record Walking (limit n : ℕ) (place : ℕ) (asked : ℕ) : Type 0 where
+  -- at a line that was answered, after so many questions
+  pub record Walking (limit n : ℕ) (reply : Reply) (asked : ℕ) : Type 0 where
     pub k : ℕ
     pub inside : k ≤ length ls
-    pub rest : drop k ls ≡ linesAt s place .items
+    pub said : reply ≡ replyFirst s qs bytes (drop k ls)
     pub follows : Following (meetsIn s qs bytes ls) limit n k asked
 
-  pub walking-none : (limit n i : ℕ) → n ≡ length ls → ls ≡ linesAt s i .items → Walking limit n i 0
-  walking-none limit n i e h =
+  pub walking-none : (limit n : ℕ) {r : Reply} → n ≡ length ls → r ≡ replyFirst s qs bytes ls → Walking limit n r 0
+  walking-none limit n e h =
       let z : min limit n - 0 ≡ min limit (length ls) = omega arith in
       record {
         k = 0;
         inside = omega arith;
-        rest = h;
+        said = h;
         follows = record {
           limited = omega arith;
           bounded = omega arith;
@@ -187,14 +187,14 @@ module _ (s : List ℕ) (qs : List QuestionPlace) (bytes : List ℕ) (ls : List 
         };
       }
 
-  module _ {limit n i a : ℕ} (w : Walking limit n i a) where
-    met-here : {r : Reply} → r ≡ replyFirst s qs bytes (linesAt s i .items) → meetsIn s qs bytes ls (w .k) ≡ metReply ls r
-    met-here e = meets-first (w .k) (w .inside) ∙ ap (λ (t : List code.Line). metReply ls (replyFirst s qs bytes t)) (w .rest) ∙ sym (ap (metReply ls) e)
+  module _ {limit n : ℕ} {r : Reply} {a : ℕ} (w : Walking limit n r a) where
+    met-here : {g : Reply} → r ≡ g → meetsIn s qs bytes ls (w .k) ≡ metReply ls g
+    met-here e = meets-first (w .k) (w .inside) ∙ ap (metReply ls) (sym (w .said) ∙ e)
 
-    pub walking-missing : Missing ≡ replyFirst s qs bytes (linesAt s i .items) → walked.Refused WalkTable ≡ walkFrom (meetsIn s qs bytes ls) limit 0
+    pub walking-missing : r ≡ Missing → walked.Refused WalkTable ≡ walkFrom (meetsIn s qs bytes ls) limit 0
     walking-missing e = following-wrong (meetsIn s qs bytes ls) limit n (w .k) a (w .follows) (met-here e)
 
-    module _ {x : TreeIndex} (e : Goes x ≡ replyFirst s qs bytes (linesAt s i .items)) where
+    module _ {x : TreeIndex} (e : r ≡ Goes x) where
       goes-on : meetsIn s qs bytes ls (w .k) ≡ Line (goalIn ls x)
       goes-on = met-here e
 
@@ -214,8 +214,8 @@ module _ (s : List ℕ) (qs : List QuestionPlace) (bytes : List ℕ) (ls : List 
         pub walking-wrong : {g : Goal} → GoesTo s ls x g → g ≡ goal.Nowhere → walked.Refused WalkTable ≡ walkFrom (meetsIn s qs bytes ls) limit 0
         walking-wrong h z = following-wrong (meetsIn s qs bytes ls) limit n (goalIn ls x) (a + 1) further (goal-none h z)
 
-        pub walking-on : {g : Goal} {j : ℕ} → GoesTo s ls x g → g ≡ goal.Line j → Walking limit n j (a + 1)
-        walking-on h z = record { k = goalIn ls x; inside = goal-line h z .0; rest = goal-line h z .1; follows = further }
+        pub walking-on : {g : Goal} {j : ℕ} → GoesTo s ls x g → g ≡ goal.Line j → {t : Reply} → t ≡ replyFirst s qs bytes (linesAt s j .items) → Walking limit n t (a + 1)
+        walking-on h z v = record { k = goalIn ls x; inside = goal-line h z .0; said = v ∙ ap (replyFirst s qs bytes) (sym (goal-line h z .1)); follows = further }
 
 -- ---- where a reference leads
 

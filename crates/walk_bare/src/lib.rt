@@ -81,7 +81,7 @@ fn reply_to(s: &[u8], at: usize, answers: &[u8], line: Line) -> Reply
     }
 }
 
-// The same of the line that stands at a place, which is read there once more: between two lines the walk keeps a place alone, and needs the less stack.
+// The same of the line that stands at a place, where it is parsed once more: no line is kept while others are read.
 fn ask(s: &[u8], at: usize, answers: &[u8], place: usize) -> Reply
     ensures { λ r. ⌜ r ≡ replyFirst (now (s .entry)) (questionsAt (now (s .entry)) at .items) (now (answers .entry)) (linesAt (now (s .entry)) place .items) ⌝ }
 {
@@ -115,14 +115,15 @@ fn go_to(s: &[u8], first: usize, index: TreeIndex) -> Goal
 // ---- line after line
 
 // From the first of n lines on. A line met after as many questions as there are lines was met before: the walk goes round, and whatever the limit is, it is met.
+// It asks in two places, so that asking has a frame of its own, which does not stand below the windows of linking.
 fn follow(s: &[u8], at: usize, first: usize, n: u64, answers: &[u8], limit: u64) -> Walked
     requires { ⌜ n ≡ length (linesAt (now s) first .items) ⌝ }
     ensures { λ r. ⌜ r ≡ walkFrom (meetsIn (now (s .entry)) (questionsAt (now (s .entry)) at .items) (now (answers .entry)) (linesAt (now (s .entry)) first .items)) limit 0 ⌝ }
 {
-    let mut place = first;
+    let mut reply = ask(s, at, answers, first);
     let mut asked: u64 = 0;
     loop {
-        match ask(s, at, answers, place) {
+        match reply {
             Reply::Goes(index) => {
                 if asked == limit {
                     return Walked::Refused(Refusal::Steps);
@@ -136,7 +137,7 @@ fn follow(s: &[u8], at: usize, first: usize, n: u64, answers: &[u8], limit: u64)
                         return Walked::Pdf { number, asked };
                     }
                     Goal::Line(next) => {
-                        place = next;
+                        reply = ask(s, at, answers, next);
                     }
                     Goal::Nowhere => {
                         return Walked::Refused(Refusal::WalkTable);
