@@ -10,13 +10,13 @@ use Rattle.link_window.proofs.mark_all.Statement.{statement}
 use Rattle.link_window.proofs.mark_all.Tie as tie
 
 abbrev Inv-loop : tie.InvT-loop
-Inv-loop s first names met₀ n i₀ met i = Hearing s names met₀ n first met i
+Inv-loop s first names keys₀ n i₀ keys i = Hearing s names keys₀ n first keys i
 
 abbrev μ-loop : tie.MeasureT-loop
-μ-loop s first names met₀ n i₀ met i = length s - i
+μ-loop s first names keys₀ n i₀ keys i = length s - i
 
 loop-holds : tie.Need-loop-holds Inv-loop μ-loop
-loop-holds c = record { long = refl; each = λ j h. refl }
+loop-holds c = record { long = refl; keyed = c .before .before .before .pre .2; each = λ j h. refl }
 
 next-name-requires : tie.Need-next-name-requires Inv-loop μ-loop
 next-name-requires c κs = search needs
@@ -28,7 +28,7 @@ part-inside-requires : tie.Need-part-inside-requires Inv-loop μ-loop
 part-inside-requires c κs = search needs
 
 mark-requires : tie.Need-mark-requires Inv-loop μ-loop
-mark-requires c κs = (omega (arith, c .before .before .before .before .before .before .before .before .before .before .pre .0, c .before .before .before .before .before .before .loop .inv .long), c .before .before .before .before .before .before .before .before .before .before .pre .1)
+mark-requires c κs = (omega (arith, c .before .before .before .before .before .before .before .before .before .before .pre .0, c .before .before .before .before .before .before .loop .inv .long), c .before .before .before .before .before .before .before .before .before .before .pre .1, c .before .before .before .before .before .before .loop .inv .keyed)
 
 loop-less : tie.Need-loop-less Inv-loop μ-loop
 loop-less c = omega (arith, named-next _ _ (sym (c .before .before .before .before .before .before .start .given .1) ∙ c .before .before .before .before .before .before .before .before .next-name .ensures))
@@ -43,7 +43,7 @@ part-inside-requires-2 : tie.Need-part-inside-requires-2 Inv-loop μ-loop
 part-inside-requires-2 c κs = search needs
 
 mark-requires-2 : tie.Need-mark-requires-2 Inv-loop μ-loop
-mark-requires-2 c κs = (omega (arith, c .before .before .before .before .before .before .before .before .before .before .pre .0, c .before .before .before .before .before .before .loop .inv .long), c .before .before .before .before .before .before .before .before .before .before .pre .1)
+mark-requires-2 c κs = (omega (arith, c .before .before .before .before .before .before .before .before .before .before .pre .0, c .before .before .before .before .before .before .loop .inv .long), c .before .before .before .before .before .before .before .before .before .before .pre .1, c .before .before .before .before .before .before .loop .inv .keyed)
 
 same-length : tie.Need-same-length Inv-loop μ-loop
 same-length c = c .before .before .mark2 .ensures .long ∙ c .before .before .before .before .before .before .before .before .before .loop .inv .long
