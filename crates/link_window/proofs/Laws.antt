@@ -46,7 +46,7 @@ use Rattle.link_find.specs.Find.{lastFrom, named, asked}
 use Rattle.link_find.proofs.Finding.{Named, hit}
 use Rattle.link_alone.specs.Alone.{singleIn}
 use Rattle.link_alone.specs.declared.Single.{Single}
-use Rattle.link_window.specs.Windows.{firstFrom, FirstOf, off, none, nameFrom, nameIn, keyOf, Keys, KeyIn, gone, left, Keyed, isGone, heard, Marked, Holds, Taken, more, all, Filling, takenOf, behindOf, noRow, unheard, Windowed, missing, next, clean, faultLines, faultSingle, faultEnding, faultBraces}
+use Rattle.link_window.specs.Windows.{firstFrom, FirstOf, off, none, nameFrom, nameIn, keyOf, Keys, KeyIn, gone, left, Keyed, Gone, isGone, heard, Marked, Holds, Taken, more, all, Filling, takenOf, behindOf, noRow, unheard, Windowed, missing, next, clean, faultLines, faultSingle, faultEnding, faultBraces}
 use Rattle.link_window.specs.declared.Linking.{Linking}
 use Rattle.link_window.specs.declared.Linking.the-variants.{Whole, NodeRef, QuestionRef}
 use Rattle.link_window.specs.declared.Filled.{Filled}
@@ -185,8 +185,12 @@ pub record Marking (m : List ℕ) (p : ℕ → Bool) (e : List ℕ) (j : ℕ) : 
   pub done : (i : ℕ) → i < j → getD e i 0 ≡ cond (p i) 0 (getD m i 0)
   pub left : (i : ℕ) → j ≤ i → getD e i 0 ≡ getD m i 0
 
-pub marking-none : (m : List ℕ) (p : ℕ → Bool) → Marking m p m 0
-marking-none m p = record { long = refl; done = λ i h. absurd (omega arith); left = λ i h. refl }
+gone-stays : (b : Bool) (x : ℕ) → x ≡ 0 → cond b 0 x ≡ 0
+gone-stays true x e = refl
+gone-stays false x e = e
+
+pub marking-from : {m : List ℕ} (p : ℕ → Bool) {low : ℕ} → Gone low m → Marking m p m low
+marking-from {m} p g = record { long = refl; done = λ i h. g .each i h ∙ sym (gone-stays (p i) (getD m i 0) (g .each i h)); left = λ i h. refl }
 
 pub marking-on : {m : List ℕ} {p : ℕ → Bool} {e : List ℕ} {j : ℕ} (v : ℕ) → Marking m p e j → j < length e → v ≡ cond (p j) 0 (getD e j 0) → Marking m p (set e j v) (j + 1)
 marking-on {m} {p} {e} {j} v w h u =
@@ -204,6 +208,23 @@ marking-end w h = record { long = w .long; each = λ i l. w .done i (omega arith
 
 pub marking-key : {s names m : List ℕ} {n : ℕ} {p : ℕ → Bool} {e : List ℕ} {j : ℕ} → Keyed s names n m → Marking m p e j → j < n → KeyIn s (getD names j 0) (getD e j 0)
 marking-key {s} {names} {m} {j = j} k w h = subst (KeyIn s (getD names j 0)) (sym (w .left j (omega arith))) (k .each j h)
+
+-- none is gone yet; one more is; those that are gone stay so
+pub gone-none : {m : List ℕ} → Gone 0 m
+gone-none = record { each = λ j h. absurd (omega arith) }
+
+pub gone-more : {low : ℕ} {m : List ℕ} → Gone low m → getD m low 0 ≡ 0 → Gone (low + 1) m
+gone-more {low} {m} g e = record { each = λ j h. go j h (decLt j low) }
+  where
+    go : (j : ℕ) → j < low + 1 → Dec (j < low) → getD m j 0 ≡ 0
+    go j h (yes l) = g .each j l
+    go j h (no l) = let z : j ≡ low = omega arith in ap (λ (i : ℕ). getD m i 0) z ∙ e
+
+pub gone-fewer : {low n : ℕ} {m : List ℕ} → Gone low m → n ≤ low → Gone n m
+gone-fewer g h = record { each = λ j l. g .each j (omega arith) }
+
+pub marked-gone : {m : List ℕ} {n low : ℕ} {p : ℕ → Bool} {e : List ℕ} → Gone low m → Marked m n p e → low ≤ n → Gone low e
+marked-gone {m} {n} {low} {p} g w h = record { each = λ j l. w .each j (omega arith) ∙ gone-stays (p j) (getD m j 0) (g .each j l) }
 
 marked-keyed : {s names m : List ℕ} {n : ℕ} {p : ℕ → Bool} {e : List ℕ} → Keyed s names n m → Marked m n p e → Keyed s names n e
 marked-keyed {s} {names} {m} {n} {p} {e} k w = record { each = λ j h. subst (KeyIn s (getD names j 0)) (sym (w .each j h)) (go j (p j) (k .each j h)) }
@@ -238,6 +259,14 @@ module _ {s names m : List ℕ} {n first : ℕ} {e : List ℕ} {i : ℕ} (w : He
 
   pub hearing-on : {b k i′ : ℕ} → Named s i b k (questions-from s i′ .items) → {name : List ℕ} → name ≡ partInside s b k → {e′ : List ℕ} → Marked e n (λ (j : ℕ). same name (nameIn s names j)) e′ → Hearing s names m n first e′ i′
   hearing-on q a h = record { long = h .long ∙ w .long; keyed = marked-keyed (w .keyed) h; each = heard-step q a h }
+
+  -- where all are gone, no question is left to hear
+  pub hearing-over : Gone n e → Marked m n (λ (j : ℕ). heard s (nameIn s names j) (questions-from s first .items)) e
+  hearing-over g =
+      record {
+        long = w .long;
+        each = λ j l. g .each j l ∙ sym (gone-stays (heard s (nameIn s names j) (questions-from s i .items)) (getD e j 0) (g .each j l)) ∙ w .each j l;
+      }
 
   pub hearing-none : questions-from s i .items ≡ [] → Marked m n (λ (j : ℕ). heard s (nameIn s names j) (questions-from s first .items)) e
   unfolding heard

@@ -69,6 +69,10 @@ pub data KeyIn (s : List ℕ) (b x : ℕ) : Type 0 where
 pub record Keyed (s names : List ℕ) (n : ℕ) (e : List ℕ) : Type 0 where
   pub each : (j : ℕ) → j < n → KeyIn s (getD names j 0) (getD e j 0)
 
+-- the first of them, so many
+pub record Gone (low : ℕ) (e : List ℕ) : Type 0 where
+  pub each : (j : ℕ) → j < low → getD e j 0 ≡ 0
+
 abbrev pub isGone : ℕ → Bool
 isGone zero = true
 isGone (suc x) = false

@@ -32,7 +32,7 @@ ghost use Rattle.tree_line.specs.Lines.{linesAt};
 ghost use Rattle.tree_question.specs.Questions.{questionStepAt, questionsAt};
 ghost use Rattle.tree_body.specs.Trees.{headAt};
 ghost use Rattle.link_find.specs.Find.{Lines};
-ghost use Rattle.link_window.specs.Windows.{nameFrom, nameIn, keyOf, Keys, KeyIn, Keyed, isGone, heard, Marked, FirstOf, Filling, takenOf, behindOf, Windowed, unheard, strays, firstFrom, faultAlone, faultLines, faultBraces, faultHead};
+ghost use Rattle.link_window.specs.Windows.{nameFrom, nameIn, keyOf, Keys, KeyIn, Keyed, Gone, isGone, heard, Marked, FirstOf, Filling, takenOf, behindOf, Windowed, unheard, strays, firstFrom, faultAlone, faultLines, faultBraces, faultHead};
 
 // How many lines are looked up at a time.
 const WINDOW: usize = 32;
@@ -145,33 +145,67 @@ fn key_after(s: &[u8], start: u64, before: u8, name: &[u8], key: u8) -> u8
     }
 }
 
-// Those of the first n names that are this one.
-fn mark(s: &[u8], names: &[u64], keys: &mut [u8], n: usize, name: &[u8])
-    requires { ⌜ (n ≤ length (now keys)) × (n ≤ length (now names)) × Keyed (now s) (now names) n (now keys) ⌝ }
+// Those of the first n names that are this one. The keys below `low` are gone, and not looked at.
+fn mark(s: &[u8], names: &[u64], keys: &mut [u8], low: usize, n: usize, name: &[u8])
+    requires { ⌜ (n ≤ length (now keys)) × (n ≤ length (now names)) × Keyed (now s) (now names) n (now keys) × Gone low (now keys) ⌝ }
     ensures { λ _. ⌜ Marked (now (keys .entry)) n (λ (j : ℕ). same (now (name .entry)) (nameIn (now (s .entry)) (now (names .entry)) j)) (now (keys .exit)) ⌝ }
 {
     let key = key_of(name);
-    let mut j = 0;
+    let mut j = low;
     while j < n {
         keys[j] = key_after(s, names[j], keys[j], name, key);
         j = j + 1;
     }
 }
 
-// Those that a question from `first` on bears.
+// How many of n keys are gone, from the first on, where so many are.
+fn gone_from(keys: &[u8], low: usize, n: usize) -> usize
+    requires { ⌜ (n ≤ length (now keys)) × Gone low (now keys) ⌝ }
+    ensures { λ r. ⌜ Gone r (now (keys .entry)) ⌝ }
+{
+    let mut j = low;
+    while j < n {
+        if keys[j] != 0 {
+            return j;
+        }
+        j = j + 1;
+    }
+    j
+}
+
+// Those that a question from `first` on bears. Where none is left, no question need be read.
 fn mark_all(s: &[u8], first: usize, names: &[u64], keys: &mut [u8], n: usize)
     requires { ⌜ (n ≤ length (now keys)) × (n ≤ length (now names)) × Keyed (now s) (now names) n (now keys) ⌝ }
     ensures { λ _. ⌜ Marked (now (keys .entry)) n (λ (j : ℕ). heard (now (s .entry)) (nameIn (now (s .entry)) (now (names .entry)) j) (read (questionStepAt (now (s .entry))) (length (now (s .entry))) first .items)) (now (keys .exit)) ⌝ }
 {
     let mut i = first;
+    let mut low = 0;
     loop {
         match next_name(s, i) {
             NameStep::Next { start, len, next } => {
-                mark(s, names, keys, n, part_inside(s, start as u64, len as u64));
+                mark(
+                    s,
+                    names,
+                    keys,
+                    low,
+                    n,
+                    part_inside(s, start as u64, len as u64),
+                );
+                low = gone_from(keys, low, n);
+                if n <= low {
+                    return;
+                }
                 i = next;
             }
             NameStep::Last { start, len } => {
-                mark(s, names, keys, n, part_inside(s, start as u64, len as u64));
+                mark(
+                    s,
+                    names,
+                    keys,
+                    low,
+                    n,
+                    part_inside(s, start as u64, len as u64),
+                );
                 return;
             }
             NameStep::Broken => {

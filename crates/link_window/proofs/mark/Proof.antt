@@ -4,22 +4,22 @@ use native.Mathlib.Omega.{arith}
 use Prim.Native.Nat.{ℕ, _-_}
 use Rattle.written.specs.Bytes.{same}
 use Rattle.link_window.specs.Windows.{nameIn}
-use Rattle.link_window.proofs.Laws.{Marking, marking-none, marking-on, marking-end, marking-key}
+use Rattle.link_window.proofs.Laws.{Marking, marking-from, marking-on, marking-end, marking-key}
 use borrow.Author.Needs.{needs}
 use Rattle.link_window.proofs.mark.Statement.{statement}
 use Rattle.link_window.proofs.mark.Tie as tie
 
 abbrev Inv-loop : tie.InvT-loop
-Inv-loop s names keys₀ n name key j₀ keys j = Marking keys₀ (λ (i : ℕ). same name (nameIn s names i)) keys j
+Inv-loop s names keys₀ low n name key j₀ keys j = Marking keys₀ (λ (i : ℕ). same name (nameIn s names i)) keys j
 
 abbrev μ-loop : tie.MeasureT-loop
-μ-loop s names keys₀ n name key j₀ keys j = n - j
+μ-loop s names keys₀ low n name key j₀ keys j = n - j
 
 key-of-requires : tie.Need-key-of-requires Inv-loop μ-loop
 key-of-requires c κs = search needs
 
 loop-holds : tie.Need-loop-holds Inv-loop μ-loop
-loop-holds c = marking-none _ _
+loop-holds c = marking-from _ (c .before .before .before .before .before .pre .3)
 
 mul-key-after : tie.Need-mul-key-after Inv-loop μ-loop
 mul-key-after c = search needs
