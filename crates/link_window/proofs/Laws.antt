@@ -1,24 +1,38 @@
 -- The laws of windows: the first of a list, marks in a slice, names in a slice, and what a window says of its lines.
 use mathlib.Core.Path.{_≡_, refl, sym, ap, ap₂, _∙_, subst}
-use mathlib.Core.Bool.{Bool, true, false, cond, _&&_, _||_}
+use mathlib.Core.Bool.{Bool, true, false, cond, _||_}
 use mathlib.Core.List.{List, [], _∷_}
-use Prim.Native.Nat.{ℕ, zero, suc, _+_, _-_, _*_, _≤_, _<_}
+use Prim.Native.Nat.{ℕ, zero, suc, _+_, _-_, _*_, _%_, _≤_, _<_}
 use native.Mathlib.Decide.{decLt, ℕ-discrete}
 use native.Mathlib.Numerals.{add-one}
 use native.Mathlib.Omega.{arith}
-use borrow.Author.Tests.{lt-ltb, le-ltb, leb-true}
-use lib.Dec.{leb}
-use lib.ListN.{length, getD, set, drop, length-set, length-drop, replicate}
-use lib.Seq.{getD-set-same, getD-set-other, length-take-le}
-use Rattle.written.specs.Bytes.{same, part}
+use borrow.Author.Tests.{lt-ltb, le-ltb, eq-eqb, ne-eqb}
+use lib.Dec.{ltb, eqb}
+use lib.IntN.{ℤ}
+use lib.ListN.{length, getD, set, drop, length-set}
+use lib.Seq.{getD-set-same, getD-set-other}
+use Rattle.written.specs.Bytes.{same, blank, inName}
 use Rattle.written.specs.Said.{QuestionPlace}
 use Rattle.written.specs.Linking.{Nth, here, there}
-use Rattle.written.specs.Walks.{isYes}
 use Rattle.written.proofs.Walk.{nth-once, no-row}
 use Rattle.laws.proofs.Nth.{nth-inside, nth-of}
 use Rattle.laws.specs.Steps.{doneAt}
 use Rattle.tree_question.proofs.Filling.{questions-from}
-use Rattle.tree_line.specs.Lines.{lineStepAt, linesAt}
+use Rattle.laws.specs.Runs.{stop}
+use Rattle.text_numbers.specs.Answers.{signedAt}
+use Rattle.text_numbers.specs.declared.Signed.{Signed}
+use Rattle.text_numbers.specs.declared.Signed.the-variants as signed
+use Rattle.text_spaces.specs.Spaces.{nameOf, nameAt, closeAt, linePartingAt}
+use Rattle.text_spaces.specs.declared.Name.{Name}
+use Rattle.text_spaces.specs.declared.Name.the-variants as name
+use Rattle.text_spaces.specs.declared.Place.{Place}
+use Rattle.text_spaces.specs.declared.Place.the-variants as place
+use Rattle.tree_line.specs.Lines.{branchesAt, lineBranched, lineNamed, lineNumbered, lineAt, lineParted, lineClosed, afterLine, lineFound, lineStepAt, linesAt}
+use Rattle.tree_line.specs.declared.Branches.{Branches}
+use Rattle.tree_line.specs.declared.Branches.the-variants as branches
+use Rattle.tree_line.specs.declared.ReadLine.{ReadLine}
+use Rattle.tree_line.specs.declared.ReadLine.the-variants as readLine
+use Rattle.tree_line.specs.declared.LineStep.{LineStep}
 use Rattle.tree_line.specs.declared.Line.{Line}
 use Rattle.tree_line.specs.declared.LineStep.the-variants as answer
 use Rattle.tree_survey_lines.specs.Counts.{linesCounted}
@@ -32,10 +46,11 @@ use Rattle.link_find.specs.Find.{lastFrom, named, asked}
 use Rattle.link_find.proofs.Finding.{Named, hit}
 use Rattle.link_alone.specs.Alone.{singleIn}
 use Rattle.link_alone.specs.declared.Single.{Single}
-use Rattle.link_window.specs.Windows.{firstFrom, FirstOf, off, none, nameIn, heard, Marked, Holds, Taken, more, all, Filling, noRow, unheard, Windowed, missing, next, clean, faultLines, faultSingle, faultEnding, faultBraces}
-use Rattle.error.specs.declared.LinkFault.the-variants.{NodeRef, QuestionRef}
+use Rattle.link_window.specs.Windows.{firstFrom, FirstOf, off, none, nameFrom, nameIn, keyOf, Keys, KeyIn, gone, left, Keyed, Gone, isGone, heard, Marked, Holds, Taken, more, all, Filling, takenOf, behindOf, noRow, unheard, Windowed, missing, next, clean, faultLines, faultSingle, faultEnding, faultBraces}
 use Rattle.link_window.specs.declared.Linking.{Linking}
+use Rattle.error.specs.declared.LinkFault.the-variants.{NodeRef, QuestionRef}
 use Rattle.link_window.specs.declared.Linking.the-variants.{Whole, Refused}
+use Rattle.link_window.specs.declared.Filled.{Filled}
 use Rattle.link_window.specs.declared.Filled.the-variants.{More, All}
 use Rattle.link_window.specs.declared.Window.{Window}
 use Rattle.link_window.specs.declared.Window.the-variants.{Missing, Next, Clean}
@@ -48,24 +63,11 @@ or-first b e = sym (ap (λ (x : Bool). x || b) e)
 pub or-second : {a b r : Bool} → a ≡ false → r ≡ b → r ≡ (a || b)
 or-second {a} {b} e q = q ∙ sym (ap (λ (x : Bool). x || b) e)
 
-pub or-either : (a : Bool) {b : Bool} → b ≡ true → true ≡ (a || b)
-or-either true e = refl
-or-either false e = sym e
-
-or-none : (a : Bool) → (a || false) ≡ a
-or-none true = refl
-or-none false = refl
-
-pub or-not : (a : Bool) {b : Bool} → b ≡ false → a ≡ (a || b)
-or-not a e = sym (or-none a) ∙ sym (ap (λ (x : Bool). a || x) e)
-
-or-assoc : (a b c : Bool) → ((a || b) || c) ≡ (a || (b || c))
-or-assoc true b c = refl
-or-assoc false b c = refl
-
-pub yes-of : (n : ℕ) → ¬ (n ≡ 0) → isYes n ≡ true
-yes-of zero h = absurd (h refl)
-yes-of (suc n) h = refl
+-- what is gone by the one or the other
+gone-or : (a b : Bool) (x : ℕ) → cond b 0 (cond a 0 x) ≡ cond (a || b) 0 x
+gone-or true true x = refl
+gone-or true false x = refl
+gone-or false b x = refl
 
 -- ---- the first of a list
 
@@ -122,73 +124,170 @@ module _ {p : ℕ → Bool} where
   first-as f (off {j = j} h e g) = off h (sym (f j h) ∙ e) (λ i l. sym (f i (omega arith)) ∙ g i l)
   first-as f (none g) = none (λ i h. sym (f i h) ∙ g i h)
 
--- ---- marks
+-- ---- keys
 
--- those below j are marked as they have to be, the others are as they were
-pub record Marking (m : List ℕ) (p : ℕ → Bool) (e : List ℕ) (j : ℕ) : Type 0 where
-  pub long : length e ≡ length m
-  pub done : (i : ℕ) → i < j → isYes (getD e i 0) ≡ (isYes (getD m i 0) || p i)
-  pub left : (i : ℕ) → j ≤ i → getD e i 0 ≡ getD m i 0
-
-pub marking-none : (m : List ℕ) (p : ℕ → Bool) → Marking m p m 0
-marking-none m p = record { long = refl; done = λ i h. absurd (omega arith); left = λ i h. refl }
-
-pub marking-on : {m : List ℕ} {p : ℕ → Bool} {e : List ℕ} {j : ℕ} (v : ℕ) {b : Bool} → Marking m p e j → j < length e → isYes v ≡ (isYes (getD e j 0) || b) → b ≡ p j → Marking m p (set e j v) (j + 1)
-marking-on {m} {p} {e} {j} v {b} w h u q =
-    record { long = length-set e j v ∙ w .long; done = λ i l. go i l (decLt i j); left = λ i l. getD-set-other e j i v 0 (λ z. omega (arith, z)) ∙ w .left i (omega arith) }
+pub key-some : (w : List ℕ) → ¬ (keyOf w ≡ 0)
+unfolding keyOf
+key-some w = go (eqb (length w) 0)
   where
-    go : (i : ℕ) → i < j + 1 → Dec (i < j) → isYes (getD (set e j v) i 0) ≡ (isYes (getD m i 0) || p i)
-    go i l (yes g) = ap isYes (getD-set-other e j i v 0 (λ z. omega (arith, z))) ∙ w .done i g
+    go : (b : Bool) → ¬ (cond b 1 (1 + length w % 16 * 15 + getD w (length w - 1) 0 % 15) ≡ 0)
+    go true e = omega (arith, e)
+    go false e = omega (arith, e)
+
+pub key-none : (w : List ℕ) → length w ≡ 0 → 1 ≡ keyOf w
+unfolding keyOf
+key-none w e = sym (ap (λ (b : Bool). cond b 1 (1 + length w % 16 * 15 + getD w (length w - 1) 0 % 15)) (eq-eqb (length w) 0 e))
+
+pub key-is : (w : List ℕ) → ¬ (length w ≡ 0) → 1 + length w % 16 * 15 + getD w (length w - 1) 0 % 15 ≡ keyOf w
+unfolding keyOf
+key-is w e = sym (ap (λ (b : Bool). cond b 1 (1 + length w % 16 * 15 + getD w (length w - 1) 0 % 15)) (ne-eqb (length w) 0 e))
+
+-- the keys below j are set
+pub record Keying (s names m e : List ℕ) (j : ℕ) : Type 0 where
+  pub long : length e ≡ length m
+  pub done : (i : ℕ) → i < j → getD e i 0 ≡ keyOf (nameIn s names i)
+
+pub keying-none : (s names m : List ℕ) → Keying s names m m 0
+keying-none s names m = record { long = refl; done = λ i h. absurd (omega arith) }
+
+pub keying-on : {s names m e : List ℕ} {j : ℕ} (v : ℕ) → Keying s names m e j → j < length e → v ≡ keyOf (nameIn s names j) → Keying s names m (set e j v) (j + 1)
+keying-on {s} {names} {m} {e} {j} v w h u = record { long = length-set e j v ∙ w .long; done = λ i l. go i l (decLt i j) }
+  where
+    go : (i : ℕ) → i < j + 1 → Dec (i < j) → getD (set e j v) i 0 ≡ keyOf (nameIn s names i)
+    go i l (yes g) = getD-set-other e j i v 0 (λ z. omega (arith, z)) ∙ w .done i g
     go i l (no g) =
         let z : j ≡ i = omega arith in
-        subst (λ (k : ℕ). isYes (getD (set e j v) k 0) ≡ (isYes (getD m k 0) || p k)) z
-        (ap isYes (getD-set-same e j v 0 h) ∙ u ∙ ap₂ (λ (x : ℕ) (y : Bool). isYes x || y) (w .left j (omega arith)) q)
+        subst (λ (k : ℕ). getD (set e j v) k 0 ≡ keyOf (nameIn s names k)) z (getD-set-same e j v 0 h ∙ u)
+
+pub keying-end : {s names m e : List ℕ} {n j : ℕ} → Keying s names m e j → n ≤ j → Keys s names m n e
+keying-end w h = record { long = w .long; each = λ i l. w .done i (omega arith) }
+
+pub keys-keyed : {s names m e : List ℕ} {n : ℕ} → Keys s names m n e → Keyed s names n e
+keys-keyed w = record { each = λ j h. left (w .each j h) }
+
+-- names of two keys are two names
+pub key-other : (s : List ℕ) (b : ℕ) (w : List ℕ) {x k : ℕ} → k ≡ keyOf w → KeyIn s b x → ¬ (x ≡ k) → x ≡ cond (same w (nameFrom s b)) 0 x
+key-other s b w {x} {k} q (gone e) h = go (same w (nameFrom s b))
+  where
+    go : (c : Bool) → x ≡ cond c 0 x
+    go true = e
+    go false = refl
+key-other s b w {x} {k} q (left e) h = go (same w (nameFrom s b)) refl
+  where
+    go : (c : Bool) → same w (nameFrom s b) ≡ c → x ≡ cond c 0 x
+    go true z = absurd (h (e ∙ ap keyOf (sym (true-same w (nameFrom s b) z)) ∙ sym q))
+    go false z = refl
+
+-- ---- marks
+
+-- those below j are gone as they have to be, the others are as they were
+pub record Marking (m : List ℕ) (p : ℕ → Bool) (e : List ℕ) (j : ℕ) : Type 0 where
+  pub long : length e ≡ length m
+  pub done : (i : ℕ) → i < j → getD e i 0 ≡ cond (p i) 0 (getD m i 0)
+  pub left : (i : ℕ) → j ≤ i → getD e i 0 ≡ getD m i 0
+
+gone-stays : (b : Bool) (x : ℕ) → x ≡ 0 → cond b 0 x ≡ 0
+gone-stays true x e = refl
+gone-stays false x e = e
+
+pub marking-from : {m : List ℕ} (p : ℕ → Bool) {low : ℕ} → Gone low m → Marking m p m low
+marking-from {m} p g = record { long = refl; done = λ i h. g .each i h ∙ sym (gone-stays (p i) (getD m i 0) (g .each i h)); left = λ i h. refl }
+
+pub marking-on : {m : List ℕ} {p : ℕ → Bool} {e : List ℕ} {j : ℕ} (v : ℕ) → Marking m p e j → j < length e → v ≡ cond (p j) 0 (getD e j 0) → Marking m p (set e j v) (j + 1)
+marking-on {m} {p} {e} {j} v w h u =
+    record { long = length-set e j v ∙ w .long; done = λ i l. go i l (decLt i j); left = λ i l. getD-set-other e j i v 0 (λ z. omega (arith, z)) ∙ w .left i (omega arith) }
+  where
+    go : (i : ℕ) → i < j + 1 → Dec (i < j) → getD (set e j v) i 0 ≡ cond (p i) 0 (getD m i 0)
+    go i l (yes g) = getD-set-other e j i v 0 (λ z. omega (arith, z)) ∙ w .done i g
+    go i l (no g) =
+        let z : j ≡ i = omega arith in
+        subst (λ (k : ℕ). getD (set e j v) k 0 ≡ cond (p k) 0 (getD m k 0)) z
+        (getD-set-same e j v 0 h ∙ u ∙ ap (λ (x : ℕ). cond (p j) 0 x) (w .left j (omega arith)))
 
 pub marking-end : {m : List ℕ} {p : ℕ → Bool} {e : List ℕ} {n j : ℕ} → Marking m p e j → n ≤ j → Marked m n p e
 marking-end w h = record { long = w .long; each = λ i l. w .done i (omega arith) }
 
--- all questions: what is marked and what is still heard come to the same
+pub marking-key : {s names m : List ℕ} {n : ℕ} {p : ℕ → Bool} {e : List ℕ} {j : ℕ} → Keyed s names n m → Marking m p e j → j < n → KeyIn s (getD names j 0) (getD e j 0)
+marking-key {s} {names} {m} {j = j} k w h = subst (KeyIn s (getD names j 0)) (sym (w .left j (omega arith))) (k .each j h)
+
+-- none is gone yet; one more is; those that are gone stay so
+pub gone-none : {m : List ℕ} → Gone 0 m
+gone-none = record { each = λ j h. absurd (omega arith) }
+
+pub gone-more : {low : ℕ} {m : List ℕ} → Gone low m → getD m low 0 ≡ 0 → Gone (low + 1) m
+gone-more {low} {m} g e = record { each = λ j h. go j h (decLt j low) }
+  where
+    go : (j : ℕ) → j < low + 1 → Dec (j < low) → getD m j 0 ≡ 0
+    go j h (yes l) = g .each j l
+    go j h (no l) = let z : j ≡ low = omega arith in ap (λ (i : ℕ). getD m i 0) z ∙ e
+
+pub gone-fewer : {low n : ℕ} {m : List ℕ} → Gone low m → n ≤ low → Gone n m
+gone-fewer g h = record { each = λ j l. g .each j (omega arith) }
+
+pub marked-gone : {m : List ℕ} {n low : ℕ} {p : ℕ → Bool} {e : List ℕ} → Gone low m → Marked m n p e → low ≤ n → Gone low e
+marked-gone {m} {n} {low} {p} g w h = record { each = λ j l. w .each j (omega arith) ∙ gone-stays (p j) (getD m j 0) (g .each j l) }
+
+marked-keyed : {s names m : List ℕ} {n : ℕ} {p : ℕ → Bool} {e : List ℕ} → Keyed s names n m → Marked m n p e → Keyed s names n e
+marked-keyed {s} {names} {m} {n} {p} {e} k w = record { each = λ j h. subst (KeyIn s (getD names j 0)) (sym (w .each j h)) (go j (p j) (k .each j h)) }
+  where
+    go : (j : ℕ) (b : Bool) → KeyIn s (getD names j 0) (getD m j 0) → KeyIn s (getD names j 0) (cond b 0 (getD m j 0))
+    go j true x = gone refl
+    go j false x = x
+
+-- all questions: what is gone and what is still heard come to the same
 pub record Hearing (s names m : List ℕ) (n : ℕ) (first : ℕ) (e : List ℕ) (i : ℕ) : Type 0 where
   pub long : length e ≡ length m
-  pub each : (j : ℕ) → j < n → (isYes (getD e j 0) || heard s (nameIn s names j) (questions-from s i .items)) ≡ (isYes (getD m j 0) || heard s (nameIn s names j) (questions-from s first .items))
+  pub keyed : Keyed s names n e
+  pub each : (j : ℕ) → j < n → cond (heard s (nameIn s names j) (questions-from s i .items)) 0 (getD e j 0) ≡ cond (heard s (nameIn s names j) (questions-from s first .items)) 0 (getD m j 0)
 
 module _ {s names m : List ℕ} {n first : ℕ} {e : List ℕ} {i : ℕ} (w : Hearing s names m n first e i) where
   module _ {b k : ℕ} {rest : List QuestionPlace} (q : Named s i b k rest) {name : List ℕ} (a : name ≡ partInside s b k) {e′ : List ℕ} (h : Marked e n (λ (j : ℕ). same name (nameIn s names j)) e′) where
-    heard-step : (j : ℕ) → j < n → (isYes (getD e′ j 0) || heard s (nameIn s names j) rest) ≡ (isYes (getD m j 0) || heard s (nameIn s names j) (questions-from s first .items))
+    heard-step : (j : ℕ) → j < n → cond (heard s (nameIn s names j) rest) 0 (getD e′ j 0) ≡ cond (heard s (nameIn s names j) (questions-from s first .items)) 0 (getD m j 0)
     unfolding heard
     heard-step j l =
-        ap (λ (x : Bool). x || heard s (nameIn s names j) rest) (h .each j l)
-        ∙ or-assoc (isYes (getD e j 0)) (same name (nameIn s names j)) (heard s (nameIn s names j) rest)
-        ∙ ap (λ (x : Bool). isYes (getD e j 0) || (x || heard s (nameIn s names j) rest)) (hit s (nameIn s names j) q a refl)
-        ∙ sym (ap (λ (x : List QuestionPlace). isYes (getD e j 0) || heard s (nameIn s names j) x) (q .items)) ∙ w .each j l
+        ap (λ (x : ℕ). cond (heard s (nameIn s names j) rest) 0 x) (h .each j l)
+        ∙ gone-or (same name (nameIn s names j)) (heard s (nameIn s names j) rest) (getD e j 0)
+        ∙ ap (λ (x : Bool). cond (x || heard s (nameIn s names j) rest) 0 (getD e j 0)) (hit s (nameIn s names j) q a refl)
+        ∙ sym (ap (λ (x : List QuestionPlace). cond (heard s (nameIn s names j) x) 0 (getD e j 0)) (q .items)) ∙ w .each j l
 
     pub hearing-last : rest ≡ [] → Marked m n (λ (j : ℕ). heard s (nameIn s names j) (questions-from s first .items)) e′
     unfolding heard
     hearing-last z =
         record {
           long = h .long ∙ w .long;
-          each = λ j l. sym (or-none (isYes (getD e′ j 0))) ∙ sym (ap (λ (x : List QuestionPlace). isYes (getD e′ j 0) || heard s (nameIn s names j) x) z) ∙ heard-step j l;
+          each = λ j l. sym (ap (λ (x : List QuestionPlace). cond (heard s (nameIn s names j) x) 0 (getD e′ j 0)) z) ∙ heard-step j l;
         }
 
   pub hearing-on : {b k i′ : ℕ} → Named s i b k (questions-from s i′ .items) → {name : List ℕ} → name ≡ partInside s b k → {e′ : List ℕ} → Marked e n (λ (j : ℕ). same name (nameIn s names j)) e′ → Hearing s names m n first e′ i′
-  hearing-on q a h = record { long = h .long ∙ w .long; each = heard-step q a h }
+  hearing-on q a h = record { long = h .long ∙ w .long; keyed = marked-keyed (w .keyed) h; each = heard-step q a h }
+
+  -- where all are gone, no question is left to hear
+  pub hearing-over : Gone n e → Marked m n (λ (j : ℕ). heard s (nameIn s names j) (questions-from s first .items)) e
+  hearing-over g =
+      record {
+        long = w .long;
+        each = λ j l. g .each j l ∙ sym (gone-stays (heard s (nameIn s names j) (questions-from s i .items)) (getD e j 0) (g .each j l)) ∙ w .each j l;
+      }
 
   pub hearing-none : questions-from s i .items ≡ [] → Marked m n (λ (j : ℕ). heard s (nameIn s names j) (questions-from s first .items)) e
   unfolding heard
   hearing-none z =
       record {
         long = w .long;
-        each = λ j l. sym (or-none (isYes (getD e j 0))) ∙ sym (ap (λ (x : List QuestionPlace). isYes (getD e j 0) || heard s (nameIn s names j) x) z) ∙ w .each j l;
+        each = λ j l. sym (ap (λ (x : List QuestionPlace). cond (heard s (nameIn s names j) x) 0 (getD e j 0)) z) ∙ w .each j l;
       }
 
-zeros : (n j : ℕ) → _≡_ {A = ℕ} (getD (replicate n 0) j 0) 0
-zeros zero j = refl
-zeros (suc n) zero = refl
-zeros (suc n) (suc j) = zeros n j
+pub gone-not : (n : ℕ) → ¬ (n ≡ 0) → isGone n ≡ false
+gone-not zero h = absurd (h refl)
+gone-not (suc n) h = refl
 
--- from no mark on
-pub from-none : {n : ℕ} (k : ℕ) {p : ℕ → Bool} {e : List ℕ} {r : Found} → Marked (replicate k 0) n p e → FirstOf (λ (j : ℕ). isYes (getD e j 0)) n r → FirstOf p n r
-from-none {n} k {p} {e} w f = first-as (λ j l. w .each j l ∙ ap (λ (x : ℕ). isYes x || p j) (zeros k j)) f
+-- from the keys on
+pub from-keys : {s names k m : List ℕ} {n : ℕ} {p : ℕ → Bool} {e : List ℕ} {r : Found} → Keys s names k n m → Marked m n p e → FirstOf (λ (j : ℕ). isGone (getD e j 0)) n r → FirstOf p n r
+from-keys {s} {names} {k} {m} {n} {p} {e} q w f = first-as (λ j l. ap isGone (w .each j l) ∙ go j l (p j)) f
+  where
+    go : (j : ℕ) → j < n → (b : Bool) → isGone (cond b 0 (getD m j 0)) ≡ b
+    go j l true = refl
+    go j l false = gone-not (getD m j 0) (λ z. key-some (nameIn s names j) (sym (q .each j l) ∙ z))
 
 pub heard-in : (s names : List ℕ) {n : ℕ} {qs ps : List QuestionPlace} {r : Found} → ps ≡ qs → FirstOf (λ (j : ℕ). heard s (nameIn s names j) qs) n r → FirstOf (λ (j : ℕ). heard s (nameIn s names j) ps) n r
 heard-in s names {n} {r = r} e f = subst (λ (x : List QuestionPlace). FirstOf (λ (j : ℕ). heard s (nameIn s names j) x) n r) (sym e) f
@@ -215,11 +314,68 @@ drop-nil zero (y ∷ ls) e = absurd (omega (arith, ap length e))
 drop-nil (suc k) [] e = omega arith
 drop-nil (suc k) (y ∷ ls) e = omega (arith, drop-nil k ls e)
 
+-- the length of a line's name is told by where it begins
+name-long : (s : List ℕ) (i : ℕ) {b n j : ℕ} → nameAt s i ≡ name.Found b n j → stop inName s b - b ≡ n
+unfolding nameAt nameOf
+name-long s i {b} {n} {j} e = go (ltb i (stop blank s i)) (ltb (stop blank s i) (stop inName s (stop blank s i))) (ltb (stop inName s (stop blank s i)) (stop blank s (stop inName s (stop blank s i)))) e
+  where
+    go : (x y z : Bool)
+        → cond x (cond y (cond z (name.Found (stop blank s i) (stop inName s (stop blank s i) - stop blank s i) (stop blank s (stop inName s (stop blank s i)))) name.NoName) name.NoName) name.NoName ≡ name.Found b n j
+        → stop inName s b - b ≡ n
+    go true true true e =
+        let u : b ≡ stop blank s i = cc in
+        let v : stop inName s (stop blank s i) - stop blank s i ≡ n = cc in
+        ap (λ (m : ℕ). stop inName s m - m) u ∙ v
+    go true true false e = let u : _≡_ {A = ℕ} 0 1 = cc in absurd (omega arith)
+    go true false z e = let u : _≡_ {A = ℕ} 0 1 = cc in absurd (omega arith)
+    go false y z e = let u : _≡_ {A = ℕ} 0 1 = cc in absurd (omega arith)
+
+line-long : (s : List ℕ) (i : ℕ) {l : Line} {e : ℕ} → lineAt s i ≡ readLine.Found l e → stop inName s (l .start) - l .start ≡ l .len
+unfolding lineAt
+line-long s i {l} {e} h = numbered (signedAt s i) h
+  where
+    branched : (x : ℤ) (b n : ℕ) (t : Branches) → stop inName s b - b ≡ n → lineBranched x b n t ≡ readLine.Found l e → stop inName s (l .start) - l .start ≡ l .len
+    branched x b n (branches.Found y z j) q h = let u : record { id = x; start = b; len = n; no = y; yes = z } ≡ l = cc in subst (λ (m : Line). stop inName s (m .start) - m .start ≡ m .len) u q
+    branched x b n branches.NoBranches q h = let u : _≡_ {A = ℕ} 0 1 = cc in absurd (omega arith)
+
+    called : (x : ℤ) (k : ℕ) (t : Name) → nameAt s k ≡ t → lineNamed s x t ≡ readLine.Found l e → stop inName s (l .start) - l .start ≡ l .len
+    called x k (name.Found b n j) q h = branched x b n (branchesAt s j) (name-long s k q) h
+    called x k name.NoName q h = let u : _≡_ {A = ℕ} 0 1 = cc in absurd (omega arith)
+
+    numbered : (t : Signed) → lineNumbered s t ≡ readLine.Found l e → stop inName s (l .start) - l .start ≡ l .len
+    numbered (signed.Number x k) h = called x k (nameAt s k) refl h
+    numbered signed.NoNumber h = let u : _≡_ {A = ℕ} 0 1 = cc in absurd (omega arith)
+
+-- of a line that was read
+abbrev pub Long : List ℕ → LineStep → Type 0
+Long s (answer.Next l j) = stop inName s (l .start) - l .start ≡ l .len
+Long s (answer.Last l j) = stop inName s (l .start) - l .start ≡ l .len
+Long s answer.Broken = _≡_ {A = ℕ} 0 0
+
+step-long : (s : List ℕ) (i : ℕ) → Long s (lineStepAt s i)
+unfolding lineStepAt afterLine
+step-long s i = found (lineAt s i) refl
+  where
+    parted : (l : Line) (t : Place) → stop inName s (l .start) - l .start ≡ l .len → Long s (lineParted l t)
+    parted l (place.At j) q = q
+    parted l place.Nowhere q = refl
+
+    closed : (l : Line) (e : ℕ) (t : Place) → stop inName s (l .start) - l .start ≡ l .len → Long s (lineClosed s l e t)
+    closed l e (place.At j) q = q
+    closed l e place.Nowhere q = parted l (linePartingAt s e) q
+
+    found : (t : ReadLine) → lineAt s i ≡ t → Long s (lineFound s t)
+    found (readLine.Found l e) h = closed l e (closeAt s e) (line-long s i h)
+    found readLine.NoLine h = refl
+
+pub long-as : (s : List ℕ) (i : ℕ) {t : LineStep} → t ≡ lineStepAt s i → Long s t
+long-as s i e = subst (Long s) (sym e) (step-long s i)
+
 module _ (s : List ℕ) (first : ℕ) (names₀ : List ℕ) where
   -- k names are taken, and the next line stands at i
   pub record Taking (names : List ℕ) (i k : ℕ) : Type 0 where
     pub long : length names ≡ length names₀
-    pub holds : Holds names k (linesAt s first .items)
+    pub holds : Holds s names k (linesAt s first .items)
     pub rest : drop k (linesAt s first .items) ≡ linesAt s i .items
     pub inside : k ≤ length (linesAt s first .items)
     pub up : k + first ≤ i
@@ -229,38 +385,24 @@ module _ (s : List ℕ) (first : ℕ) (names₀ : List ℕ) where
   pub taking-none : Taking names₀ first 0
   taking-none = record { long = refl; holds = λ m l n h. absurd (omega arith); rest = refl; inside = omega arith; up = omega arith; within = λ h. absurd (omega arith); most = omega arith }
 
-  module _ {names : List ℕ} {i k : ℕ} (w : Taking names i k) {l : Line} {ls : List Line} (e : linesAt s i .items ≡ l ∷ ls) (room : 2 * k + 1 < length names) where
-    put : List ℕ
-    put = set (set names (2 * k) (l .start)) (2 * k + 1) (l .len)
-
-    put-long : length put ≡ length names₀
-    unfolding put
-    put-long = length-set (set names (2 * k) (l .start)) (2 * k + 1) (l .len) ∙ length-set names (2 * k) (l .start) ∙ w .long
-
-    put-other : (j : ℕ) → ¬ (j ≡ 2 * k) → ¬ (j ≡ 2 * k + 1) → getD put j 0 ≡ getD names j 0
-    unfolding put
-    put-other j a b =
-        getD-set-other (set names (2 * k) (l .start)) (2 * k + 1) j (l .len) 0 (λ z. b (omega (arith, z))) ∙ getD-set-other names (2 * k) j (l .start) 0 (λ z. a (omega (arith, z)))
-
-    put-holds : Holds put (k + 1) (linesAt s first .items)
-    unfolding put
+  module _ {names : List ℕ} {i k : ℕ} (w : Taking names i k) {l : Line} {ls : List Line} (e : linesAt s i .items ≡ l ∷ ls) (size : stop inName s (l .start) - l .start ≡ l .len) (room : k < length names) where
+    put-holds : Holds s (set names k (l .start)) (k + 1) (linesAt s first .items)
     put-holds m x n h = go (decLt m k)
       where
-        go : Dec (m < k) → (getD put (2 * m) 0 ≡ x .start) × (getD put (2 * m + 1) 0 ≡ x .len)
-        go (yes g) = let r = w .holds m x n g in (put-other (2 * m) (λ z. omega (arith, z)) (λ z. omega (arith, z)) ∙ r .0, put-other (2 * m + 1) (λ z. omega (arith, z)) (λ z. omega (arith, z)) ∙ r .1)
+        go : Dec (m < k) → (getD (set names k (l .start)) m 0 ≡ x .start) × (stop inName s (x .start) - x .start ≡ x .len)
+        go (yes g) = let r = w .holds m x n g in (getD-set-other names k m (l .start) 0 (λ z. omega (arith, z)) ∙ r .0, r .1)
         go (no g) =
             let z : m ≡ k = omega arith in
-            let q : x ≡ l = nth-once (subst (λ (j : ℕ). Nth (linesAt s first .items) j x) z n) (drop-nth k (linesAt s first .items) (w .rest ∙ e) .0) in
-            let a : getD put (2 * k) 0 ≡ l .start = getD-set-other (set names (2 * k) (l .start)) (2 * k + 1) (2 * k) (l .len) 0 (λ z. omega (arith, z)) ∙ getD-set-same names (2 * k) (l .start) 0 (omega arith) in
-            let b : getD put (2 * k + 1) 0 ≡ l .len = getD-set-same (set names (2 * k) (l .start)) (2 * k + 1) (l .len) 0 (omega (arith, length-set names (2 * k) (l .start), room)) in
-            (ap (λ (j : ℕ). getD put (2 * j) 0) z ∙ a ∙ ap (λ (y : Line). y .start) (sym q), ap (λ (j : ℕ). getD put (2 * j + 1) 0) z ∙ b ∙ ap (λ (y : Line). y .len) (sym q))
+            let q : x ≡ l = nth-once (subst (λ (j : ℕ). Nth (linesAt s first .items) j x) z n) (drop-nth k (linesAt s first .items) (w .rest ∙ e) .0) in (
+              ap (λ (j : ℕ). getD (set names k (l .start)) j 0) z ∙ getD-set-same names k (l .start) 0 room ∙ ap (λ (y : Line). y .start) (sym q),
+              subst (λ (y : Line). stop inName s (y .start) - y .start ≡ y .len) (sym q) size,
+            )
 
-    pub taking-on : {names′ : List ℕ} {j : ℕ} → names′ ≡ set (set names (2 * k) (l .start)) (2 * k + 1) (l .len) → ls ≡ linesAt s j .items → 3 + i ≤ j → j ≤ length s → k < 32 → Taking names′ j (k + 1)
-    unfolding put
+    pub taking-on : {names′ : List ℕ} {j : ℕ} → names′ ≡ set names k (l .start) → ls ≡ linesAt s j .items → 3 + i ≤ j → j ≤ length s → k < 32 → Taking names′ j (k + 1)
     taking-on {names′} {j} q z a b f =
         subst (λ (t : List ℕ). Taking t j (k + 1)) (sym q)
         (record {
-          long = put-long;
+          long = length-set names k (l .start) ∙ w .long;
           holds = put-holds;
           rest = ap (λ (n : ℕ). drop n (linesAt s first .items)) (add-one k) ∙ drop-nth k (linesAt s first .items) (w .rest ∙ e) .1 ∙ z;
           most = omega arith;
@@ -269,12 +411,11 @@ module _ (s : List ℕ) (first : ℕ) (names₀ : List ℕ) where
           within = λ h. b;
         })
 
-    pub taking-last : {names′ : List ℕ} → names′ ≡ set (set names (2 * k) (l .start)) (2 * k + 1) (l .len) → ls ≡ [] → k < 32 → Filling s first names₀ (All (k + 1)) names′
-    unfolding put
+    pub taking-last : {names′ : List ℕ} → names′ ≡ set names k (l .start) → ls ≡ [] → k < 32 → Filling s first names₀ (All (k + 1)) names′
     taking-last {names′} q z h =
         subst (λ (t : List ℕ). Filling s first names₀ (All (k + 1)) t) (sym q)
         (record {
-          long = put-long;
+          long = length-set names k (l .start) ∙ w .long;
           taken = all put-holds
               (let r = drop-nth k (linesAt s first .items) (w .rest ∙ e) in let g = nth-inside (r .0) in let f = drop-nil (suc k) (linesAt s first .items) (r .1 ∙ z) in omega (arith, g, f))
               (omega arith);
@@ -289,7 +430,7 @@ module _ (s : List ℕ) (first : ℕ) (names₀ : List ℕ) where
         let z : k ≡ 32 = omega (arith, w .most) in
         record {
           long = w .long;
-          taken = more (subst (λ (n : ℕ). Holds names n (linesAt s first .items)) z (w .holds)) (sym (ap (λ (n : ℕ). drop n (linesAt s first .items)) z) ∙ w .rest) (omega (arith, w .inside)) (omega (arith, w .up)) (w .within (omega arith));
+          taken = more (subst (λ (n : ℕ). Holds s names n (linesAt s first .items)) z (w .holds)) (sym (ap (λ (n : ℕ). drop n (linesAt s first .items)) z) ∙ w .rest) (omega (arith, w .inside)) (omega (arith, w .up)) (w .within (omega arith));
         }
 
 -- ---- a name is heard where a question of it is found
@@ -324,9 +465,9 @@ module _ (s w : List ℕ) where
       go true e g r = let z : _≡_ {A = ℕ} 0 1 = cc in absurd (omega arith)
       go false e g r = r g ∙ ap (λ (b : Bool). noRow (cond b (At k) f)) e
 
-module _ (s names : List ℕ) (qs : List QuestionPlace) {n : ℕ} {ls : List Line} (h : Holds names n ls) where
+module _ (s names : List ℕ) (qs : List QuestionPlace) {n : ℕ} {ls : List Line} (h : Holds s names n ls) where
   name-is : {j : ℕ} {l : Line} → Nth ls j l → j < n → nameIn s names j ≡ partInside s (l .start) (l .len)
-  name-is {j} {l} w g = let r = h j l w g in ap₂ (partInside s) (r .0) (r .1)
+  name-is {j} {l} w g = let r = h j l w g in ap (nameFrom s) (r .0) ∙ ap (partInside s (l .start)) (r .1)
 
   pub is-heard : {j : ℕ} {l : Line} → Nth ls j l → j < n → heard s (nameIn s names j) qs ≡ true → unheard s qs l ≡ false
   is-heard {j} {l} w g e = heard-found s (partInside s (l .start) (l .len)) 0 Nothing qs (sym (ap (λ (x : List ℕ). heard s x qs) (name-is w g)) ∙ e)
@@ -337,42 +478,33 @@ module _ (s names : List ℕ) (qs : List QuestionPlace) {n : ℕ} {ls : List Lin
 -- ---- a window
 
 module _ (s names : List ℕ) (qs : List QuestionPlace) (i : ℕ) where
-  of-missing : {n j : ℕ} → Holds names n (linesAt s i .items) → n ≤ length (linesAt s i .items) → n ≤ 32 → {r : Found} → FirstOf (λ (m : ℕ). heard s (nameIn s names m) qs) n r → r ≡ At j → Windowed s qs i (Missing j)
+  of-missing : {n j : ℕ} → Holds s names n (linesAt s i .items) → n ≤ length (linesAt s i .items) → n ≤ 32 → {r : Found} → FirstOf (λ (m : ℕ). heard s (nameIn s names m) qs) n r → r ≡ At j → Windowed s qs i (Missing j)
   of-missing {n} {j} h a b (off {j = k} l e f) z =
       let q : k ≡ j = cc in
       let w = nth-of (linesAt s i .items) k (omega arith) in
       subst (λ (x : ℕ). Windowed s qs i (Missing x)) q (missing (w .1) (is-unheard s names qs h (w .1) l e) (omega arith) (λ m x g o. is-heard s names qs h o (omega arith) (f m g)))
   of-missing h a b (none f) z = let y : _≡_ {A = ℕ} 0 1 = cc in absurd (omega arith)
 
-  all-heard : {n : ℕ} → Holds names n (linesAt s i .items) → {r : Found} → FirstOf (λ (m : ℕ). heard s (nameIn s names m) qs) n r → r ≡ Nothing → (m : ℕ) (e : Line) → m < n → Nth (linesAt s i .items) m e → unheard s qs e ≡ false
+  all-heard : {n : ℕ} → Holds s names n (linesAt s i .items) → {r : Found} → FirstOf (λ (m : ℕ). heard s (nameIn s names m) qs) n r → r ≡ Nothing → (m : ℕ) (e : Line) → m < n → Nth (linesAt s i .items) m e → unheard s qs e ≡ false
   all-heard h (off l e f) z m x g o = let y : _≡_ {A = ℕ} 0 1 = cc in absurd (omega arith)
   all-heard h (none f) z m x g o = is-heard s names qs h o g (f m g)
 
-  pub window-missing : {f : _} {r : Found} {n j : ℕ} → Taken s i names f → f ≡ All n → FirstOf (λ (m : ℕ). heard s (nameIn s names m) qs) n r → r ≡ At j → Windowed s qs i (Missing j)
-  window-missing {n = n} (more {j = k} h d a b c) e g z = let y : _≡_ {A = ℕ} 0 1 = cc in absurd (omega arith)
-  window-missing {r = r} {n = n} (all {n = k} h a b) e g z =
-      let q : k ≡ n = cc in
-      of-missing (subst (λ (x : ℕ). Holds names x (linesAt s i .items)) q h) (omega arith) (omega arith) g z
+  -- what was taken, and a question of it that isn't there
+  pub window-missing : {f : Filled} {n j : ℕ} {r : Found} → Taken s i names f → n ≡ takenOf f → FirstOf (λ (m : ℕ). heard s (nameIn s names m) qs) n r → r ≡ At j → Windowed s qs i (Missing j)
+  window-missing {r = r} (more h d a b c) e g z = of-missing h a (omega arith) (subst (λ (x : ℕ). FirstOf (λ (m : ℕ). heard s (nameIn s names m) qs) x r) e g) z
+  window-missing {r = r} (all h a b) e g z = of-missing h (omega arith) b (subst (λ (x : ℕ). FirstOf (λ (m : ℕ). heard s (nameIn s names m) qs) x r) e g) z
 
-  pub window-clean : {f : _} {r : Found} {n : ℕ} → Taken s i names f → f ≡ All n → FirstOf (λ (m : ℕ). heard s (nameIn s names m) qs) n r → r ≡ Nothing → Windowed s qs i Clean
-  window-clean (more {j = k} h d a b c) e g z = let y : _≡_ {A = ℕ} 0 1 = cc in absurd (omega arith)
-  window-clean {n = n} (all {n = k} h a b) e g z =
-      let q : k ≡ n = cc in
-      clean (λ m x o. all-heard (subst (λ (y : ℕ). Holds names y (linesAt s i .items)) q h) g z m x (omega (arith, nth-inside o)) o)
+  -- and all that are
+  window-behind : {f : Filled} {r : Found} → Taken s i names f → FirstOf (λ (m : ℕ). heard s (nameIn s names m) qs) (takenOf f) r → r ≡ Nothing → Windowed s qs i (behindOf f)
+  window-behind (more h d a b c) g z = next (λ m x l o. all-heard h g z m x l o) d a b c
+  window-behind (all h a b) g z = clean (λ m x o. all-heard h g z m x (omega (arith, nth-inside o)) o)
 
-  pub window-first : {f : _} {r : Found} {k j : ℕ} → Taken s i names f → f ≡ More k → FirstOf (λ (m : ℕ). heard s (nameIn s names m) qs) 32 r → r ≡ At j → Windowed s qs i (Missing j)
-  window-first (more h d a b c) e g z = of-missing h a (omega arith) g z
-  window-first (all h a b) e g z = let y : _≡_ {A = ℕ} 0 1 = cc in absurd (omega arith)
+  pub window-clear : {f : Filled} {n : ℕ} {r : Found} {w : Window} → Taken s i names f → n ≡ takenOf f → FirstOf (λ (m : ℕ). heard s (nameIn s names m) qs) n r → r ≡ Nothing → w ≡ behindOf f → Windowed s qs i w
+  window-clear {f = f} {r = r} t e g z q = subst (Windowed s qs i) (sym q) (window-behind t (subst (λ (x : ℕ). FirstOf (λ (m : ℕ). heard s (nameIn s names m) qs) x r) e g) z)
 
-  pub window-next : {f : _} {r : Found} {k : ℕ} → Taken s i names f → f ≡ More k → FirstOf (λ (m : ℕ). heard s (nameIn s names m) qs) 32 r → r ≡ Nothing → Windowed s qs i (Next k)
-  window-next {k = k} (more {j = j} h d a b c) e g z =
-      let q : j ≡ k = cc in
-      subst (λ (x : ℕ). Windowed s qs i (Next x)) q (next (λ m x l o. all-heard h g z m x l o) d a b c)
-  window-next (all h a b) e g z = let y : _≡_ {A = ℕ} 0 1 = cc in absurd (omega arith)
-
-pub taken-few : {s names : List ℕ} {i n : ℕ} {f : _} → Taken s i names f → f ≡ All n → n ≤ 32
-taken-few (more {j = k} h d a b c) e = let y : _≡_ {A = ℕ} 0 1 = cc in absurd (omega arith)
-taken-few {n = n} (all {n = k} h a b) e = let q : k ≡ n = cc in omega arith
+pub taken-few : {s names : List ℕ} {i n : ℕ} {f : Filled} → Taken s i names f → n ≡ takenOf f → n ≤ 32
+taken-few (more h d a b c) e = omega arith
+taken-few (all h a b) e = omega arith
 
 -- ---- window by window
 
@@ -467,20 +599,3 @@ pub window-less : {s : List ℕ} {qs : List QuestionPlace} {i : ℕ} {w : Window
 window-less (missing a b c d) h = omega arith
 window-less (next a b c d e) h = omega arith
 window-less (clean a) h = omega arith
-
--- ---- a name of another length
-
-pub other-length : (s w : List ℕ) (b n : ℕ) → 0 < length w → ¬ (length w ≡ n) → false ≡ same w (partInside s b n)
-unfolding partInside
-other-length s w b n p h = go (same w (cond (leb b (length s) && leb n (length s - b)) (part s b n) [])) refl
-  where
-    never : (c d : Bool) → leb b (length s) ≡ c → leb n (length s - b) ≡ d → w ≡ cond (c && d) (part s b n) [] → ⊥
-    never true true f g e =
-        let l : length (part s b n) ≡ n = length-take-le n (drop b s) (omega (arith, leb-true b (length s) f, leb-true n (length s - b) g, length-drop b s)) in
-        h (ap length e ∙ l)
-    never true false f g e = let z : length w ≡ 0 = ap length e in omega arith
-    never false d f g e = let z : length w ≡ 0 = ap length e in omega arith
-
-    go : (c : Bool) → same w (cond (leb b (length s) && leb n (length s - b)) (part s b n) []) ≡ c → false ≡ c
-    go false e = refl
-    go true e = absurd (never (leb b (length s)) (leb n (length s - b)) refl refl (true-same w _ e))

@@ -1,13 +1,14 @@
--- What the functions of this crate answer: names in a slice, two numbers each; which of them questions bear; the first line with a fault.
+-- What the functions of this crate answer: names in a slice, by their beginnings; their keys; which of them questions bear; the first line with a fault.
 use mathlib.Core.Path.{_≡_}
 use mathlib.Core.Bool.{Bool, true, false, cond, not, _||_}
 use mathlib.Core.List.{List, [], _∷_}
-use Prim.Native.Nat.{ℕ, zero, suc, _+_, _*_, _≤_, _<_}
-use lib.Dec.{ltb}
+use Prim.Native.Nat.{ℕ, zero, suc, _+_, _-_, _*_, _%_, _≤_, _<_}
+use lib.Dec.{ltb, eqb}
 use lib.ListN.{length, getD, drop}
+use Rattle.written.specs.Bytes.{inName}
 use Rattle.written.specs.Said.{QuestionPlace}
 use Rattle.written.specs.Linking.{Nth}
-use Rattle.written.specs.Walks.{isYes}
+use Rattle.laws.specs.Runs.{stop}
 use Rattle.laws.specs.Steps.{Ending, doneAt, brokenAt, Reading}
 use Rattle.error.specs.declared.LinkFault.the-variants.{NodeRef, QuestionRef, LoneNode}
 use Rattle.tree_reference.specs.declared.TreeIndex.{TreeIndex}
@@ -45,32 +46,70 @@ pub data FirstOf (p : ℕ → Bool) (n : ℕ) : Found → Type 0 where
 
 -- ---- names in a slice
 
--- name j: where it begins, and how long it is
+-- from where it begins up to where no byte of a name follows
+abbrev pub nameFrom : List ℕ → ℕ → List ℕ
+nameFrom s b = partInside s b (stop inName s b - b)
+
 abbrev pub nameIn : List ℕ → List ℕ → ℕ → List ℕ
-nameIn s names j = partInside s (getD names (2 * j) 0) (getD names (2 * j + 1) 0)
+nameIn s names j = nameFrom s (getD names j 0)
+
+-- a name's key, by its length and its last byte
+unfoldable pub keyOf : List ℕ → ℕ
+keyOf w = cond (eqb (length w) 0) 1 (1 + length w % 16 * 15 + getD w (length w - 1) 0 % 15)
+
+-- m became e: the keys of the first n names
+pub record Keys (s names m : List ℕ) (n : ℕ) (e : List ℕ) : Type 0 where
+  pub long : length e ≡ length m
+  pub each : (j : ℕ) → j < n → getD e j 0 ≡ keyOf (nameIn s names j)
+
+-- what is kept of the name that begins at b: nothing, or its key
+pub data KeyIn (s : List ℕ) (b x : ℕ) : Type 0 where
+  gone : x ≡ 0 → KeyIn s b x
+  left : x ≡ keyOf (nameFrom s b) → KeyIn s b x
+
+pub record Keyed (s names : List ℕ) (n : ℕ) (e : List ℕ) : Type 0 where
+  pub each : (j : ℕ) → j < n → KeyIn s (getD names j 0) (getD e j 0)
+
+-- the first of them, so many
+pub record Gone (low : ℕ) (e : List ℕ) : Type 0 where
+  pub each : (j : ℕ) → j < low → getD e j 0 ≡ 0
+
+abbrev pub isGone : ℕ → Bool
+isGone zero = true
+isGone (suc x) = false
 
 -- some question bears a name
 unfoldable pub heard : List ℕ → List ℕ → List QuestionPlace → Bool
 heard s w [] = false
 heard s w (q ∷ qs) = named s w q || heard s w qs
 
--- m became e: of the first n, those of which p is true are marked
+-- m became e: of the first n, those of which p is true are gone
 pub record Marked (m : List ℕ) (n : ℕ) (p : ℕ → Bool) (e : List ℕ) : Type 0 where
   pub long : length e ≡ length m
-  pub each : (j : ℕ) → j < n → isYes (getD e j 0) ≡ (isYes (getD m j 0) || p j)
+  pub each : (j : ℕ) → j < n → getD e j 0 ≡ cond (p j) 0 (getD m j 0)
 
 -- the first n names are those of the first n lines
-abbrev pub Holds : List ℕ → ℕ → List Line → Type 0
-Holds names n ls = (m : ℕ) (l : Line) → Nth ls m l → m < n → (getD names (2 * m) 0 ≡ l .start) × (getD names (2 * m + 1) 0 ≡ l .len)
+abbrev pub Holds : List ℕ → List ℕ → ℕ → List Line → Type 0
+Holds s names n ls = (m : ℕ) (l : Line) → Nth ls m l → m < n → (getD names m 0 ≡ l .start) × (stop inName s (l .start) - l .start ≡ l .len)
 
 -- names of the lines from i on: 32 and where the next stands, or all
 pub data Taken (s : List ℕ) (i : ℕ) (names : List ℕ) : Filled → Type 0 where
-  more : {j : ℕ} → Holds names 32 (linesAt s i .items) → drop 32 (linesAt s i .items) ≡ linesAt s j .items → 32 ≤ length (linesAt s i .items) → 32 + i ≤ j → j ≤ length s → Taken s i names (More j)
-  all : {n : ℕ} → Holds names n (linesAt s i .items) → length (linesAt s i .items) ≡ n → n ≤ 32 → Taken s i names (All n)
+  more : {j : ℕ} → Holds s names 32 (linesAt s i .items) → drop 32 (linesAt s i .items) ≡ linesAt s j .items → 32 ≤ length (linesAt s i .items) → 32 + i ≤ j → j ≤ length s → Taken s i names (More j)
+  all : {n : ℕ} → Holds s names n (linesAt s i .items) → length (linesAt s i .items) ≡ n → n ≤ 32 → Taken s i names (All n)
 
 pub record Filling (s : List ℕ) (i : ℕ) (names : List ℕ) (r : Filled) (e : List ℕ) : Type 0 where
   pub long : length e ≡ length names
   pub taken : Taken s i e r
+
+-- how many
+abbrev pub takenOf : Filled → ℕ
+takenOf (More j) = 32
+takenOf (All n) = n
+
+-- what follows them
+abbrev pub behindOf : Filled → Window
+behindOf (More j) = Next j
+behindOf (All n) = Clean
 
 -- ---- lines
 

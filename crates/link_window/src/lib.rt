@@ -1,6 +1,6 @@
 // The linking of one tree by reading its text, without tables or work, and quickly: the first line with a fault (01, 'Linking and tables'; 02, Wish 12).
-// A question is looked for in the text for 32 lines at a time, their names' places on the stack: reading the questions once for each line would take lines times
-// questions. Every function takes any bytes and any place, also one past the end. A place is an index into the slice; the questions are those of the text that begins at `at`.
+// A question is looked for in the text for 32 lines at a time, their names' places and a byte of each name on the stack: reading the questions once for each line
+// would take lines times questions. Every function takes any bytes and any place, also one past the end. A place is an index into the slice; the questions are those of the text that begins at `at`.
 use error::LinkFault;
 use link_alone::Single;
 use link_alone::is_nowhere;
@@ -11,6 +11,7 @@ use link_find::ids_in_order;
 use link_find::next_name;
 use link_find::same_name;
 use link_search::Found;
+use text_base::name_end;
 use text_parts::part_inside;
 use tree_body::TreeHead;
 use tree_body::tree_head;
@@ -23,19 +24,17 @@ use tree_reference::TreeIndex;
 use tree_survey_lines::LineCount;
 use tree_survey_lines::count_lines;
 ghost use mathlib.Core.Path.{_≡_};
-ghost use mathlib.Core.Bool.{Bool, _||_};
-ghost use Prim.Native.Nat.{ℕ, _+_, _*_, _<_, _≤_};
+ghost use mathlib.Core.Bool.{Bool, cond, _||_};
+ghost use Prim.Native.Nat.{ℕ, _<_, _≤_};
 ghost use lib.ListN.{length, getD, set};
 ghost use Rattle.written.specs.Bytes.{same};
-ghost use Rattle.written.specs.Walks.{isYes};
 ghost use Rattle.laws.specs.Steps.{read};
 ghost use Rattle.tree_line.specs.Lines.{linesAt};
 ghost use Rattle.tree_question.specs.Questions.{questionStepAt, questionsAt};
 ghost use Rattle.tree_body.specs.Trees.{headAt};
-ghost use Rattle.text_parts.specs.Parts.{partInside};
 ghost use Rattle.link_find.specs.Find.{Lines};
 ghost use Rattle.link_window.specs.declared.Linking.the-variants.{Refused};
-ghost use Rattle.link_window.specs.Windows.{nameIn, heard, Marked, FirstOf, Filling, Windowed, unheard, strays, firstFrom, faultAlone, faultLines, faultBraces, faultHead};
+ghost use Rattle.link_window.specs.Windows.{nameFrom, nameIn, keyOf, Keys, KeyIn, Keyed, Gone, isGone, heard, Marked, FirstOf, Filling, takenOf, behindOf, Windowed, unheard, strays, firstFrom, faultAlone, faultLines, faultBraces, faultHead};
 
 // How many lines are looked up at a time.
 const WINDOW: usize = 32;
@@ -61,18 +60,17 @@ pub enum Window {
 
 // ---- the names of a window
 
-// Name k: where it begins, and how long it is.
-fn put_name(names: &mut [u64], k: usize, start: usize, len: usize)
-    requires { ⌜ 2 * k + 1 < length (now names) ⌝ }
-    ensures { λ _. ⌜ now (names .exit) ≡ set (set (now (names .entry)) (2 * k) start) (2 * k + 1) len ⌝ }
+// Name k begins at `start`. How long it is isn't kept: it ends where no byte of a name follows.
+fn put_name(names: &mut [u64], k: usize, start: usize)
+    requires { ⌜ k < length (now names) ⌝ }
+    ensures { λ _. ⌜ now (names .exit) ≡ set (now (names .entry)) k start ⌝ }
 {
-    names[2 * k] = start as u64;
-    names[2 * k + 1] = len as u64;
+    names[k] = start as u64;
 }
 
 // The names of the lines from `first` on, as many as there is room for.
 fn fill(s: &[u8], first: usize, names: &mut [u64]) -> Filled
-    requires { ⌜ length (now names) ≡ 64 ⌝ }
+    requires { ⌜ length (now names) ≡ 32 ⌝ }
     ensures { λ r. ⌜ Filling (now (s .entry)) first (now (names .entry)) r (now (names .exit)) ⌝ }
 {
     let mut i = first;
@@ -80,12 +78,12 @@ fn fill(s: &[u8], first: usize, names: &mut [u64]) -> Filled
     while k < WINDOW {
         match next_line(s, i) {
             LineStep::Next { line, next } => {
-                put_name(names, k, line.start, line.len);
+                put_name(names, k, line.start);
                 k = k + 1;
                 i = next;
             }
             LineStep::Last { line, next: _ } => {
-                put_name(names, k, line.start, line.len);
+                put_name(names, k, line.start);
                 return Filled::All(k + 1);
             }
             LineStep::Broken => {
@@ -96,54 +94,118 @@ fn fill(s: &[u8], first: usize, names: &mut [u64]) -> Filled
     Filled::More(i)
 }
 
-// ---- which of them were met among the questions
-
-fn met_after(before: u8, hit: bool) -> u8
-    ensures { λ r. ⌜ isYes r ≡ isYes before || hit ⌝ }
+// The name that begins at a place.
+fn name_at(s: &[u8], start: u64) -> &[u8]
+    ensures { λ r. ⌜ now r ≡ nameFrom (now (s .entry)) start ⌝ }
 {
-    if hit { 1 } else { before }
+    let at = start as usize;
+    part_inside(s, start, (name_end(s, at) - at) as u64)
 }
 
-// Whether name j is this one. Most names are of another length, and need not be cut out of the text.
-fn is_name(s: &[u8], names: &[u64], j: usize, name: &[u8]) -> bool
-    requires { ⌜ 2 * j + 1 < length (now names) ⌝ }
-    ensures { λ r. ⌜ r ≡ same (now (name .entry)) (nameIn (now (s .entry)) (now (names .entry)) j) ⌝ }
+// ---- their keys
+
+// A small number of a name, never 0, by its length and its last byte: names of two keys are two names, and need not be compared.
+fn key_of(name: &[u8]) -> u8
+    ensures { λ r. ⌜ r ≡ keyOf (now (name .entry)) ⌝ }
 {
-    let len = names[2 * j + 1];
-    if 0 < name.len() {
-        if name.len() as u64 != len {
-            return false;
-        }
+    let n = name.len();
+    if n == 0 {
+        return 1;
     }
-    same_name(name, part_inside(s, names[2 * j], len))
+    let size = (n % 16) as u8;
+    1 + size * 15 + name[n - 1] % 15
 }
 
-// Those of the first n names that are this one.
-fn mark(s: &[u8], names: &[u64], met: &mut [u8], n: usize, name: &[u8])
-    requires { ⌜ (n ≤ length (now met)) × (2 * n ≤ length (now names)) ⌝ }
-    ensures { λ _. ⌜ Marked (now (met .entry)) n (λ (j : ℕ). same (now (name .entry)) (nameIn (now (s .entry)) (now (names .entry)) j)) (now (met .exit)) ⌝ }
+// The keys of the first n names.
+fn set_keys(s: &[u8], names: &[u64], keys: &mut [u8], n: usize)
+    requires { ⌜ (n ≤ length (now keys)) × (n ≤ length (now names)) ⌝ }
+    ensures { λ _. ⌜ Keys (now (s .entry)) (now (names .entry)) (now (keys .entry)) n (now (keys .exit)) ⌝ }
 {
     let mut j = 0;
     while j < n {
-        met[j] = met_after(met[j], is_name(s, names, j, name));
+        keys[j] = key_of(name_at(s, names[j]));
         j = j + 1;
     }
 }
 
-// Those that a question from `first` on bears.
-fn mark_all(s: &[u8], first: usize, names: &[u64], met: &mut [u8], n: usize)
-    requires { ⌜ (n ≤ length (now met)) × (2 * n ≤ length (now names)) ⌝ }
-    ensures { λ _. ⌜ Marked (now (met .entry)) n (λ (j : ℕ). heard (now (s .entry)) (nameIn (now (s .entry)) (now (names .entry)) j) (read (questionStepAt (now (s .entry))) (length (now (s .entry))) first .items)) (now (met .exit)) ⌝ }
+// ---- which of them were met among the questions: their keys become 0
+
+// The key of the name that begins at `start`, once it was compared with one of a key.
+fn key_after(s: &[u8], start: u64, before: u8, name: &[u8], key: u8) -> u8
+    requires { ⌜ (key ≡ keyOf (now name)) × KeyIn (now s) start before ⌝ }
+    ensures { λ r. ⌜ r ≡ cond (same (now (name .entry)) (nameFrom (now (s .entry)) start)) 0 before ⌝ }
+{
+    if before != key {
+        return before;
+    }
+    if same_name(name, name_at(s, start)) {
+        0
+    } else {
+        before
+    }
+}
+
+// Those of the first n names that are this one. The keys below `low` are gone, and not looked at.
+fn mark(s: &[u8], names: &[u64], keys: &mut [u8], low: usize, n: usize, name: &[u8])
+    requires { ⌜ (n ≤ length (now keys)) × (n ≤ length (now names)) × Keyed (now s) (now names) n (now keys) × Gone low (now keys) ⌝ }
+    ensures { λ _. ⌜ Marked (now (keys .entry)) n (λ (j : ℕ). same (now (name .entry)) (nameIn (now (s .entry)) (now (names .entry)) j)) (now (keys .exit)) ⌝ }
+{
+    let key = key_of(name);
+    let mut j = low;
+    while j < n {
+        keys[j] = key_after(s, names[j], keys[j], name, key);
+        j = j + 1;
+    }
+}
+
+// How many of n keys are gone, from the first on, where so many are.
+fn gone_from(keys: &[u8], low: usize, n: usize) -> usize
+    requires { ⌜ (n ≤ length (now keys)) × Gone low (now keys) ⌝ }
+    ensures { λ r. ⌜ Gone r (now (keys .entry)) ⌝ }
+{
+    let mut j = low;
+    while j < n {
+        if keys[j] != 0 {
+            return j;
+        }
+        j = j + 1;
+    }
+    j
+}
+
+// Those that a question from `first` on bears. Where none is left, no question need be read.
+fn mark_all(s: &[u8], first: usize, names: &[u64], keys: &mut [u8], n: usize)
+    requires { ⌜ (n ≤ length (now keys)) × (n ≤ length (now names)) × Keyed (now s) (now names) n (now keys) ⌝ }
+    ensures { λ _. ⌜ Marked (now (keys .entry)) n (λ (j : ℕ). heard (now (s .entry)) (nameIn (now (s .entry)) (now (names .entry)) j) (read (questionStepAt (now (s .entry))) (length (now (s .entry))) first .items)) (now (keys .exit)) ⌝ }
 {
     let mut i = first;
+    let mut low = 0;
     loop {
         match next_name(s, i) {
             NameStep::Next { start, len, next } => {
-                mark(s, names, met, n, part_inside(s, start as u64, len as u64));
+                mark(
+                    s,
+                    names,
+                    keys,
+                    low,
+                    n,
+                    part_inside(s, start as u64, len as u64),
+                );
+                low = gone_from(keys, low, n);
+                if n <= low {
+                    return;
+                }
                 i = next;
             }
             NameStep::Last { start, len } => {
-                mark(s, names, met, n, part_inside(s, start as u64, len as u64));
+                mark(
+                    s,
+                    names,
+                    keys,
+                    low,
+                    n,
+                    part_inside(s, start as u64, len as u64),
+                );
                 return;
             }
             NameStep::Broken => {
@@ -153,14 +215,14 @@ fn mark_all(s: &[u8], first: usize, names: &[u64], met: &mut [u8], n: usize)
     }
 }
 
-// The first of n that wasn't met.
-fn first_unmet(met: &[u8], n: usize) -> Found
-    requires { ⌜ n ≤ length (now met) ⌝ }
-    ensures { λ r. ⌜ FirstOf (λ (j : ℕ). isYes (getD (now (met .entry)) j 0)) n r ⌝ }
+// The first of n whose key is left.
+fn first_left(keys: &[u8], n: usize) -> Found
+    requires { ⌜ n ≤ length (now keys) ⌝ }
+    ensures { λ r. ⌜ FirstOf (λ (j : ℕ). isGone (getD (now (keys .entry)) j 0)) n r ⌝ }
 {
     let mut j = 0;
     while j < n {
-        if met[j] == 0 {
+        if keys[j] != 0 {
             return Found::At(j as u64);
         }
         j = j + 1;
@@ -170,17 +232,18 @@ fn first_unmet(met: &[u8], n: usize) -> Found
 
 // The first of n names that no question bears, where the questions begin at `first`.
 fn first_unheard(s: &[u8], first: usize, names: &[u64], n: usize) -> Found
-    requires { ⌜ (n ≤ 32) × (2 * n ≤ length (now names)) ⌝ }
+    requires { ⌜ (n ≤ 32) × (n ≤ length (now names)) ⌝ }
     ensures { λ r. ⌜ FirstOf (λ (j : ℕ). heard (now (s .entry)) (nameIn (now (s .entry)) (now (names .entry)) j) (read (questionStepAt (now (s .entry))) (length (now (s .entry))) first .items)) n r ⌝ }
 {
-    let mut met = [0u8; 32];
-    mark_all(s, first, names, &mut met, n);
-    first_unmet(&met, n)
+    let mut keys = [0u8; 32];
+    set_keys(s, names, &mut keys, n);
+    mark_all(s, first, names, &mut keys, n);
+    first_left(&keys, n)
 }
 
 // The first of n names that no question bears; where the text has no question, the first of them.
 fn look_up(s: &[u8], at: usize, names: &[u64], n: usize) -> Found
-    requires { ⌜ (n ≤ 32) × (2 * n ≤ length (now names)) ⌝ }
+    requires { ⌜ (n ≤ 32) × (n ≤ length (now names)) ⌝ }
     ensures { λ r. ⌜ FirstOf (λ (j : ℕ). heard (now (s .entry)) (nameIn (now (s .entry)) (now (names .entry)) j) (questionsAt (now (s .entry)) at .items)) n r ⌝ }
 {
     match first_item(s, at) {
@@ -191,20 +254,35 @@ fn look_up(s: &[u8], at: usize, names: &[u64], n: usize) -> Found
 
 // ---- the lines of a tree, window by window
 
+// How many names were taken.
+fn taken(filled: Filled) -> usize
+    ensures { λ r. ⌜ r ≡ takenOf filled ⌝ }
+{
+    match filled {
+        Filled::More(_) => WINDOW,
+        Filled::All(n) => n,
+    }
+}
+
+// What follows a window of which every question is there.
+fn behind(filled: Filled) -> Window
+    ensures { λ r. ⌜ r ≡ behindOf filled ⌝ }
+{
+    match filled {
+        Filled::More(next) => Window::Next(next),
+        Filled::All(_) => Window::Clean,
+    }
+}
+
 // The lines from `first` on, as many as are looked up at a time.
 fn read_window(s: &[u8], at: usize, first: usize) -> Window
     ensures { λ r. ⌜ Windowed (now (s .entry)) (questionsAt (now (s .entry)) at .items) first r ⌝ }
 {
-    let mut names = [0u64; 64];
-    match fill(s, first, &mut names) {
-        Filled::More(next) => match look_up(s, at, &names, WINDOW) {
-            Found::At(j) => Window::Missing(j),
-            Found::Nothing => Window::Next(next),
-        },
-        Filled::All(n) => match look_up(s, at, &names, n) {
-            Found::At(j) => Window::Missing(j),
-            Found::Nothing => Window::Clean,
-        },
+    let mut names = [0u64; 32];
+    let filled = fill(s, first, &mut names);
+    match look_up(s, at, &names, taken(filled)) {
+        Found::At(j) => Window::Missing(j),
+        Found::Nothing => behind(filled),
     }
 }
 

@@ -1,5 +1,5 @@
 -- The laws of the walk over a text: what is met at a line, at a PDF and nowhere; the loop; the lines read; a tree in braces.
-use mathlib.Core.Path.{_≡_, refl, sym, ap, ap₂, _∙_, subst}
+use mathlib.Core.Path.{_≡_, refl, sym, ap, ap₂, _∙_, subst, subst₂}
 use mathlib.Core.Bool.{Bool, true, false, cond}
 use mathlib.Core.List.{List, [], _∷_}
 use Prim.Native.Nat.{ℕ, zero, suc, _+_, _-_, _*_, _/_, _≤_, _<_, min}
@@ -7,7 +7,8 @@ use native.Mathlib.Nat.{mul-suc, mul-le-mul-right, div-mul-le-self, div-lt-iff-l
 use native.Mathlib.Omega.{arith}
 use borrow.Author.Tests.{lt-ltb, le-ltb}
 use lib.Dec.{ltb}
-use lib.ListN.{length, getD}
+use lib.IntN.{ℤ}
+use lib.ListN.{length, getD, drop}
 use Rattle.written.specs.Said.{QuestionPlace}
 use Rattle.written.specs.Linking.{Nth, here, there}
 use Rattle.written.specs.Walks.{chosen, isYes}
@@ -20,14 +21,13 @@ use Rattle.tree_line.specs.declared.Line as code
 use Rattle.tree_survey_lines.specs.Counts.{linesCounted}
 use Rattle.tree_survey_lines.specs.declared.LineCount.the-variants as count
 use Rattle.tree_survey_lines.proofs.Counting.{counted, not-counted}
-use Rattle.link_order.specs.Keys.{idKey}
 use Rattle.text_parts.specs.Parts.{partInside}
 use Rattle.link_search.specs.declared.Found.{Found}
 use Rattle.link_search.specs.declared.Found.the-variants.{At, Nothing}
-use Rattle.link_find.specs.Find.{asked, bearer, bearing}
-use Rattle.link_find.specs.declared.Borne.{Borne}
-use Rattle.link_find.specs.declared.Borne.the-variants as borne
-use Rattle.link_find.proofs.Finding.{Stands, nowhere, stands, kept}
+use Rattle.link_order.specs.Keys.{idKey}
+use Rattle.link_find.specs.Find.{asked, bearer, StandsAt, nowhere, stands}
+use Rattle.text_spaces.specs.declared.Place.{Place}
+use Rattle.text_spaces.specs.declared.Place.the-variants as place
 use Rattle.text_parts.specs.Parts.{natOf}
 use Rattle.link_alone.specs.Alone.{singleIn}
 use Rattle.link_alone.specs.declared.Single.{Single}
@@ -36,9 +36,9 @@ use Rattle.walk.specs.declared.Met.{Met}
 use Rattle.walk.specs.declared.Met.the-variants.{Leaf, Line, Wrong}
 use Rattle.walk.specs.declared.Walked.{Walked}
 use Rattle.walk.specs.declared.Walked.the-variants as walked
-use Rattle.walk.proofs.Round.{plus, plus-none, walk-wrong, enough-min}
+use Rattle.walk.proofs.Round.{plus, plus-none, enough-min}
 use Rattle.walk.proofs.Following.{Following, following-leaf, following-wrong, following-limit, following-reach, following-on}
-use Rattle.walk_bare.specs.Bare.{replyIn, replyFound, replyTo, borneGoal, goalOf, lineNumber, goalIn, metReply, metIn, meetsIn, readCount, endedOf, singleOf, endingOf, bracesOf, headOf, meteredOf, linkedAs, meterAt, chosenOf, bareOf, BareTells, no-room, told}
+use Rattle.walk_bare.specs.Bare.{replyIn, replyFound, replyTo, replyFirst, GoesTo, to-leaf, to-line, to-nothing, lineNumber, goalIn, metReply, metIn, meetsIn, readCount, endedOf, singleOf, endingOf, bracesOf, headOf, meteredOf, linkedAs, meterAt, chosenOf, bareOf, BareTells, no-room, told}
 use Rattle.walk_accepts.specs.Accepting.{chosenTree}
 use Rattle.walk_accepts.specs.declared.Choice.{Choice}
 use Rattle.link_window.specs.Windows.{faultHead}
@@ -48,6 +48,7 @@ use Rattle.tree_body.specs.Trees.{headAt}
 use Rattle.walk_bare.specs.declared.Meter.{Meter}
 use Rattle.walk_bare.specs.declared.Reply.{Reply}
 use Rattle.walk_bare.specs.declared.Reply.the-variants.{Goes, Missing}
+use Rattle.walk_bare.specs.declared.Goal.{Goal}
 use Rattle.walk_bare.specs.declared.Goal.the-variants as goal
 use Rattle.walk_bare.specs.declared.Bare.{Bare}
 use Rattle.walk_bare.specs.declared.Bare.the-variants as bare
@@ -124,46 +125,60 @@ module _ (s : List ℕ) (qs : List QuestionPlace) (bytes : List ℕ) (ls : List 
   unfolding meetsIn
   meets-below k j e = met-below (λ l. metReply ls (replyTo s qs bytes l)) ls k j e
 
+  -- from a line's number on
+
+  meets-from : (ms : List code.Line) (k : ℕ) → k ≤ length ms → metIn (λ l. metReply ls (replyTo s qs bytes l)) ms k ≡ metReply ls (replyFirst s qs bytes (drop k ms))
+  unfolding metIn
+  meets-from [] zero h = refl
+  meets-from [] (suc k) h = absurd (omega arith)
+  meets-from (l ∷ ms) zero h = refl
+  meets-from (l ∷ ms) (suc k) h = meets-from ms k (omega arith)
+
+  meets-first : (k : ℕ) → k ≤ length ls → meetsIn s qs bytes ls k ≡ metReply ls (replyFirst s qs bytes (drop k ls))
+  unfolding meetsIn
+  meets-first k h = meets-from ls k h
+
   -- where a reference leads
 
-  goal-leaf : (x : TreeIndex) {p : ℕ} → goal.Leaf p ≡ goalOf ls x → meetsIn s qs bytes ls (goalIn ls x) ≡ Leaf p
-  goal-leaf (Pdf x) {p} e = let z : natOf x ≡ p = cc in meets-leaf (natOf x) ∙ ap Leaf z
-  goal-leaf (Node x) {p} e = go (bearing (idKey x) ls) e
-    where
-      go : (g : Borne) → goal.Leaf p ≡ borneGoal g → meetsIn s qs bytes ls (lineNumber (length ls) (bearer (idKey x) ls)) ≡ Leaf p
-      go (borne.Line l) e = let z : _≡_ {A = ℕ} 0 1 = cc in absurd (omega arith)
-      go borne.Nothing e = let z : _≡_ {A = ℕ} 0 1 = cc in absurd (omega arith)
+  goal-leaf : {x : TreeIndex} {g : Goal} {p : ℕ} → GoesTo s ls x g → g ≡ goal.Leaf p → meetsIn s qs bytes ls (goalIn ls x) ≡ Leaf p
+  goal-leaf {p = p} (to-leaf v) e = let z : natOf v ≡ p = cc in meets-leaf (natOf v) ∙ ap Leaf z
+  goal-leaf (to-line v h) e = let z : _≡_ {A = ℕ} 0 1 = cc in absurd (omega arith)
+  goal-leaf (to-nothing v h) e = let z : _≡_ {A = ℕ} 0 1 = cc in absurd (omega arith)
 
-  goal-line : (x : TreeIndex) {l : code.Line} → goal.Line l ≡ goalOf ls x → Nth ls (goalIn ls x) l
-  goal-line (Pdf x) e = let z : _≡_ {A = ℕ} 0 1 = cc in absurd (omega arith)
-  goal-line (Node x) {l} e = go (kept (idKey x) ls) e
-    where
-      go : {f : Found} {g : Borne} → Stands ls f g → goal.Line l ≡ borneGoal g → Nth ls (lineNumber (length ls) f) l
-      go nowhere e = let z : _≡_ {A = ℕ} 0 1 = cc in absurd (omega arith)
-      go (stands {k = k} {l = m} n) e = let z : m ≡ l = cc in subst (Nth ls k) z n
+  line-at : {f : Found} {p : Place} {i : ℕ} → StandsAt s ls f p → p ≡ place.At i → (lineNumber (length ls) f ≤ length ls) × (drop (lineNumber (length ls) f) ls ≡ linesAt s i .items)
+  line-at nowhere e = let z : _≡_ {A = ℕ} 0 1 = cc in absurd (omega arith)
+  line-at {i = i} (stands {k = k} {i = j} h q) e = let z : j ≡ i = cc in (omega arith, q ∙ ap (λ (m : ℕ). linesAt s m .items) z)
 
-  goal-none : (x : TreeIndex) → goal.Nowhere ≡ goalOf ls x → meetsIn s qs bytes ls (goalIn ls x) ≡ Wrong
-  goal-none (Pdf x) e = let z : _≡_ {A = ℕ} 0 1 = cc in absurd (omega arith)
-  goal-none (Node x) e = go (kept (idKey x) ls) e
-    where
-      go : {f : Found} {g : Borne} → Stands ls f g → goal.Nowhere ≡ borneGoal g → meetsIn s qs bytes ls (lineNumber (length ls) f) ≡ Wrong
-      go nowhere e = meets-none
-      go (stands {k = k} {l = m} n) e = let z : _≡_ {A = ℕ} 0 1 = cc in absurd (omega arith)
+  goal-line : {x : TreeIndex} {g : Goal} {i : ℕ} → GoesTo s ls x g → g ≡ goal.Line i → (goalIn ls x ≤ length ls) × (drop (goalIn ls x) ls ≡ linesAt s i .items)
+  goal-line (to-leaf v) e = let z : _≡_ {A = ℕ} 0 1 = cc in absurd (omega arith)
+  goal-line {i = i} (to-line v {i = j} h) e = let z : j ≡ i = cc in line-at h (ap place.At z)
+  goal-line (to-nothing v h) e = let z : _≡_ {A = ℕ} 0 1 = cc in absurd (omega arith)
+
+  no-line : {f : Found} {p : Place} → StandsAt s ls f p → p ≡ place.Nowhere → meetsIn s qs bytes ls (lineNumber (length ls) f) ≡ Wrong
+  no-line nowhere e = meets-none
+  no-line (stands h q) e = let z : _≡_ {A = ℕ} 0 1 = cc in absurd (omega arith)
+
+  goal-none : {x : TreeIndex} {g : Goal} → GoesTo s ls x g → g ≡ goal.Nowhere → meetsIn s qs bytes ls (goalIn ls x) ≡ Wrong
+  goal-none (to-leaf v) e = let z : _≡_ {A = ℕ} 0 1 = cc in absurd (omega arith)
+  goal-none (to-line v h) e = let z : _≡_ {A = ℕ} 0 1 = cc in absurd (omega arith)
+  goal-none (to-nothing v h) e = no-line h refl
 
   -- ---- the loop
 
-  -- at a line, after so many questions
-  pub record Walking (limit n : ℕ) (line : code.Line) (asked : ℕ) : Type 0 where
+  -- at a line that was answered, after so many questions
+  pub record Walking (limit n : ℕ) (reply : Reply) (asked : ℕ) : Type 0 where
     pub k : ℕ
-    pub stands : Nth ls k line
+    pub inside : k ≤ length ls
+    pub said : reply ≡ replyFirst s qs bytes (drop k ls)
     pub follows : Following (meetsIn s qs bytes ls) limit n k asked
 
-  pub walking-none : (limit n : ℕ) {l : code.Line} → n ≡ length ls → Nth ls 0 l → Walking limit n l 0
+  pub walking-none : (limit n : ℕ) {r : Reply} → n ≡ length ls → r ≡ replyFirst s qs bytes ls → Walking limit n r 0
   walking-none limit n e h =
       let z : min limit n - 0 ≡ min limit (length ls) = omega arith in
       record {
         k = 0;
-        stands = h;
+        inside = omega arith;
+        said = h;
         follows = record {
           limited = omega arith;
           bounded = omega arith;
@@ -172,13 +187,16 @@ module _ (s : List ℕ) (qs : List QuestionPlace) (bytes : List ℕ) (ls : List 
         };
       }
 
-  module _ {limit n : ℕ} {l : code.Line} {a : ℕ} (w : Walking limit n l a) where
-    pub walking-missing : Missing ≡ replyTo s qs bytes l → walked.Refused WalkTable ≡ walkFrom (meetsIn s qs bytes ls) limit 0
-    walking-missing e = following-wrong (meetsIn s qs bytes ls) limit n (w .k) a (w .follows) (meets-line (w .stands) ∙ sym (ap (metReply ls) e))
+  module _ {limit n : ℕ} {r : Reply} {a : ℕ} (w : Walking limit n r a) where
+    met-here : {g : Reply} → r ≡ g → meetsIn s qs bytes ls (w .k) ≡ metReply ls g
+    met-here e = meets-first (w .k) (w .inside) ∙ ap (metReply ls) (sym (w .said) ∙ e)
 
-    module _ {x : TreeIndex} (e : Goes x ≡ replyTo s qs bytes l) where
+    pub walking-missing : r ≡ Missing → walked.Refused WalkTable ≡ walkFrom (meetsIn s qs bytes ls) limit 0
+    walking-missing e = following-wrong (meetsIn s qs bytes ls) limit n (w .k) a (w .follows) (met-here e)
+
+    module _ {x : TreeIndex} (e : r ≡ Goes x) where
       goes-on : meetsIn s qs bytes ls (w .k) ≡ Line (goalIn ls x)
-      goes-on = meets-line (w .stands) ∙ sym (ap (metReply ls) e)
+      goes-on = met-here e
 
       pub walking-limit : a ≡ limit → walked.Refused Steps ≡ walkFrom (meetsIn s qs bytes ls) limit 0
       walking-limit q = following-limit (meetsIn s qs bytes ls) limit n (w .k) a (w .follows) goes-on q
@@ -190,21 +208,26 @@ module _ (s : List ℕ) (qs : List QuestionPlace) (bytes : List ℕ) (ls : List 
         further : Following (meetsIn s qs bytes ls) limit n (goalIn ls x) (a + 1)
         further = following-on (meetsIn s qs bytes ls) limit n (w .k) a (w .follows) goes-on p q
 
-        pub walking-leaf : {m : ℕ} → goal.Leaf m ≡ goalOf ls x → walked.Pdf m (a + 1) ≡ walkFrom (meetsIn s qs bytes ls) limit 0
-        walking-leaf h = following-leaf (meetsIn s qs bytes ls) limit n (goalIn ls x) (a + 1) further (goal-leaf x h)
+        pub walking-leaf : {g : Goal} {m : ℕ} → GoesTo s ls x g → g ≡ goal.Leaf m → walked.Pdf m (a + 1) ≡ walkFrom (meetsIn s qs bytes ls) limit 0
+        walking-leaf h z = following-leaf (meetsIn s qs bytes ls) limit n (goalIn ls x) (a + 1) further (goal-leaf h z)
 
-        pub walking-wrong : goal.Nowhere ≡ goalOf ls x → walked.Refused WalkTable ≡ walkFrom (meetsIn s qs bytes ls) limit 0
-        walking-wrong h = following-wrong (meetsIn s qs bytes ls) limit n (goalIn ls x) (a + 1) further (goal-none x h)
+        pub walking-wrong : {g : Goal} → GoesTo s ls x g → g ≡ goal.Nowhere → walked.Refused WalkTable ≡ walkFrom (meetsIn s qs bytes ls) limit 0
+        walking-wrong h z = following-wrong (meetsIn s qs bytes ls) limit n (goalIn ls x) (a + 1) further (goal-none h z)
 
-        pub walking-on : {m : code.Line} → goal.Line m ≡ goalOf ls x → Walking limit n m (a + 1)
-        walking-on h = record { k = goalIn ls x; stands = goal-line x h; follows = further }
+        pub walking-on : {g : Goal} {j : ℕ} → GoesTo s ls x g → g ≡ goal.Line j → {t : Reply} → t ≡ replyFirst s qs bytes (linesAt s j .items) → Walking limit n t (a + 1)
+        walking-on h z v = record { k = goalIn ls x; inside = goal-line h z .0; said = v ∙ ap (replyFirst s qs bytes) (sym (goal-line h z .1)); follows = further }
 
-  -- where there is no line
-  pub walking-empty : (limit : ℕ) → ls ≡ [] → walked.Refused WalkTable ≡ walkFrom (meetsIn s qs bytes ls) limit 0
-  walking-empty limit e = sym (walk-wrong (meetsIn s qs bytes ls) limit 0 (sym (ap (λ (x : List code.Line). meetsIn s qs bytes ls (length x)) e) ∙ meets-none))
+-- ---- where a reference leads
 
-pub first-line : {A : Type 0} {x : A} {xs ys : List A} → ys ≡ x ∷ xs → Nth ys 0 x
-first-line {x = x} e = subst (λ z. Nth z 0 x) (sym e) here
+module _ (s : List ℕ) (ls : List code.Line) where
+  pub goes-leaf : {x : TreeIndex} {v : ℤ} {m : ℕ} → x ≡ Pdf v → m ≡ natOf v → GoesTo s ls x (goal.Leaf m)
+  goes-leaf {v = v} e h = subst₂ (λ (y : TreeIndex) (n : ℕ). GoesTo s ls y (goal.Leaf n)) (sym e) (sym h) (to-leaf v)
+
+  pub goes-line : {x : TreeIndex} {v : ℤ} {k : ℕ} {p : Place} {i : ℕ} → x ≡ Node v → k ≡ idKey v → StandsAt s ls (bearer k ls) p → p ≡ place.At i → GoesTo s ls x (goal.Line i)
+  goes-line {v = v} {i = i} e h w z = subst (λ (y : TreeIndex). GoesTo s ls y (goal.Line i)) (sym e) (to-line v (subst₂ (λ (n : ℕ) (q : Place). StandsAt s ls (bearer n ls) q) h z w))
+
+  pub goes-nowhere : {x : TreeIndex} {v : ℤ} {k : ℕ} {p : Place} → x ≡ Node v → k ≡ idKey v → StandsAt s ls (bearer k ls) p → p ≡ place.Nowhere → GoesTo s ls x goal.Nowhere
+  goes-nowhere {v = v} e h w z = subst (λ (y : TreeIndex). GoesTo s ls y goal.Nowhere) (sym e) (to-nothing v (subst₂ (λ (n : ℕ) (q : Place). StandsAt s ls (bearer n ls) q) h z w))
 
 -- ---- the lines read
 

@@ -4,6 +4,7 @@ use mathlib.Core.Bool.{Bool, cond}
 use mathlib.Core.List.{List, [], _∷_}
 use Prim.Native.Nat.{ℕ, zero, suc, _+_, _-_, _*_, _≤_, _<_, min}
 use lib.Dec.{ltb}
+use lib.IntN.{ℤ}
 use lib.ListN.{length, getD}
 use lib.Seq.{sets}
 use Rattle.written.specs.Said.{QuestionPlace}
@@ -25,9 +26,8 @@ use Rattle.text_parts.specs.Parts.{partInside}
 use Rattle.link_search.specs.declared.Found.{Found}
 use Rattle.link_search.specs.declared.Found.the-variants.{At, Nothing}
 use Rattle.text_parts.specs.Parts.{natOf}
-use Rattle.link_find.specs.Find.{asked, bearer, bearing}
-use Rattle.link_find.specs.declared.Borne.{Borne}
-use Rattle.link_find.specs.declared.Borne.the-variants as borne
+use Rattle.text_spaces.specs.declared.Place.the-variants as place
+use Rattle.link_find.specs.Find.{asked, bearer, StandsAt}
 use Rattle.link_alone.specs.Alone.{singleIn}
 use Rattle.link_alone.specs.declared.Single.{Single}
 use Rattle.link_alone.specs.declared.Single.the-variants.{One, Several}
@@ -63,14 +63,16 @@ replyFound bytes y n Nothing = Missing
 unfoldable pub replyTo : List ℕ → List QuestionPlace → List ℕ → code.Line → Reply
 replyTo s qs bytes l = replyFound bytes (l .yes) (l .no) (asked s (partInside s (l .start) (l .len)) qs)
 
-abbrev pub borneGoal : Borne → Goal
-borneGoal (borne.Line l) = goal.Line l
-borneGoal borne.Nothing = goal.Nowhere
+-- the first of the lines from a place on
+abbrev pub replyFirst : List ℕ → List QuestionPlace → List ℕ → List code.Line → Reply
+replyFirst s qs bytes [] = Missing
+replyFirst s qs bytes (l ∷ ls) = replyTo s qs bytes l
 
--- a PDF, or the last line that bears the id
-abbrev pub goalOf : List code.Line → TreeIndex → Goal
-goalOf ls (Pdf x) = goal.Leaf (natOf x)
-goalOf ls (Node x) = borneGoal (bearing (idKey x) ls)
+-- a PDF, or where the last line that bears the id stands
+pub data GoesTo (s : List ℕ) (ls : List code.Line) : TreeIndex → Goal → Type 0 where
+  to-leaf : (x : ℤ) → GoesTo s ls (Pdf x) (goal.Leaf (natOf x))
+  to-line : (x : ℤ) {i : ℕ} → StandsAt s ls (bearer (idKey x) ls) (place.At i) → GoesTo s ls (Node x) (goal.Line i)
+  to-nothing : (x : ℤ) → StandsAt s ls (bearer (idKey x) ls) place.Nowhere → GoesTo s ls (Node x) goal.Nowhere
 
 -- ---- the lines of a tree as records: the lines by their numbers, then nothing, then a leaf for every PDF number
 

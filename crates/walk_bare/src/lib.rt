@@ -3,7 +3,6 @@
 use error::Refusal;
 use link_alone::Single;
 use link_alone::single_of;
-use link_find::Borne;
 use link_find::last_bearing;
 use link_find::last_question;
 use link_order::id_key;
@@ -12,6 +11,7 @@ use link_window::Linking;
 use link_window::link_tree;
 use text_parts::natural;
 use text_parts::part_inside;
+use text_spaces::Place;
 use tree_body::TreeHead;
 use tree_body::tree_head;
 use tree_line::Line;
@@ -28,12 +28,11 @@ ghost use mathlib.Core.List.{[], _∷_};
 ghost use Prim.Native.Nat.{_≤_};
 ghost use lib.ListN.{length};
 ghost use lib.Seq.{sets};
-ghost use Rattle.written.specs.Linking.{Nth};
 ghost use Rattle.tree_question.specs.Questions.{questionsAt};
 ghost use Rattle.tree_line.specs.Lines.{linesAt};
 ghost use Rattle.tree_body.specs.Trees.{headAt};
 ghost use Rattle.walk.specs.Walking.{walkFrom};
-ghost use Rattle.walk_bare.specs.Bare.{replyIn, replyTo, goalOf, meetsIn, readCount, endedOf, aloneOf, bracesOf, headOf, refusedBy, refusedAs, meteredOf, meterAt, bareOf, BareTells};
+ghost use Rattle.walk_bare.specs.Bare.{replyIn, replyTo, replyFirst, GoesTo, meetsIn, readCount, endedOf, aloneOf, bracesOf, headOf, refusedBy, refusedAs, meteredOf, meterAt, bareOf, BareTells};
 
 // 20: a lent slice is too short.
 const ROOM: u64 = 20;
@@ -71,7 +70,7 @@ fn reply_of(answers: &[u8], question: u64, yes: TreeIndex, no: TreeIndex) -> Rep
 }
 
 // The answer to a line's question, the last of its name in the text that begins at `at`.
-fn ask(s: &[u8], at: usize, answers: &[u8], line: Line) -> Reply
+fn reply_to(s: &[u8], at: usize, answers: &[u8], line: Line) -> Reply
     ensures { λ r. ⌜ r ≡ replyTo (now (s .entry)) (questionsAt (now (s .entry)) at .items) (now (answers .entry)) line ⌝ }
 {
     let yes = line.yes;
@@ -82,21 +81,33 @@ fn ask(s: &[u8], at: usize, answers: &[u8], line: Line) -> Reply
     }
 }
 
-// Where a reference leads: to a PDF, to the last line that bears its id, or nowhere. All lines from `first` on are read for an id.
+// The same of the line that stands at a place, where it is parsed once more: no line is kept while others are read.
+fn ask(s: &[u8], at: usize, answers: &[u8], place: usize) -> Reply
+    ensures { λ r. ⌜ r ≡ replyFirst (now (s .entry)) (questionsAt (now (s .entry)) at .items) (now (answers .entry)) (linesAt (now (s .entry)) place .items) ⌝ }
+{
+    match next_line(s, place) {
+        LineStep::Next { line, next: _ } => reply_to(s, at, answers, line),
+        LineStep::Last { line, next: _ } => reply_to(s, at, answers, line),
+        // never, of a tree that can be read
+        LineStep::Broken => Reply::Missing,
+    }
+}
+
+// Where a reference leads: to a PDF, to the place of the last line that bears its id, or nowhere. All lines from `first` on are read for an id.
 pub enum Goal {
     Leaf(u64),
-    Line(Line),
+    Line(usize),
     Nowhere,
 }
 
 fn go_to(s: &[u8], first: usize, index: TreeIndex) -> Goal
-    ensures { λ r. ⌜ r ≡ goalOf (linesAt (now (s .entry)) first .items) index ⌝ }
+    ensures { λ r. ⌜ GoesTo (now (s .entry)) (linesAt (now (s .entry)) first .items) index r ⌝ }
 {
     match index {
         TreeIndex::Pdf(number) => Goal::Leaf(natural(number)),
         TreeIndex::Node(id) => match last_bearing(s, first, id_key(id)) {
-            Borne::Line(line) => Goal::Line(line),
-            Borne::Nothing => Goal::Nowhere,
+            Place::At(place) => Goal::Line(place),
+            Place::Nowhere => Goal::Nowhere,
         },
     }
 }
@@ -104,22 +115,15 @@ fn go_to(s: &[u8], first: usize, index: TreeIndex) -> Goal
 // ---- line after line
 
 // From the first of n lines on. A line met after as many questions as there are lines was met before: the walk goes round, and whatever the limit is, it is met.
-fn follow(
-    s: &[u8],
-    at: usize,
-    first: usize,
-    n: u64,
-    answers: &[u8],
-    limit: u64,
-    begin: Line,
-) -> Walked
-    requires { ⌜ (n ≡ length (linesAt (now s) first .items)) × Nth (linesAt (now s) first .items) 0 begin ⌝ }
+// It asks in two places, so that asking has a frame of its own, which does not stand below the windows of linking.
+fn follow(s: &[u8], at: usize, first: usize, n: u64, answers: &[u8], limit: u64) -> Walked
+    requires { ⌜ n ≡ length (linesAt (now s) first .items) ⌝ }
     ensures { λ r. ⌜ r ≡ walkFrom (meetsIn (now (s .entry)) (questionsAt (now (s .entry)) at .items) (now (answers .entry)) (linesAt (now (s .entry)) first .items)) limit 0 ⌝ }
 {
-    let mut line = begin;
+    let mut reply = ask(s, at, answers, first);
     let mut asked: u64 = 0;
     loop {
-        match ask(s, at, answers, line) {
+        match reply {
             Reply::Goes(index) => {
                 if asked == limit {
                     return Walked::Refused(Refusal::Steps);
@@ -133,7 +137,7 @@ fn follow(
                         return Walked::Pdf { number, asked };
                     }
                     Goal::Line(next) => {
-                        line = next;
+                        reply = ask(s, at, answers, next);
                     }
                     Goal::Nowhere => {
                         return Walked::Refused(Refusal::WalkTable);
@@ -144,19 +148,6 @@ fn follow(
                 return Walked::Refused(Refusal::WalkTable);
             }
         }
-    }
-}
-
-// The n lines from `first` on.
-fn walk_lines(s: &[u8], at: usize, first: usize, n: u64, answers: &[u8], limit: u64) -> Walked
-    requires { ⌜ n ≡ length (linesAt (now s) first .items) ⌝ }
-    ensures { λ r. ⌜ r ≡ walkFrom (meetsIn (now (s .entry)) (questionsAt (now (s .entry)) at .items) (now (answers .entry)) (linesAt (now (s .entry)) first .items)) limit 0 ⌝ }
-{
-    match next_line(s, first) {
-        LineStep::Next { line, next: _ } => follow(s, at, first, n, answers, limit, line),
-        LineStep::Last { line, next: _ } => follow(s, at, first, n, answers, limit, line),
-        // never, of a tree that can be read
-        LineStep::Broken => Walked::Refused(Refusal::WalkTable),
     }
 }
 
@@ -220,7 +211,7 @@ fn walk_braces(s: &[u8], at: usize, first: usize, answers: &[u8], limit: u64) ->
             Single::One(index) => alone(index, 1),
             Single::Several => {
                 let n = lines as u64;
-                ended(n, walk_lines(s, at, first, n, answers, limit))
+                ended(n, follow(s, at, first, n, answers, limit))
             }
         },
         // never, of a tree that can be read

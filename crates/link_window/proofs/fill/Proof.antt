@@ -3,7 +3,7 @@ use mathlib.Core.Path.{_≡_, refl, sym, ap, ap₂, _∙_}
 use native.Mathlib.Omega.{arith}
 use Prim.Native.Nat.{_-_}
 use Rattle.tree_survey_lines.proofs.Counting.{items-next, items-last, items-broken, next-in}
-use Rattle.link_window.proofs.Laws.{Taking, taking-none, taking-on, taking-last, taking-broken, taking-end}
+use Rattle.link_window.proofs.Laws.{Taking, long-as, taking-none, taking-on, taking-last, taking-broken, taking-end}
 use borrow.Author.Needs.{needs}
 use Rattle.link_window.proofs.fill.Statement.{statement}
 use Rattle.link_window.proofs.fill.Tie as tie
@@ -33,7 +33,7 @@ loop-less : tie.Need-loop-less Inv-loop μ-loop
 loop-less c = search needs
 
 loop-again : tie.Need-loop-again Inv-loop μ-loop
-loop-again c = taking-on _ _ _ (c .before .before .before .before .before .before .before .before .before .loop .inv) (items-next _ _ (sym (c .before .before .before .before .before .line .given .1) ∙ c .before .before .before .before .before .before .before .next-line .ensures)) (omega (arith, c .before .before .before .before .before .before .before .before .before .before .before .before .pre, c .before .before .before .before .before .before .before .before .loop-test .taken, c .before .before .before .before .before .before .before .before .before .loop .inv .long)) (c .before .before .put-name .ensures) refl (next-in _ _ (sym (c .before .before .before .before .before .line .given .1) ∙ c .before .before .before .before .before .before .before .next-line .ensures) .0) (next-in _ _ (sym (c .before .before .before .before .before .line .given .1) ∙ c .before .before .before .before .before .before .before .next-line .ensures) .1) (c .before .before .before .before .before .before .before .before .loop-test .taken)
+loop-again c = taking-on _ _ _ (c .before .before .before .before .before .before .before .before .before .loop .inv) (items-next _ _ (sym (c .before .before .before .before .before .line .given .1) ∙ c .before .before .before .before .before .before .before .next-line .ensures)) (long-as _ _ (sym (c .before .before .before .before .before .line .given .1) ∙ c .before .before .before .before .before .before .before .next-line .ensures)) (omega (arith, c .before .before .before .before .before .before .before .before .before .before .before .before .pre, c .before .before .before .before .before .before .before .before .loop-test .taken, c .before .before .before .before .before .before .before .before .before .loop .inv .long)) (c .before .before .put-name .ensures) refl (next-in _ _ (sym (c .before .before .before .before .before .line .given .1) ∙ c .before .before .before .before .before .before .before .next-line .ensures) .0) (next-in _ _ (sym (c .before .before .before .before .before .line .given .1) ∙ c .before .before .before .before .before .before .before .next-line .ensures) .1) (c .before .before .before .before .before .before .before .before .loop-test .taken)
 
 enum-known-line-2 : tie.Need-enum-known-line-2 Inv-loop μ-loop
 enum-known-line-2 c = search needs
@@ -48,7 +48,7 @@ same-length : tie.Need-same-length Inv-loop μ-loop
 same-length c = search needs
 
 returns : tie.Need-returns Inv-loop μ-loop
-returns c = taking-last _ _ _ (c .before .before .before .before .before .before .before .before .before .loop .inv) (items-last _ _ (sym (c .before .before .before .before .before .line2 .given .1) ∙ c .before .before .before .before .before .before .before .next-line .ensures)) (omega (arith, c .before .before .before .before .before .before .before .before .before .before .before .before .pre, c .before .before .before .before .before .before .before .before .loop-test .taken, c .before .before .before .before .before .before .before .before .before .loop .inv .long)) (c .before .before .put-name2 .ensures) refl (c .before .before .before .before .before .before .before .before .loop-test .taken)
+returns c = taking-last _ _ _ (c .before .before .before .before .before .before .before .before .before .loop .inv) (items-last _ _ (sym (c .before .before .before .before .before .line2 .given .1) ∙ c .before .before .before .before .before .before .before .next-line .ensures)) (long-as _ _ (sym (c .before .before .before .before .before .line2 .given .1) ∙ c .before .before .before .before .before .before .before .next-line .ensures)) (omega (arith, c .before .before .before .before .before .before .before .before .before .before .before .before .pre, c .before .before .before .before .before .before .before .before .loop-test .taken, c .before .before .before .before .before .before .before .before .before .loop .inv .long)) (c .before .before .put-name2 .ensures) refl (c .before .before .before .before .before .before .before .before .loop-test .taken)
 
 enum-told : tie.Need-enum-told Inv-loop μ-loop
 enum-told c = search needs

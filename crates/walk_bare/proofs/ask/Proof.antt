@@ -1,43 +1,49 @@
--- `walk_bare::ask`: by the question that is found.
+-- `walk_bare::ask`: the first line from the place on.
 use mathlib.Core.Path.{_≡_, refl, sym, ap, ap₂, _∙_}
-use mathlib.Core.List.{List}
-use Prim.Native.Nat.{ℕ}
 use Rattle.tree_question.specs.Questions.{questionsAt}
-use Rattle.link_find.specs.Find.{asked}
-use Rattle.walk_bare.proofs.Laws.{reply-at}
+use Rattle.tree_survey_lines.proofs.Counting.{items-next, items-last, items-broken}
+use Rattle.walk_bare.specs.Bare.{replyFirst}
 use borrow.Author.Needs.{needs}
 use Rattle.walk_bare.proofs.ask.Statement.{statement}
 use Rattle.walk_bare.proofs.ask.Tie as tie
 
-part-inside-requires : tie.Need-part-inside-requires
-part-inside-requires c κs = search needs
+next-line-requires : tie.Need-next-line-requires
+next-line-requires c κs = search needs
 
-last-question-requires : tie.Need-last-question-requires
-last-question-requires c κs = search needs
+enum-known-line : tie.Need-enum-known-line
+enum-known-line c = search needs
 
-enum-known-question : tie.Need-enum-known-question
-enum-known-question c = search needs
+reply-to-requires : tie.Need-reply-to-requires
+reply-to-requires c κs = search needs
 
-reply-of-requires : tie.Need-reply-of-requires
-reply-of-requires c κs = search needs
+enum-known-line-2 : tie.Need-enum-known-line-2
+enum-known-line-2 c = search needs
+
+reply-to-requires-2 : tie.Need-reply-to-requires-2
+reply-to-requires-2 c κs = search needs
 
 enum-told : tie.Need-enum-told
 enum-told c = search needs
 
 returns : tie.Need-returns
-returns c = reply-at _ _ _ _ (sym (c .before .before .question .given .1) ∙ c .before .before .before .before .last-question .ensures ∙ ap (λ (w : List ℕ). asked (c .before .before .before .before .before .before .before .before .args .s .now) w (questionsAt (c .before .before .before .before .before .before .before .before .args .s .now) (c .before .before .before .before .before .before .before .before .args .at) .items)) (c .before .before .before .before .before .part-inside .ensures)) (c .reply-of .ensures)
+returns c = let a = c .before .before .before .before .before .before .before .args in c .reply-to .ensures ∙ sym (ap (replyFirst (a .s .now) (questionsAt (a .s .now) (a .at) .items) (a .answers .now)) (items-next _ _ (sym (c .before .before .line .given .1) ∙ c .before .before .before .before .next-line .ensures)))
 
 returns-2 : tie.Need-returns-2
-returns-2 c = reply-at _ _ _ _ (sym (c .enum-told .given .1) ∙ c .before .before .last-question .ensures ∙ ap (λ (w : List ℕ). asked (c .before .before .before .before .before .before .args .s .now) w (questionsAt (c .before .before .before .before .before .before .args .s .now) (c .before .before .before .before .before .before .args .at) .items)) (c .before .before .before .part-inside .ensures)) refl
+returns-2 c = let a = c .before .before .before .before .before .before .before .args in c .reply-to2 .ensures ∙ sym (ap (replyFirst (a .s .now) (questionsAt (a .s .now) (a .at) .items) (a .answers .now)) (items-last _ _ (sym (c .before .before .line2 .given .1) ∙ c .before .before .before .before .next-line .ensures)))
+
+returns-3 : tie.Need-returns-3
+returns-3 c = let a = c .before .before .before .before .before .args in sym (ap (replyFirst (a .s .now) (questionsAt (a .s .now) (a .at) .items) (a .answers .now)) (items-broken _ _ (sym (c .enum-told .given .1) ∙ c .before .before .next-line .ensures)))
 
 pub ask-spec : {M : Type 1} → statement M
 ask-spec =
     tie.close
     (tie.spec
-    part-inside-requires
-    last-question-requires
-    enum-known-question
-    reply-of-requires
+    next-line-requires
+    enum-known-line
+    reply-to-requires
+    enum-known-line-2
+    reply-to-requires-2
     enum-told
     returns
-    returns-2)
+    returns-2
+    returns-3)

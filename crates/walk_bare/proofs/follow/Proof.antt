@@ -10,28 +10,28 @@ use Rattle.walk_bare.proofs.follow.Statement.{statement}
 use Rattle.walk_bare.proofs.follow.Tie as tie
 
 abbrev Inv-loop : tie.InvT-loop
-Inv-loop s at first n answers limit line₀ asked₀ line asked = Walking s (questionsAt s at .items) answers (linesAt s first .items) limit n line asked
+Inv-loop s at first n answers limit reply₀ asked₀ reply asked = Walking s (questionsAt s at .items) answers (linesAt s first .items) limit n reply asked
 
 abbrev μ-loop : tie.MeasureT-loop
-μ-loop s at first n answers limit line₀ asked₀ line asked = n - asked
-
-loop-holds : tie.Need-loop-holds Inv-loop μ-loop
-loop-holds c = walking-none _ _ _ _ _ _ (c .before .before .pre .0) (c .before .before .pre .1)
+μ-loop s at first n answers limit reply₀ asked₀ reply asked = n - asked
 
 ask-requires : tie.Need-ask-requires Inv-loop μ-loop
 ask-requires c κs = search needs
 
-enum-known-index : tie.Need-enum-known-index Inv-loop μ-loop
-enum-known-index c = search needs
+loop-holds : tie.Need-loop-holds Inv-loop μ-loop
+loop-holds c = walking-none _ _ _ _ _ _ (c .before .before .before .pre) (c .ask .ensures)
+
+enum-known-reply : tie.Need-enum-known-reply Inv-loop μ-loop
+enum-known-reply c = search needs
 
 returns : tie.Need-returns Inv-loop μ-loop
-returns c = walking-limit _ _ _ _ (c .before .before .before .before .before .loop .inv) (sym (c .before .before .index .given .1) ∙ c .before .before .before .before .ask .ensures) (c .if1 .taken)
+returns c = walking-limit _ _ _ _ (c .before .before .before .before .loop .inv) (c .before .before .reply .given .1) (c .if1 .taken)
 
 returns-2 : tie.Need-returns-2 Inv-loop μ-loop
-returns-2 c = walking-reach _ _ _ _ (c .before .before .before .before .before .before .loop .inv) (sym (c .before .before .before .index .given .1) ∙ c .before .before .before .before .before .ask .ensures) (c .if2 .taken)
+returns-2 c = walking-reach _ _ _ _ (c .before .before .before .before .before .loop .inv) (c .before .before .before .reply .given .1) (c .if2 .taken)
 
 add-asked : tie.Need-add-asked Inv-loop μ-loop
-add-asked c = omega (arith, c .before .before .before .before .before .before .loop .inv .follows .bounded, c .before .before .before .before .before .before .loop .inv .follows .limited, c .if2 .left, c .before .if1 .left)
+add-asked c = omega (arith, c .before .before .before .before .before .loop .inv .follows .bounded, c .before .before .before .before .before .loop .inv .follows .limited, c .if2 .left, c .before .if1 .left)
 
 go-to-requires : tie.Need-go-to-requires Inv-loop μ-loop
 go-to-requires c κs = search needs
@@ -40,28 +40,31 @@ enum-known-number : tie.Need-enum-known-number Inv-loop μ-loop
 enum-known-number c = search needs
 
 returns-3 : tie.Need-returns-3 Inv-loop μ-loop
-returns-3 c = walking-leaf _ _ _ _ (c .before .before .before .before .before .before .before .before .before .before .loop .inv) (sym (c .before .before .before .before .before .before .before .index .given .1) ∙ c .before .before .before .before .before .before .before .before .before .ask .ensures) (c .before .before .before .before .before .if1 .left) (c .before .before .before .before .if2 .left) (sym (c .before .number .given .1) ∙ c .before .before .before .go-to .ensures)
+returns-3 c = walking-leaf _ _ _ _ (c .before .before .before .before .before .before .before .before .before .loop .inv) (c .before .before .before .before .before .before .before .reply .given .1) (c .before .before .before .before .before .if1 .left) (c .before .before .before .before .if2 .left) (c .before .before .before .go-to .ensures) (c .before .number .given .1)
 
 enum-known-next : tie.Need-enum-known-next Inv-loop μ-loop
 enum-known-next c = search needs
 
+ask-requires-2 : tie.Need-ask-requires-2 Inv-loop μ-loop
+ask-requires-2 c κs = search needs
+
 loop-less : tie.Need-loop-less Inv-loop μ-loop
-loop-less c = omega (arith, c .before .before .before .before .before .before .before .before .before .before .loop .inv .follows .bounded, c .before .before .before .before .if2 .left)
+loop-less c = omega (arith, c .before .before .before .before .before .before .before .before .before .before .loop .inv .follows .bounded, c .before .before .before .before .before .if2 .left)
 
 loop-again : tie.Need-loop-again Inv-loop μ-loop
-loop-again c = walking-on _ _ _ _ (c .before .before .before .before .before .before .before .before .before .before .loop .inv) (sym (c .before .before .before .before .before .before .before .index .given .1) ∙ c .before .before .before .before .before .before .before .before .before .ask .ensures) (c .before .before .before .before .before .if1 .left) (c .before .before .before .before .if2 .left) (sym (c .before .next .given .1) ∙ c .before .before .before .go-to .ensures)
+loop-again c = walking-on _ _ _ _ (c .before .before .before .before .before .before .before .before .before .before .loop .inv) (c .before .before .before .before .before .before .before .before .reply .given .1) (c .before .before .before .before .before .before .if1 .left) (c .before .before .before .before .before .if2 .left) (c .before .before .before .before .go-to .ensures) (c .before .before .next .given .1) (c .ask2 .ensures)
 
 enum-told : tie.Need-enum-told Inv-loop μ-loop
 enum-told c = search needs
 
 returns-4 : tie.Need-returns-4 Inv-loop μ-loop
-returns-4 c = walking-wrong _ _ _ _ (c .before .before .before .before .before .before .before .before .before .loop .inv) (sym (c .before .before .before .before .before .before .index .given .1) ∙ c .before .before .before .before .before .before .before .before .ask .ensures) (c .before .before .before .before .if1 .left) (c .before .before .before .if2 .left) (sym (c .enum-told .given .1) ∙ c .before .before .go-to .ensures)
+returns-4 c = walking-wrong _ _ _ _ (c .before .before .before .before .before .before .before .before .loop .inv) (c .before .before .before .before .before .before .reply .given .1) (c .before .before .before .before .if1 .left) (c .before .before .before .if2 .left) (c .before .before .go-to .ensures) (c .enum-told .given .1)
 
 enum-told-2 : tie.Need-enum-told-2 Inv-loop μ-loop
 enum-told-2 c = search needs
 
 returns-5 : tie.Need-returns-5 Inv-loop μ-loop
-returns-5 c = walking-missing _ _ _ _ (c .before .before .before .loop .inv) (sym (c .enum-told2 .given .1) ∙ c .before .before .ask .ensures)
+returns-5 c = walking-missing _ _ _ _ (c .before .before .loop .inv) (c .enum-told2 .given .1)
 
 pub follow-spec : {M : Type 1} → statement M
 follow-spec =
@@ -69,9 +72,9 @@ follow-spec =
     (tie.spec
     Inv-loop
     μ-loop
-    loop-holds
     ask-requires
-    enum-known-index
+    loop-holds
+    enum-known-reply
     returns
     returns-2
     add-asked
@@ -79,6 +82,7 @@ follow-spec =
     enum-known-number
     returns-3
     enum-known-next
+    ask-requires-2
     loop-less
     loop-again
     enum-told

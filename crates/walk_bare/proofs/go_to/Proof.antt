@@ -1,13 +1,9 @@
--- `walk_bare::go_to`: a PDF, or the last line of the id.
-use mathlib.Core.Path.{_≡_, refl, sym, ap, ap₂, _∙_}
-use Prim.Native.Nat.{ℕ}
+-- `walk_bare::go_to`: a PDF, or where the last line of the id stands.
+use mathlib.Core.Path.{_≡_, sym, ap, _∙_}
 use Rattle.laws.proofs.Signed.{back}
 use Rattle.link_order.specs.Keys.{idKey}
 use Rattle.text_parts.specs.Parts.{natOf}
-use Rattle.tree_line.specs.Lines.{linesAt}
-use Rattle.link_find.specs.Find.{bearing}
-use Rattle.walk_bare.specs.Bare.{goalOf, borneGoal}
-use Rattle.walk_bare.specs.declared.Goal.the-variants as goal
+use Rattle.walk_bare.proofs.Laws.{goes-leaf, goes-line, goes-nowhere}
 use borrow.Author.Needs.{needs}
 use Rattle.walk_bare.proofs.go_to.Statement.{statement}
 use Rattle.walk_bare.proofs.go_to.Tie as tie
@@ -27,20 +23,20 @@ id-key-requires c κs = search needs
 last-bearing-requires : tie.Need-last-bearing-requires
 last-bearing-requires c κs = search needs
 
-enum-known-line : tie.Need-enum-known-line
-enum-known-line c = search needs
+enum-known-place : tie.Need-enum-known-place
+enum-known-place c = search needs
 
 enum-told : tie.Need-enum-told
 enum-told c = search needs
 
 returns : tie.Need-returns
-returns c = ap goal.Leaf (c .natural .ensures ∙ ap natOf (back (c .before .before .index .given .0 .0) (c .before .known-told .given .0 .1))) ∙ sym (ap (goalOf (linesAt (c .before .before .before .before .before .args .s .now) (c .before .before .before .before .before .args .first) .items)) (c .before .before .index .given .1))
+returns c = goes-leaf _ _ (c .before .before .index .given .1) (c .natural .ensures ∙ ap natOf (back (c .before .before .index .given .0 .0) (c .before .known-told .given .0 .1)))
 
 returns-2 : tie.Need-returns-2
-returns-2 c = ap borneGoal (sym (c .before .line .given .1) ∙ c .before .before .before .last-bearing .ensures ∙ ap (λ (k : ℕ). bearing k (linesAt (c .before .before .before .before .before .before .before .before .before .args .s .now) (c .before .before .before .before .before .before .before .before .before .args .first) .items)) (c .before .before .before .before .id-key .ensures ∙ ap idKey (back (c .before .before .before .before .before .before .index2 .given .0 .0) (c .before .before .before .before .before .known-told2 .given .0 .1)))) ∙ sym (ap (goalOf (linesAt (c .before .before .before .before .before .before .before .before .before .args .s .now) (c .before .before .before .before .before .before .before .before .before .args .first) .items)) (c .before .before .before .before .before .before .index2 .given .1))
+returns-2 c = goes-line _ _ (c .before .before .before .before .before .before .index2 .given .1) (c .before .before .before .before .id-key .ensures ∙ ap idKey (back (c .before .before .before .before .before .before .index2 .given .0 .0) (c .before .before .before .before .before .known-told2 .given .0 .1))) (c .before .before .before .last-bearing .ensures) (c .before .place .given .1)
 
 returns-3 : tie.Need-returns-3
-returns-3 c = ap borneGoal (sym (c .enum-told .given .1) ∙ c .before .before .last-bearing .ensures ∙ ap (λ (k : ℕ). bearing k (linesAt (c .before .before .before .before .before .before .before .before .args .s .now) (c .before .before .before .before .before .before .before .before .args .first) .items)) (c .before .before .before .id-key .ensures ∙ ap idKey (back (c .before .before .before .before .before .index2 .given .0 .0) (c .before .before .before .before .known-told2 .given .0 .1)))) ∙ sym (ap (goalOf (linesAt (c .before .before .before .before .before .before .before .before .args .s .now) (c .before .before .before .before .before .before .before .before .args .first) .items)) (c .before .before .before .before .before .index2 .given .1))
+returns-3 c = goes-nowhere _ _ (c .before .before .before .before .before .index2 .given .1) (c .before .before .before .id-key .ensures ∙ ap idKey (back (c .before .before .before .before .before .index2 .given .0 .0) (c .before .before .before .before .known-told2 .given .0 .1))) (c .before .before .last-bearing .ensures) (c .enum-told .given .1)
 
 pub go-to-spec : {M : Type 1} → statement M
 go-to-spec =
@@ -51,7 +47,7 @@ go-to-spec =
     enum-known-index-2
     id-key-requires
     last-bearing-requires
-    enum-known-line
+    enum-known-place
     enum-told
     returns
     returns-2

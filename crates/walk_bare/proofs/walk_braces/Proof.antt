@@ -29,8 +29,8 @@ alone-requires c κs = search needs
 enum-told : tie.Need-enum-told
 enum-told c = search needs
 
-walk-lines-requires : tie.Need-walk-lines-requires
-walk-lines-requires c κs = counted-many (c .before .before .before .before .before .before .before .before .before .args .s .now) (questionsAt (c .before .before .before .before .before .before .before .before .before .args .s .now) (c .before .before .before .before .before .before .before .before .before .args .at) .items) (c .before .before .before .before .before .before .before .before .before .args .answers .now) (c .before .before .before .before .before .before .before .before .before .args .limit) (c .before .before .before .before .before .before .before .before .before .args .first) (sym (c .before .before .before .before .lines .given .1) ∙ c .before .before .before .before .before .before .count-lines .ensures)
+follow-requires : tie.Need-follow-requires
+follow-requires c κs = counted-many (c .before .before .before .before .before .before .before .before .before .args .s .now) (questionsAt (c .before .before .before .before .before .before .before .before .before .args .s .now) (c .before .before .before .before .before .before .before .before .before .args .at) .items) (c .before .before .before .before .before .before .before .before .before .args .answers .now) (c .before .before .before .before .before .before .before .before .before .args .limit) (c .before .before .before .before .before .before .before .before .before .args .first) (sym (c .before .before .before .before .lines .given .1) ∙ c .before .before .before .before .before .before .count-lines .ensures)
 
 ended-requires : tie.Need-ended-requires
 ended-requires c κs = search needs
@@ -42,7 +42,7 @@ returns : tie.Need-returns
 returns c = braces-are (c .before .before .before .before .before .before .before .before .before .before .before .args .s .now) (questionsAt (c .before .before .before .before .before .before .before .before .before .before .before .args .s .now) (c .before .before .before .before .before .before .before .before .before .before .before .args .at) .items) (c .before .before .before .before .before .before .before .before .before .before .before .args .answers .now) (c .before .before .before .before .before .before .before .before .before .before .before .args .limit) (c .before .before .before .before .before .before .before .before .before .before .before .args .first) (sym (c .before .before .before .before .before .before .lines .given .1) ∙ c .before .before .before .before .before .before .before .before .count-lines .ensures) _ (sym (c .before .before .index .given .1) ∙ c .before .before .before .before .single-of .ensures) (c .alone .ensures)
 
 returns-2 : tie.Need-returns-2
-returns-2 c = braces-are (c .before .before .before .before .before .before .before .before .before .before .before .args .s .now) (questionsAt (c .before .before .before .before .before .before .before .before .before .before .before .args .s .now) (c .before .before .before .before .before .before .before .before .before .before .before .args .at) .items) (c .before .before .before .before .before .before .before .before .before .before .before .args .answers .now) (c .before .before .before .before .before .before .before .before .before .before .before .args .limit) (c .before .before .before .before .before .before .before .before .before .before .before .args .first) (sym (c .before .before .before .before .before .before .lines .given .1) ∙ c .before .before .before .before .before .before .before .before .count-lines .ensures) Several (sym (c .before .before .enum-told .given .1) ∙ c .before .before .before .before .single-of .ensures) (c .ended .ensures ∙ ap₂ endedOf (counted-many (c .before .before .before .before .before .before .before .before .before .before .before .args .s .now) (questionsAt (c .before .before .before .before .before .before .before .before .before .before .before .args .s .now) (c .before .before .before .before .before .before .before .before .before .before .before .args .at) .items) (c .before .before .before .before .before .before .before .before .before .before .before .args .answers .now) (c .before .before .before .before .before .before .before .before .before .before .before .args .limit) (c .before .before .before .before .before .before .before .before .before .before .before .args .first) (sym (c .before .before .before .before .before .before .lines .given .1) ∙ c .before .before .before .before .before .before .before .before .count-lines .ensures)) (c .before .walk-lines .ensures))
+returns-2 c = braces-are (c .before .before .before .before .before .before .before .before .before .before .before .args .s .now) (questionsAt (c .before .before .before .before .before .before .before .before .before .before .before .args .s .now) (c .before .before .before .before .before .before .before .before .before .before .before .args .at) .items) (c .before .before .before .before .before .before .before .before .before .before .before .args .answers .now) (c .before .before .before .before .before .before .before .before .before .before .before .args .limit) (c .before .before .before .before .before .before .before .before .before .before .before .args .first) (sym (c .before .before .before .before .before .before .lines .given .1) ∙ c .before .before .before .before .before .before .before .before .count-lines .ensures) Several (sym (c .before .before .enum-told .given .1) ∙ c .before .before .before .before .single-of .ensures) (c .ended .ensures ∙ ap₂ endedOf (counted-many (c .before .before .before .before .before .before .before .before .before .before .before .args .s .now) (questionsAt (c .before .before .before .before .before .before .before .before .before .before .before .args .s .now) (c .before .before .before .before .before .before .before .before .before .before .before .args .at) .items) (c .before .before .before .before .before .before .before .before .before .before .before .args .answers .now) (c .before .before .before .before .before .before .before .before .before .before .before .args .limit) (c .before .before .before .before .before .before .before .before .before .before .before .args .first) (sym (c .before .before .before .before .before .before .lines .given .1) ∙ c .before .before .before .before .before .before .before .before .count-lines .ensures)) (c .before .follow .ensures))
 
 returns-3 : tie.Need-returns-3
 returns-3 c = braces-broken (c .before .before .before .before .before .args .s .now) (questionsAt (c .before .before .before .before .before .args .s .now) (c .before .before .before .before .before .args .at) .items) (c .before .before .before .before .before .args .answers .now) (c .before .before .before .before .before .args .limit) (c .before .before .before .before .before .args .first) (sym (c .enum-told2 .given .1) ∙ c .before .before .count-lines .ensures)
@@ -57,7 +57,7 @@ walk-braces-spec =
     enum-known-index
     alone-requires
     enum-told
-    walk-lines-requires
+    follow-requires
     ended-requires
     enum-told-2
     returns

@@ -1,21 +1,20 @@
--- `link_window::first_unmet`: those before were met.
+-- `link_window::first_left`: those before are gone.
 use mathlib.Core.Path.{_≡_, refl, sym, ap, ap₂, _∙_}
 use native.Mathlib.Omega.{arith}
 use Prim.Native.Nat.{ℕ, _-_, _<_}
 use mathlib.Core.Bool.{true}
 use lib.ListN.{getD}
-use Rattle.written.specs.Walks.{isYes}
-use Rattle.link_window.specs.Windows.{off, none}
-use Rattle.link_window.proofs.Laws.{first-more, yes-of}
+use Rattle.link_window.specs.Windows.{isGone, off, none}
+use Rattle.link_window.proofs.Laws.{first-more, gone-not}
 use borrow.Author.Needs.{needs}
-use Rattle.link_window.proofs.first_unmet.Statement.{statement}
-use Rattle.link_window.proofs.first_unmet.Tie as tie
+use Rattle.link_window.proofs.first_left.Statement.{statement}
+use Rattle.link_window.proofs.first_left.Tie as tie
 
 abbrev Inv-loop : tie.InvT-loop
-Inv-loop met n j₀ j = (i : ℕ) → i < j → isYes (getD met i 0) ≡ true
+Inv-loop keys n j₀ j = (i : ℕ) → i < j → isGone (getD keys i 0) ≡ true
 
 abbrev μ-loop : tie.MeasureT-loop
-μ-loop met n j₀ j = n - j
+μ-loop keys n j₀ j = n - j
 
 loop-holds : tie.Need-loop-holds Inv-loop μ-loop
 loop-holds c = λ i h. absurd (omega arith)
@@ -24,7 +23,7 @@ shared-slice-read-if1 : tie.Need-shared-slice-read-if1 Inv-loop μ-loop
 shared-slice-read-if1 c = omega (arith, c .before .before .before .pre, c .before .loop-test .taken)
 
 returns : tie.Need-returns Inv-loop μ-loop
-returns c = off (c .before .before .loop-test .taken) (ap isYes (c .if1 .taken)) (c .before .before .before .loop .inv)
+returns c = off (c .before .before .loop-test .taken) (gone-not _ (c .if1 .taken)) (c .before .before .before .loop .inv)
 
 add-j : tie.Need-add-j Inv-loop μ-loop
 add-j c = search needs
@@ -33,13 +32,13 @@ loop-less : tie.Need-loop-less Inv-loop μ-loop
 loop-less c = search needs
 
 loop-again : tie.Need-loop-again Inv-loop μ-loop
-loop-again c = first-more (c .before .before .before .loop .inv) (yes-of _ (c .if1 .left))
+loop-again c = first-more (c .before .before .before .loop .inv) (ap isGone (c .if1 .left))
 
 returns-2 : tie.Need-returns-2 Inv-loop μ-loop
 returns-2 c = none (λ i h. c .before .loop .inv i (omega (arith, c .loop-test .left)))
 
-pub first-unmet-spec : {M : Type 1} → statement M
-first-unmet-spec =
+pub first-left-spec : {M : Type 1} → statement M
+first-left-spec =
     tie.close
     (tie.spec
     Inv-loop
