@@ -1,7 +1,7 @@
 /* larsavim_selftest.c: the self-test of the library for a board. `int larsavim_selftest(void)` returns 0 if every call answers about a small voice what it must, or else the number of the
  * first check that failed. It runs what no proof covers: the code that a compiler's back end made for this core, and the linker and the memory behind it.
  *
- * It needs larsavim.h, the library, and nothing of a C library but what the library itself wants: memcpy, memset, and memmove for riscv64 at -Os. Its memory is static: less than 16 KiB with code and arrays.
+ * It needs larsavim.h, the library, and nothing of a C library but what the library itself wants: memcpy and memset. Its memory is static: less than 16 KiB with code and arrays.
  * Made by host/selftest/make.py; the answers are those of a second reading of the format's document, and the library had no part in them. Don't change it by hand. */
 #include "larsavim.h"
 

@@ -3,7 +3,6 @@
 
 int larsavim_selftest(void);
 void *memcpy(void *to, const void *from, size_t n);
-void *memmove(void *to, const void *from, size_t n);
 void *memset(void *at, int byte, size_t n);
 void run(void);
 
@@ -12,17 +11,6 @@ void *memcpy(void *to, const void *from, size_t n) {
     const unsigned char *f = from;
     while (n-- > 0)
         *t++ = *f++;
-    return to;
-}
-
-/* Wanted by larsavim_bare_walk alone, and for riscv64 at -Os. */
-void *memmove(void *to, const void *from, size_t n) {
-    unsigned char *t = to;
-    const unsigned char *f = from;
-    if (t < f)
-        return memcpy(to, from, n);
-    while (n-- > 0)
-        t[n] = f[n];
     return to;
 }
 
