@@ -7,7 +7,7 @@ use native.Mathlib.Numerals.{add-one}
 use native.Mathlib.Omega.{arith}
 use borrow.Author.Tests.{eq-eqb, ne-eqb, eqb-true}
 use lib.Dec.{eqb}
-use lib.ListN.{length, drop, length-drop}
+use lib.ListN.{length}
 use Rattle.written.specs.Said.{QuestionPlace}
 use Rattle.written.specs.Linking.{Nth, here, there}
 use Rattle.laws.proofs.Nth.{nth-inside, nth-of}
@@ -40,7 +40,9 @@ use Rattle.link_order.specs.Keys.{idKey}
 use Rattle.text_parts.specs.Parts.{partInside}
 use Rattle.link_search.specs.declared.Found.{Found}
 use Rattle.link_search.specs.declared.Found.the-variants.{At, Nothing}
-use Rattle.link_find.specs.Find.{starOf, lastFrom, nameStep, named, asked, bears, bearer, StandsAt, nowhere, stands, placed, ordered}
+use Rattle.link_find.specs.Find.{starOf, lastFrom, nameStep, named, asked, bears, bearer, bearingFrom, bearing, placed, ordered}
+use Rattle.link_find.specs.declared.Borne.{Borne}
+use Rattle.link_find.specs.declared.Borne.the-variants as borne
 use Rattle.link_find.specs.declared.NameStep.the-variants as name
 
 module _ (s : List ℕ) where
@@ -216,55 +218,44 @@ module _ {A : Type 0} (p : A → Bool) (k : ℕ) (f : Found) where
   unfolding lastFrom
   last-over e = sym (ap (lastFrom p k f) e)
 
--- ---- the last line of an id, by its place
+-- ---- the last line of an id, itself
 
-drop-on : {A : Type 0} (k : ℕ) (ls : List A) {x : A} {xs : List A} → drop k ls ≡ x ∷ xs → drop (k + 1) ls ≡ xs
-drop-on {A} k ls {x} {xs} e = ap (λ (n : ℕ). drop n ls) (add-one k) ∙ go k ls e
-  where
-    go : (n : ℕ) (ms : List A) → drop n ms ≡ x ∷ xs → drop (suc n) ms ≡ xs
-    go zero [] e = absurd (omega (arith, ap length e))
-    go zero (y ∷ ms) e = cc
-    go (suc n) [] e = absurd (omega (arith, ap length e))
-    go (suc n) (y ∷ ms) e = go n ms e
+module _ (x : ℕ) (f : Borne) where
+  pub bearing-on : {l : Line} {ls ks : List Line} {b : Bool} {g : Borne} → ks ≡ l ∷ ls → b ≡ bears x l → g ≡ cond b (borne.Line l) f → bearingFrom x g ls ≡ bearingFrom x f ks
+  unfolding bearingFrom
+  bearing-on {l} {ls} e h q = ap (λ (g : Borne). bearingFrom x g ls) (q ∙ ap (λ (b : Bool). cond b (borne.Line l) f) h) ∙ sym (ap (bearingFrom x f) e)
 
-module _ (s : List ℕ) (x first : ℕ) where
-  -- n lines were looked at, the next stands at i, and what was found among them stands at the place that was kept
-  pub record Seen (i : ℕ) (p : Place) : Type 0 where
-    pub n : ℕ
-    pub found : Found
-    pub rest : drop n (linesAt s first .items) ≡ linesAt s i .items
-    pub kept : StandsAt s (linesAt s first .items) found p
-    pub same : lastFrom (bears x) n found (linesAt s i .items) ≡ bearer x (linesAt s first .items)
+  pub bearing-end : {l : Line} {ks : List Line} {b : Bool} {g : Borne} → ks ≡ l ∷ [] → b ≡ bears x l → g ≡ cond b (borne.Line l) f → g ≡ bearingFrom x f ks
+  unfolding bearingFrom
+  bearing-end {l} e h q = q ∙ ap (λ (b : Bool). cond b (borne.Line l) f) h ∙ sym (ap (bearingFrom x f) e)
 
-  pub seen-none : Seen first place.Nowhere
-  seen-none = record { n = 0; found = Nothing; rest = refl; kept = nowhere; same = refl }
+  pub bearing-over : {ks : List Line} → ks ≡ [] → f ≡ bearingFrom x f ks
+  unfolding bearingFrom
+  bearing-over e = sym (ap (bearingFrom x f) e)
 
-  module _ {i : ℕ} {p : Place} (w : Seen i p) where
-    module _ {l : Line} {ls : List Line} (e : linesAt s i .items ≡ l ∷ ls) {b : Bool} (h : b ≡ bears x l) {q : Place} (k : q ≡ cond b (place.At i) p) where
-      kept-on : StandsAt s (linesAt s first .items) (cond b (At (w .n)) (w .found)) q
-      kept-on = subst (StandsAt s (linesAt s first .items) (cond b (At (w .n)) (w .found))) (sym k) (go b)
-        where
-          go : (c : Bool) → StandsAt s (linesAt s first .items) (cond c (At (w .n)) (w .found)) (cond c (place.At i) p)
-          go true = stands {k = w .n} (omega (arith, length-drop (w .n) (linesAt s first .items), ap length (w .rest ∙ e))) (w .rest)
-          go false = w .kept
+-- the line that is kept is the one whose number is found
+pub data Stands (all : List Line) : Found → Borne → Type 0 where
+  nowhere : Stands all Nothing borne.Nothing
+  stands : {k : ℕ} {l : Line} → Nth all k l → Stands all (At k) (borne.Line l)
 
-      pub seen-on : {j : ℕ} → ls ≡ linesAt s j .items → Seen j q
-      seen-on {j} z =
-          record {
-            n = w .n + 1;
-            found = cond b (At (w .n)) (w .found);
-            rest = drop-on (w .n) (linesAt s first .items) (w .rest ∙ e) ∙ z;
-            kept = kept-on;
-            same = last-on (bears x) (w .n) (w .found) (e ∙ ap (λ (t : List Line). l ∷ t) z) h refl ∙ w .same;
-          }
+module _ (x : ℕ) (all : List Line) where
+  kept-from : (k : ℕ) (ls : List Line) → ((m : ℕ) (l : Line) → Nth ls m l → Nth all (k + m) l) → {f : Found} {g : Borne} → Stands all f g → Stands all (lastFrom (bears x) k f ls) (bearingFrom x g ls)
+  unfolding lastFrom bearingFrom
+  kept-from k [] h w = w
+  kept-from k (l ∷ ls) h {f} {g} w = kept-from (suc k) ls (λ m e n. later m (h (suc m) e (there n))) (go (bears x l))
+    where
+      later : (m : ℕ) {e : Line} → Nth all (k + suc m) e → Nth all (suc k + m) e
+      later m {e} n = let z : k + suc m ≡ suc k + m = omega arith in subst (λ (i : ℕ). Nth all i e) z n
 
-      pub seen-end : ls ≡ [] → StandsAt s (linesAt s first .items) (bearer x (linesAt s first .items)) q
-      seen-end z =
-          subst (λ (f : Found). StandsAt s (linesAt s first .items) f q)
-          (last-end (bears x) (w .n) (w .found) (e ∙ ap (λ (t : List Line). l ∷ t) z) h refl ∙ w .same) kept-on
+      go : (b : Bool) → Stands all (cond b (At k) f) (cond b (borne.Line l) g)
+      go true = let z : k + 0 ≡ k = omega arith in stands (subst (λ (i : ℕ). Nth all i l) z (h 0 l here))
+      go false = w
 
-    pub seen-over : linesAt s i .items ≡ [] → StandsAt s (linesAt s first .items) (bearer x (linesAt s first .items)) p
-    seen-over z = subst (λ (f : Found). StandsAt s (linesAt s first .items) f p) (last-over (bears x) (w .n) (w .found) z ∙ w .same) (w .kept)
+  pub kept : Stands all (bearer x all) (bearing x all)
+  kept = kept-from 0 all (λ m l n. first n) nowhere
+    where
+      first : {m : ℕ} {l : Line} → Nth all m l → Nth all (0 + m) l
+      first {m} {l} n = let z : m ≡ 0 + m = omega arith in subst (λ (i : ℕ). Nth all i l) z n
 
 -- ---- ids in order
 

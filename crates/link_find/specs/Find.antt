@@ -2,9 +2,9 @@
 use mathlib.Core.Path.{_≡_}
 use mathlib.Core.Bool.{Bool, true, false, cond}
 use mathlib.Core.List.{List, [], _∷_}
-use Prim.Native.Nat.{ℕ, zero, suc, _+_, _<_}
+use Prim.Native.Nat.{ℕ, zero, suc, _+_}
 use lib.Dec.{eqb}
-use lib.ListN.{length, drop}
+use lib.ListN.{length}
 use Rattle.written.specs.Bytes.{same}
 use Rattle.written.specs.Said.{QuestionPlace}
 use Rattle.laws.specs.Steps.{Step, next, last, broken}
@@ -17,6 +17,8 @@ use Rattle.link_order.specs.Keys.{idKey}
 use Rattle.text_parts.specs.Parts.{partInside}
 use Rattle.link_search.specs.declared.Found.{Found}
 use Rattle.link_search.specs.declared.Found.the-variants.{At, Nothing}
+use Rattle.link_find.specs.declared.Borne.{Borne}
+use Rattle.link_find.specs.declared.Borne.the-variants as borne
 use Rattle.link_find.specs.declared.NameStep.{NameStep}
 use Rattle.link_find.specs.declared.NameStep.the-variants as name
 
@@ -59,10 +61,13 @@ bears x l = eqb (idKey (l .id)) x
 abbrev pub bearer : ℕ → List Line → Found
 bearer x ls = lastFrom (bears x) 0 Nothing ls
 
--- where the line of a number stands: what is read from there on are the lines from it on
-pub data StandsAt (s : List ℕ) (all : List Line) : Found → Place → Type 0 where
-  nowhere : StandsAt s all Nothing place.Nowhere
-  stands : {k i : ℕ} → k < length all → drop k all ≡ linesAt s i .items → StandsAt s all (At k) (place.At i)
+-- the line itself; g is what was kept before
+unfoldable pub bearingFrom : ℕ → Borne → List Line → Borne
+bearingFrom x g [] = g
+bearingFrom x g (l ∷ ls) = bearingFrom x (cond (bears x l) (borne.Line l) g) ls
+
+abbrev pub bearing : ℕ → List Line → Borne
+bearing x ls = bearingFrom x borne.Nothing ls
 
 -- line k bears the id -k: moved up, 2^63 - k
 abbrev pub placed : ℕ → Line → Bool

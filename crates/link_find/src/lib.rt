@@ -28,8 +28,8 @@ ghost use Rattle.tree_line.specs.Lines.{linesAt};
 ghost use Rattle.tree_question.specs.Questions.{questionStepAt, questionsAt};
 ghost use Rattle.tree_body.specs.Trees.{treesAt};
 ghost use Rattle.link_search.specs.declared.Found.the-variants.{At};
-ghost use Rattle.text_spaces.specs.declared.Place.the-variants as place;
-ghost use Rattle.link_find.specs.Find.{starOf, nameStep, asked, bears, bearer, StandsAt, placed, ordered, Lines};
+ghost use Rattle.link_find.specs.declared.Borne.the-variants as borne;
+ghost use Rattle.link_find.specs.Find.{starOf, nameStep, asked, bears, bearer, bearing, placed, ordered, Lines};
 
 // A question's name, and where the next question stands; or the last one's; or no question.
 pub enum NameStep {
@@ -193,27 +193,33 @@ pub fn last_line(s: &[u8], first: usize, key: u64) -> Found
     }
 }
 
-// What is kept once the line at a place was looked at.
-fn kept_after(before: Place, hit: bool, at: usize) -> Place
-    ensures { λ r. ⌜ r ≡ cond hit (place.At at) before ⌝ }
-{
-    if hit { Place::At(at) } else { before }
+// A line of a tree, or none.
+pub enum Borne {
+    Line(Line),
+    Nothing,
 }
 
-// Where the last of a tree's lines, from the first one's place on, stands that bears the id of a key. A place is a word, where a line takes seven.
-pub fn last_bearing(s: &[u8], first: usize, key: u64) -> Place
-    ensures { λ r. ⌜ StandsAt (now (s .entry)) (linesAt (now (s .entry)) first .items) (bearer key (linesAt (now (s .entry)) first .items)) r ⌝ }
+// What is kept once a line was looked at.
+fn kept_after(before: Borne, hit: bool, line: Line) -> Borne
+    ensures { λ r. ⌜ r ≡ cond hit (borne.Line line) before ⌝ }
+{
+    if hit { Borne::Line(line) } else { before }
+}
+
+// The last of a tree's lines, from the first one's place on, that bears the id of a key: the line itself, so that none is read twice.
+pub fn last_bearing(s: &[u8], first: usize, key: u64) -> Borne
+    ensures { λ r. ⌜ r ≡ bearing key (linesAt (now (s .entry)) first .items) ⌝ }
 {
     let mut i = first;
-    let mut last = Place::Nowhere;
+    let mut last = Borne::Nothing;
     loop {
         match next_line(s, i) {
             LineStep::Next { line, next } => {
-                last = kept_after(last, bears_id(line, key), i);
+                last = kept_after(last, bears_id(line, key), line);
                 i = next;
             }
             LineStep::Last { line, next: _ } => {
-                return kept_after(last, bears_id(line, key), i);
+                return kept_after(last, bears_id(line, key), line);
             }
             LineStep::Broken => {
                 return last;

@@ -1,5 +1,5 @@
 -- The laws of the walk over a text: what is met at a line, at a PDF and nowhere; the loop; the lines read; a tree in braces.
-use mathlib.Core.Path.{_≡_, refl, sym, ap, ap₂, _∙_, subst, subst₂}
+use mathlib.Core.Path.{_≡_, refl, sym, ap, ap₂, _∙_, subst}
 use mathlib.Core.Bool.{Bool, true, false, cond}
 use mathlib.Core.List.{List, [], _∷_}
 use Prim.Native.Nat.{ℕ, zero, suc, _+_, _-_, _*_, _/_, _≤_, _<_, min}
@@ -7,8 +7,7 @@ use native.Mathlib.Nat.{mul-suc, mul-le-mul-right, div-mul-le-self, div-lt-iff-l
 use native.Mathlib.Omega.{arith}
 use borrow.Author.Tests.{lt-ltb, le-ltb}
 use lib.Dec.{ltb}
-use lib.IntN.{ℤ}
-use lib.ListN.{length, getD, drop}
+use lib.ListN.{length, getD}
 use Rattle.written.specs.Said.{QuestionPlace}
 use Rattle.written.specs.Linking.{Nth, here, there}
 use Rattle.written.specs.Walks.{chosen, isYes}
@@ -21,13 +20,14 @@ use Rattle.tree_line.specs.declared.Line as code
 use Rattle.tree_survey_lines.specs.Counts.{linesCounted}
 use Rattle.tree_survey_lines.specs.declared.LineCount.the-variants as count
 use Rattle.tree_survey_lines.proofs.Counting.{counted, not-counted}
+use Rattle.link_order.specs.Keys.{idKey}
 use Rattle.text_parts.specs.Parts.{partInside}
 use Rattle.link_search.specs.declared.Found.{Found}
 use Rattle.link_search.specs.declared.Found.the-variants.{At, Nothing}
-use Rattle.link_order.specs.Keys.{idKey}
-use Rattle.link_find.specs.Find.{asked, bearer, StandsAt, nowhere, stands}
-use Rattle.text_spaces.specs.declared.Place.{Place}
-use Rattle.text_spaces.specs.declared.Place.the-variants as place
+use Rattle.link_find.specs.Find.{asked, bearer, bearing}
+use Rattle.link_find.specs.declared.Borne.{Borne}
+use Rattle.link_find.specs.declared.Borne.the-variants as borne
+use Rattle.link_find.proofs.Finding.{Stands, nowhere, stands, kept}
 use Rattle.text_parts.specs.Parts.{natOf}
 use Rattle.link_alone.specs.Alone.{singleIn}
 use Rattle.link_alone.specs.declared.Single.{Single}
@@ -36,9 +36,9 @@ use Rattle.walk.specs.declared.Met.{Met}
 use Rattle.walk.specs.declared.Met.the-variants.{Leaf, Line, Wrong}
 use Rattle.walk.specs.declared.Walked.{Walked}
 use Rattle.walk.specs.declared.Walked.the-variants as walked
-use Rattle.walk.proofs.Round.{plus, plus-none, enough-min}
+use Rattle.walk.proofs.Round.{plus, plus-none, walk-wrong, enough-min}
 use Rattle.walk.proofs.Following.{Following, following-leaf, following-wrong, following-limit, following-reach, following-on}
-use Rattle.walk_bare.specs.Bare.{replyIn, replyFound, replyTo, replyFirst, GoesTo, to-leaf, to-line, to-nothing, lineNumber, goalIn, metReply, metIn, meetsIn, readCount, endedOf, singleOf, endingOf, bracesOf, headOf, meteredOf, linkedAs, meterAt, chosenOf, bareOf, BareTells, no-room, told}
+use Rattle.walk_bare.specs.Bare.{replyIn, replyFound, replyTo, replyBorne, firstOf, soughtIn, turnOf, lineNumber, goalIn, metReply, metIn, meetsIn, readCount, endedOf, singleOf, endingOf, bracesOf, headOf, meteredOf, linkedAs, meterAt, chosenOf, bareOf, BareTells, no-room, told}
 use Rattle.walk_accepts.specs.Accepting.{chosenTree}
 use Rattle.walk_accepts.specs.declared.Choice.{Choice}
 use Rattle.link_window.specs.Windows.{faultHead}
@@ -48,8 +48,8 @@ use Rattle.tree_body.specs.Trees.{headAt}
 use Rattle.walk_bare.specs.declared.Meter.{Meter}
 use Rattle.walk_bare.specs.declared.Reply.{Reply}
 use Rattle.walk_bare.specs.declared.Reply.the-variants.{Goes, Missing}
-use Rattle.walk_bare.specs.declared.Goal.{Goal}
-use Rattle.walk_bare.specs.declared.Goal.the-variants as goal
+use Rattle.walk_bare.specs.declared.Sought.the-variants as sought
+use Rattle.walk_bare.specs.declared.Turn.the-variants as turn
 use Rattle.walk_bare.specs.declared.Bare.{Bare}
 use Rattle.walk_bare.specs.declared.Bare.the-variants as bare
 
@@ -125,60 +125,47 @@ module _ (s : List ℕ) (qs : List QuestionPlace) (bytes : List ℕ) (ls : List 
   unfolding meetsIn
   meets-below k j e = met-below (λ l. metReply ls (replyTo s qs bytes l)) ls k j e
 
-  -- from a line's number on
+  -- the line that is sought
 
-  meets-from : (ms : List code.Line) (k : ℕ) → k ≤ length ms → metIn (λ l. metReply ls (replyTo s qs bytes l)) ms k ≡ metReply ls (replyFirst s qs bytes (drop k ms))
-  unfolding metIn
-  meets-from [] zero h = refl
-  meets-from [] (suc k) h = absurd (omega arith)
-  meets-from (l ∷ ms) zero h = refl
-  meets-from (l ∷ ms) (suc k) h = meets-from ms k (omega arith)
+  pub meets-first : meetsIn s qs bytes ls 0 ≡ metReply ls (replyBorne s qs bytes (firstOf ls))
+  unfolding meetsIn metIn
+  meets-first = go ls
+    where
+      go : (ks : List code.Line) → metIn (λ l. metReply ls (replyTo s qs bytes l)) ks 0 ≡ metReply ls (replyBorne s qs bytes (firstOf ks))
+      go [] = refl
+      go (k ∷ ks) = refl
 
-  meets-first : (k : ℕ) → k ≤ length ls → meetsIn s qs bytes ls k ≡ metReply ls (replyFirst s qs bytes (drop k ls))
-  unfolding meetsIn
-  meets-first k h = meets-from ls k h
+  meets-bearing : (x : ℕ) → meetsIn s qs bytes ls (lineNumber (length ls) (bearer x ls)) ≡ metReply ls (replyBorne s qs bytes (bearing x ls))
+  meets-bearing x = go (kept x ls)
+    where
+      go : {f : Found} {g : Borne} → Stands ls f g → meetsIn s qs bytes ls (lineNumber (length ls) f) ≡ metReply ls (replyBorne s qs bytes g)
+      go nowhere = meets-none
+      go (stands n) = meets-line n
 
   -- where a reference leads
 
-  goal-leaf : {x : TreeIndex} {g : Goal} {p : ℕ} → GoesTo s ls x g → g ≡ goal.Leaf p → meetsIn s qs bytes ls (goalIn ls x) ≡ Leaf p
-  goal-leaf {p = p} (to-leaf v) e = let z : natOf v ≡ p = cc in meets-leaf (natOf v) ∙ ap Leaf z
-  goal-leaf (to-line v h) e = let z : _≡_ {A = ℕ} 0 1 = cc in absurd (omega arith)
-  goal-leaf (to-nothing v h) e = let z : _≡_ {A = ℕ} 0 1 = cc in absurd (omega arith)
+  turn-leaf : (x : TreeIndex) {p : ℕ} → turn.Leaf p ≡ turnOf x → meetsIn s qs bytes ls (goalIn ls x) ≡ Leaf p
+  turn-leaf (Pdf x) {p} e = let z : natOf x ≡ p = cc in meets-leaf (natOf x) ∙ ap Leaf z
+  turn-leaf (Node x) e = let z : _≡_ {A = ℕ} 0 1 = cc in absurd (omega arith)
 
-  line-at : {f : Found} {p : Place} {i : ℕ} → StandsAt s ls f p → p ≡ place.At i → (lineNumber (length ls) f ≤ length ls) × (drop (lineNumber (length ls) f) ls ≡ linesAt s i .items)
-  line-at nowhere e = let z : _≡_ {A = ℕ} 0 1 = cc in absurd (omega arith)
-  line-at {i = i} (stands {k = k} {i = j} h q) e = let z : j ≡ i = cc in (omega arith, q ∙ ap (λ (m : ℕ). linesAt s m .items) z)
-
-  goal-line : {x : TreeIndex} {g : Goal} {i : ℕ} → GoesTo s ls x g → g ≡ goal.Line i → (goalIn ls x ≤ length ls) × (drop (goalIn ls x) ls ≡ linesAt s i .items)
-  goal-line (to-leaf v) e = let z : _≡_ {A = ℕ} 0 1 = cc in absurd (omega arith)
-  goal-line {i = i} (to-line v {i = j} h) e = let z : j ≡ i = cc in line-at h (ap place.At z)
-  goal-line (to-nothing v h) e = let z : _≡_ {A = ℕ} 0 1 = cc in absurd (omega arith)
-
-  no-line : {f : Found} {p : Place} → StandsAt s ls f p → p ≡ place.Nowhere → meetsIn s qs bytes ls (lineNumber (length ls) f) ≡ Wrong
-  no-line nowhere e = meets-none
-  no-line (stands h q) e = let z : _≡_ {A = ℕ} 0 1 = cc in absurd (omega arith)
-
-  goal-none : {x : TreeIndex} {g : Goal} → GoesTo s ls x g → g ≡ goal.Nowhere → meetsIn s qs bytes ls (goalIn ls x) ≡ Wrong
-  goal-none (to-leaf v) e = let z : _≡_ {A = ℕ} 0 1 = cc in absurd (omega arith)
-  goal-none (to-line v h) e = let z : _≡_ {A = ℕ} 0 1 = cc in absurd (omega arith)
-  goal-none (to-nothing v h) e = no-line h refl
+  turn-line : (x : TreeIndex) {k : ℕ} → turn.Line k ≡ turnOf x → goalIn ls x ≡ lineNumber (length ls) (bearer k ls)
+  turn-line (Pdf x) e = let z : _≡_ {A = ℕ} 0 1 = cc in absurd (omega arith)
+  turn-line (Node x) {k} e = let z : idKey x ≡ k = cc in ap (λ (y : ℕ). lineNumber (length ls) (bearer y ls)) z
 
   -- ---- the loop
 
   -- at a line that was answered, after so many questions
   pub record Walking (limit n : ℕ) (reply : Reply) (asked : ℕ) : Type 0 where
     pub k : ℕ
-    pub inside : k ≤ length ls
-    pub said : reply ≡ replyFirst s qs bytes (drop k ls)
+    pub said : meetsIn s qs bytes ls k ≡ metReply ls reply
     pub follows : Following (meetsIn s qs bytes ls) limit n k asked
 
-  pub walking-none : (limit n : ℕ) {r : Reply} → n ≡ length ls → r ≡ replyFirst s qs bytes ls → Walking limit n r 0
+  pub walking-none : (limit n : ℕ) {r : Reply} → n ≡ length ls → r ≡ replyBorne s qs bytes (soughtIn ls sought.First) → Walking limit n r 0
   walking-none limit n e h =
       let z : min limit n - 0 ≡ min limit (length ls) = omega arith in
       record {
         k = 0;
-        inside = omega arith;
-        said = h;
+        said = meets-first ∙ ap (metReply ls) (sym h);
         follows = record {
           limited = omega arith;
           bounded = omega arith;
@@ -189,7 +176,7 @@ module _ (s : List ℕ) (qs : List QuestionPlace) (bytes : List ℕ) (ls : List 
 
   module _ {limit n : ℕ} {r : Reply} {a : ℕ} (w : Walking limit n r a) where
     met-here : {g : Reply} → r ≡ g → meetsIn s qs bytes ls (w .k) ≡ metReply ls g
-    met-here e = meets-first (w .k) (w .inside) ∙ ap (metReply ls) (sym (w .said) ∙ e)
+    met-here e = w .said ∙ ap (metReply ls) e
 
     pub walking-missing : r ≡ Missing → walked.Refused WalkTable ≡ walkFrom (meetsIn s qs bytes ls) limit 0
     walking-missing e = following-wrong (meetsIn s qs bytes ls) limit n (w .k) a (w .follows) (met-here e)
@@ -208,26 +195,11 @@ module _ (s : List ℕ) (qs : List QuestionPlace) (bytes : List ℕ) (ls : List 
         further : Following (meetsIn s qs bytes ls) limit n (goalIn ls x) (a + 1)
         further = following-on (meetsIn s qs bytes ls) limit n (w .k) a (w .follows) goes-on p q
 
-        pub walking-leaf : {g : Goal} {m : ℕ} → GoesTo s ls x g → g ≡ goal.Leaf m → walked.Pdf m (a + 1) ≡ walkFrom (meetsIn s qs bytes ls) limit 0
-        walking-leaf h z = following-leaf (meetsIn s qs bytes ls) limit n (goalIn ls x) (a + 1) further (goal-leaf h z)
+        pub walking-leaf : {m : ℕ} → turn.Leaf m ≡ turnOf x → walked.Pdf m (a + 1) ≡ walkFrom (meetsIn s qs bytes ls) limit 0
+        walking-leaf h = following-leaf (meetsIn s qs bytes ls) limit n (goalIn ls x) (a + 1) further (turn-leaf x h)
 
-        pub walking-wrong : {g : Goal} → GoesTo s ls x g → g ≡ goal.Nowhere → walked.Refused WalkTable ≡ walkFrom (meetsIn s qs bytes ls) limit 0
-        walking-wrong h z = following-wrong (meetsIn s qs bytes ls) limit n (goalIn ls x) (a + 1) further (goal-none h z)
-
-        pub walking-on : {g : Goal} {j : ℕ} → GoesTo s ls x g → g ≡ goal.Line j → {t : Reply} → t ≡ replyFirst s qs bytes (linesAt s j .items) → Walking limit n t (a + 1)
-        walking-on h z v = record { k = goalIn ls x; inside = goal-line h z .0; said = v ∙ ap (replyFirst s qs bytes) (sym (goal-line h z .1)); follows = further }
-
--- ---- where a reference leads
-
-module _ (s : List ℕ) (ls : List code.Line) where
-  pub goes-leaf : {x : TreeIndex} {v : ℤ} {m : ℕ} → x ≡ Pdf v → m ≡ natOf v → GoesTo s ls x (goal.Leaf m)
-  goes-leaf {v = v} e h = subst₂ (λ (y : TreeIndex) (n : ℕ). GoesTo s ls y (goal.Leaf n)) (sym e) (sym h) (to-leaf v)
-
-  pub goes-line : {x : TreeIndex} {v : ℤ} {k : ℕ} {p : Place} {i : ℕ} → x ≡ Node v → k ≡ idKey v → StandsAt s ls (bearer k ls) p → p ≡ place.At i → GoesTo s ls x (goal.Line i)
-  goes-line {v = v} {i = i} e h w z = subst (λ (y : TreeIndex). GoesTo s ls y (goal.Line i)) (sym e) (to-line v (subst₂ (λ (n : ℕ) (q : Place). StandsAt s ls (bearer n ls) q) h z w))
-
-  pub goes-nowhere : {x : TreeIndex} {v : ℤ} {k : ℕ} {p : Place} → x ≡ Node v → k ≡ idKey v → StandsAt s ls (bearer k ls) p → p ≡ place.Nowhere → GoesTo s ls x goal.Nowhere
-  goes-nowhere {v = v} e h w z = subst (λ (y : TreeIndex). GoesTo s ls y goal.Nowhere) (sym e) (to-nothing v (subst₂ (λ (n : ℕ) (q : Place). StandsAt s ls (bearer n ls) q) h z w))
+        pub walking-on : {m : ℕ} → turn.Line m ≡ turnOf x → {t : Reply} → t ≡ replyBorne s qs bytes (soughtIn ls (sought.Bearing m)) → Walking limit n t (a + 1)
+        walking-on {m} h v = record { k = goalIn ls x; said = ap (meetsIn s qs bytes ls) (turn-line x h) ∙ meets-bearing m ∙ ap (metReply ls) (sym v); follows = further }
 
 -- ---- the lines read
 

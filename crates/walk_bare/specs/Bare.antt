@@ -4,7 +4,6 @@ use mathlib.Core.Bool.{Bool, cond}
 use mathlib.Core.List.{List, [], _∷_}
 use Prim.Native.Nat.{ℕ, zero, suc, _+_, _-_, _*_, _≤_, _<_, min}
 use lib.Dec.{ltb}
-use lib.IntN.{ℤ}
 use lib.ListN.{length, getD}
 use lib.Seq.{sets}
 use Rattle.written.specs.Said.{QuestionPlace}
@@ -26,8 +25,9 @@ use Rattle.text_parts.specs.Parts.{partInside}
 use Rattle.link_search.specs.declared.Found.{Found}
 use Rattle.link_search.specs.declared.Found.the-variants.{At, Nothing}
 use Rattle.text_parts.specs.Parts.{natOf}
-use Rattle.text_spaces.specs.declared.Place.the-variants as place
-use Rattle.link_find.specs.Find.{asked, bearer, StandsAt}
+use Rattle.link_find.specs.Find.{asked, bearer, bearing}
+use Rattle.link_find.specs.declared.Borne.{Borne}
+use Rattle.link_find.specs.declared.Borne.the-variants as borne
 use Rattle.link_alone.specs.Alone.{singleIn}
 use Rattle.link_alone.specs.declared.Single.{Single}
 use Rattle.link_alone.specs.declared.Single.the-variants.{One, Several}
@@ -44,8 +44,10 @@ use Rattle.walk_accepts.specs.declared.Choice.{Choice}
 use Rattle.walk_accepts.specs.declared.Choice.the-variants as choice
 use Rattle.walk_bare.specs.declared.Reply.{Reply}
 use Rattle.walk_bare.specs.declared.Reply.the-variants.{Goes, Missing}
-use Rattle.walk_bare.specs.declared.Goal.{Goal}
-use Rattle.walk_bare.specs.declared.Goal.the-variants as goal
+use Rattle.walk_bare.specs.declared.Sought.{Sought}
+use Rattle.walk_bare.specs.declared.Sought.the-variants as sought
+use Rattle.walk_bare.specs.declared.Turn.{Turn}
+use Rattle.walk_bare.specs.declared.Turn.the-variants as turn
 use Rattle.walk_bare.specs.declared.Bare.{Bare}
 use Rattle.walk_bare.specs.declared.Bare.the-variants as bare
 use Rattle.walk_bare.specs.declared.Meter.{Meter}
@@ -63,16 +65,24 @@ replyFound bytes y n Nothing = Missing
 unfoldable pub replyTo : List ℕ → List QuestionPlace → List ℕ → code.Line → Reply
 replyTo s qs bytes l = replyFound bytes (l .yes) (l .no) (asked s (partInside s (l .start) (l .len)) qs)
 
--- the first of the lines from a place on
-abbrev pub replyFirst : List ℕ → List QuestionPlace → List ℕ → List code.Line → Reply
-replyFirst s qs bytes [] = Missing
-replyFirst s qs bytes (l ∷ ls) = replyTo s qs bytes l
+abbrev pub replyBorne : List ℕ → List QuestionPlace → List ℕ → Borne → Reply
+replyBorne s qs bytes (borne.Line l) = replyTo s qs bytes l
+replyBorne s qs bytes borne.Nothing = Missing
 
--- a PDF, or where the last line that bears the id stands
-pub data GoesTo (s : List ℕ) (ls : List code.Line) : TreeIndex → Goal → Type 0 where
-  to-leaf : (x : ℤ) → GoesTo s ls (Pdf x) (goal.Leaf (natOf x))
-  to-line : (x : ℤ) {i : ℕ} → StandsAt s ls (bearer (idKey x) ls) (place.At i) → GoesTo s ls (Node x) (goal.Line i)
-  to-nothing : (x : ℤ) → StandsAt s ls (bearer (idKey x) ls) place.Nowhere → GoesTo s ls (Node x) goal.Nowhere
+-- ---- which line is asked
+
+abbrev pub firstOf : List code.Line → Borne
+firstOf [] = borne.Nothing
+firstOf (l ∷ ls) = borne.Line l
+
+-- the first, or the last that bears the id
+abbrev pub soughtIn : List code.Line → Sought → Borne
+soughtIn ls sought.First = firstOf ls
+soughtIn ls (sought.Bearing x) = bearing x ls
+
+abbrev pub turnOf : TreeIndex → Turn
+turnOf (Pdf x) = turn.Leaf (natOf x)
+turnOf (Node x) = turn.Line (idKey x)
 
 -- ---- the lines of a tree as records: the lines by their numbers, then nothing, then a leaf for every PDF number
 

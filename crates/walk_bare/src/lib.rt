@@ -3,6 +3,7 @@
 use error::Refusal;
 use link_alone::Single;
 use link_alone::single_of;
+use link_find::Borne;
 use link_find::last_bearing;
 use link_find::last_question;
 use link_order::id_key;
@@ -11,7 +12,6 @@ use link_window::Linking;
 use link_window::link_tree;
 use text_parts::natural;
 use text_parts::part_inside;
-use text_spaces::Place;
 use tree_body::TreeHead;
 use tree_body::tree_head;
 use tree_line::Line;
@@ -32,7 +32,7 @@ ghost use Rattle.tree_question.specs.Questions.{questionsAt};
 ghost use Rattle.tree_line.specs.Lines.{linesAt};
 ghost use Rattle.tree_body.specs.Trees.{headAt};
 ghost use Rattle.walk.specs.Walking.{walkFrom};
-ghost use Rattle.walk_bare.specs.Bare.{replyIn, replyTo, replyFirst, GoesTo, meetsIn, readCount, endedOf, aloneOf, bracesOf, headOf, refusedBy, refusedAs, meteredOf, meterAt, bareOf, BareTells};
+ghost use Rattle.walk_bare.specs.Bare.{replyIn, replyTo, replyBorne, firstOf, soughtIn, turnOf, meetsIn, readCount, endedOf, aloneOf, bracesOf, headOf, refusedBy, refusedAs, meteredOf, meterAt, bareOf, BareTells};
 
 // 20: a lent slice is too short.
 const ROOM: u64 = 20;
@@ -81,46 +81,71 @@ fn reply_to(s: &[u8], at: usize, answers: &[u8], line: Line) -> Reply
     }
 }
 
-// The same of the line that stands at a place, where it is parsed once more: no line is kept while others are read.
-fn ask(s: &[u8], at: usize, answers: &[u8], place: usize) -> Reply
-    ensures { λ r. ⌜ r ≡ replyFirst (now (s .entry)) (questionsAt (now (s .entry)) at .items) (now (answers .entry)) (linesAt (now (s .entry)) place .items) ⌝ }
+// ---- which line is asked
+
+// The first line of a tree, or the last that bears the id of a key.
+pub enum Sought {
+    First,
+    Bearing(u64),
+}
+
+// The line that stands at a place.
+fn line_at(s: &[u8], place: usize) -> Borne
+    ensures { λ r. ⌜ r ≡ firstOf (linesAt (now (s .entry)) place .items) ⌝ }
 {
     match next_line(s, place) {
-        LineStep::Next { line, next: _ } => reply_to(s, at, answers, line),
-        LineStep::Last { line, next: _ } => reply_to(s, at, answers, line),
+        LineStep::Next { line, next: _ } => Borne::Line(line),
+        LineStep::Last { line, next: _ } => Borne::Line(line),
         // never, of a tree that can be read
-        LineStep::Broken => Reply::Missing,
+        LineStep::Broken => Borne::Nothing,
     }
 }
 
-// Where a reference leads: to a PDF, to the place of the last line that bears its id, or nowhere. All lines from `first` on are read for an id.
-pub enum Goal {
-    Leaf(u64),
-    Line(usize),
-    Nowhere,
+// One line is read for the first, all from `first` on for an id.
+fn seek(s: &[u8], first: usize, sought: Sought) -> Borne
+    ensures { λ r. ⌜ r ≡ soughtIn (linesAt (now (s .entry)) first .items) sought ⌝ }
+{
+    match sought {
+        Sought::First => line_at(s, first),
+        Sought::Bearing(key) => last_bearing(s, first, key),
+    }
 }
 
-fn go_to(s: &[u8], first: usize, index: TreeIndex) -> Goal
-    ensures { λ r. ⌜ GoesTo (now (s .entry)) (linesAt (now (s .entry)) first .items) index r ⌝ }
+// The answer to the question of the line that is sought, among those from `first` on.
+fn ask(s: &[u8], at: usize, first: usize, answers: &[u8], sought: Sought) -> Reply
+    ensures { λ r. ⌜ r ≡ replyBorne (now (s .entry)) (questionsAt (now (s .entry)) at .items) (now (answers .entry)) (soughtIn (linesAt (now (s .entry)) first .items) sought) ⌝ }
 {
-    match index {
-        TreeIndex::Pdf(number) => Goal::Leaf(natural(number)),
-        TreeIndex::Node(id) => match last_bearing(s, first, id_key(id)) {
-            Place::At(place) => Goal::Line(place),
-            Place::Nowhere => Goal::Nowhere,
-        },
+    match seek(s, first, sought) {
+        Borne::Line(line) => reply_to(s, at, answers, line),
+        // never, of a tree that links
+        Borne::Nothing => Reply::Missing,
     }
 }
 
 // ---- line after line
 
+// Where a reference leads: to a PDF, or to the last line that bears the id of a key.
+pub enum Turn {
+    Leaf(u64),
+    Line(u64),
+}
+
+fn turn_of(index: TreeIndex) -> Turn
+    ensures { λ r. ⌜ r ≡ turnOf index ⌝ }
+{
+    match index {
+        TreeIndex::Pdf(number) => Turn::Leaf(natural(number)),
+        TreeIndex::Node(id) => Turn::Line(id_key(id)),
+    }
+}
+
 // From the first of n lines on. A line met after as many questions as there are lines was met before: the walk goes round, and whatever the limit is, it is met.
-// It asks in two places, so that asking has a frame of its own, which does not stand below the windows of linking.
+// It asks in two places, so that asking, with the line that it finds, has a frame of its own, which does not stand below the windows of linking.
 fn follow(s: &[u8], at: usize, first: usize, n: u64, answers: &[u8], limit: u64) -> Walked
     requires { ⌜ n ≡ length (linesAt (now s) first .items) ⌝ }
     ensures { λ r. ⌜ r ≡ walkFrom (meetsIn (now (s .entry)) (questionsAt (now (s .entry)) at .items) (now (answers .entry)) (linesAt (now (s .entry)) first .items)) limit 0 ⌝ }
 {
-    let mut reply = ask(s, at, answers, first);
+    let mut reply = ask(s, at, first, answers, Sought::First);
     let mut asked: u64 = 0;
     loop {
         match reply {
@@ -132,15 +157,12 @@ fn follow(s: &[u8], at: usize, first: usize, n: u64, answers: &[u8], limit: u64)
                     return Walked::Refused(Refusal::Steps);
                 }
                 asked = asked + 1;
-                match go_to(s, first, index) {
-                    Goal::Leaf(number) => {
+                match turn_of(index) {
+                    Turn::Leaf(number) => {
                         return Walked::Pdf { number, asked };
                     }
-                    Goal::Line(next) => {
-                        reply = ask(s, at, answers, next);
-                    }
-                    Goal::Nowhere => {
-                        return Walked::Refused(Refusal::WalkTable);
+                    Turn::Line(key) => {
+                        reply = ask(s, at, first, answers, Sought::Bearing(key));
                     }
                 }
             }

@@ -4,7 +4,7 @@ use native.Mathlib.Omega.{arith}
 use Prim.Native.Nat.{_-_}
 use Rattle.tree_question.specs.Questions.{questionsAt}
 use Rattle.tree_line.specs.Lines.{linesAt}
-use Rattle.walk_bare.proofs.Laws.{Walking, walking-none, walking-missing, walking-limit, walking-reach, walking-leaf, walking-wrong, walking-on}
+use Rattle.walk_bare.proofs.Laws.{Walking, walking-none, walking-missing, walking-limit, walking-reach, walking-leaf, walking-on}
 use borrow.Author.Needs.{needs}
 use Rattle.walk_bare.proofs.follow.Statement.{statement}
 use Rattle.walk_bare.proofs.follow.Tie as tie
@@ -33,17 +33,17 @@ returns-2 c = walking-reach _ _ _ _ (c .before .before .before .before .before .
 add-asked : tie.Need-add-asked Inv-loop μ-loop
 add-asked c = omega (arith, c .before .before .before .before .before .loop .inv .follows .bounded, c .before .before .before .before .before .loop .inv .follows .limited, c .if2 .left, c .before .if1 .left)
 
-go-to-requires : tie.Need-go-to-requires Inv-loop μ-loop
-go-to-requires c κs = search needs
+turn-of-requires : tie.Need-turn-of-requires Inv-loop μ-loop
+turn-of-requires c κs = search needs
 
 enum-known-number : tie.Need-enum-known-number Inv-loop μ-loop
 enum-known-number c = search needs
 
 returns-3 : tie.Need-returns-3 Inv-loop μ-loop
-returns-3 c = walking-leaf _ _ _ _ (c .before .before .before .before .before .before .before .before .before .loop .inv) (c .before .before .before .before .before .before .before .reply .given .1) (c .before .before .before .before .before .if1 .left) (c .before .before .before .before .if2 .left) (c .before .before .before .go-to .ensures) (c .before .number .given .1)
+returns-3 c = walking-leaf _ _ _ _ (c .before .before .before .before .before .before .before .before .before .loop .inv) (c .before .before .before .before .before .before .before .reply .given .1) (c .before .before .before .before .before .if1 .left) (c .before .before .before .before .if2 .left) (sym (c .before .number .given .1) ∙ c .before .before .before .turn-of .ensures)
 
-enum-known-next : tie.Need-enum-known-next Inv-loop μ-loop
-enum-known-next c = search needs
+enum-known-key : tie.Need-enum-known-key Inv-loop μ-loop
+enum-known-key c = search needs
 
 ask-requires-2 : tie.Need-ask-requires-2 Inv-loop μ-loop
 ask-requires-2 c κs = search needs
@@ -52,19 +52,13 @@ loop-less : tie.Need-loop-less Inv-loop μ-loop
 loop-less c = omega (arith, c .before .before .before .before .before .before .before .before .before .before .loop .inv .follows .bounded, c .before .before .before .before .before .if2 .left)
 
 loop-again : tie.Need-loop-again Inv-loop μ-loop
-loop-again c = walking-on _ _ _ _ (c .before .before .before .before .before .before .before .before .before .before .loop .inv) (c .before .before .before .before .before .before .before .before .reply .given .1) (c .before .before .before .before .before .before .if1 .left) (c .before .before .before .before .before .if2 .left) (c .before .before .before .before .go-to .ensures) (c .before .before .next .given .1) (c .ask2 .ensures)
+loop-again c = walking-on _ _ _ _ (c .before .before .before .before .before .before .before .before .before .before .loop .inv) (c .before .before .before .before .before .before .before .before .reply .given .1) (c .before .before .before .before .before .before .if1 .left) (c .before .before .before .before .before .if2 .left) (sym (c .before .before .key .given .1) ∙ c .before .before .before .before .turn-of .ensures) (c .ask2 .ensures)
 
 enum-told : tie.Need-enum-told Inv-loop μ-loop
 enum-told c = search needs
 
 returns-4 : tie.Need-returns-4 Inv-loop μ-loop
-returns-4 c = walking-wrong _ _ _ _ (c .before .before .before .before .before .before .before .before .loop .inv) (c .before .before .before .before .before .before .reply .given .1) (c .before .before .before .before .if1 .left) (c .before .before .before .if2 .left) (c .before .before .go-to .ensures) (c .enum-told .given .1)
-
-enum-told-2 : tie.Need-enum-told-2 Inv-loop μ-loop
-enum-told-2 c = search needs
-
-returns-5 : tie.Need-returns-5 Inv-loop μ-loop
-returns-5 c = walking-missing _ _ _ _ (c .before .before .loop .inv) (c .enum-told2 .given .1)
+returns-4 c = walking-missing _ _ _ _ (c .before .before .loop .inv) (c .enum-told .given .1)
 
 pub follow-spec : {M : Type 1} → statement M
 follow-spec =
@@ -78,14 +72,12 @@ follow-spec =
     returns
     returns-2
     add-asked
-    go-to-requires
+    turn-of-requires
     enum-known-number
     returns-3
-    enum-known-next
+    enum-known-key
     ask-requires-2
     loop-less
     loop-again
     enum-told
-    returns-4
-    enum-told-2
-    returns-5)
+    returns-4)
