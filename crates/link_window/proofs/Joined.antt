@@ -22,7 +22,8 @@ use Rattle.link_alone.specs.declared.Judged.{Judged}
 use Rattle.link_alone.specs.declared.Judged.the-variants as judged
 use Rattle.link_alone.specs.declared.Single.{Single}
 use Rattle.link_alone.specs.declared.Single.the-variants.{One, Several}
-use Rattle.link_window.specs.Windows.{firstFrom, noRow, unheard, strays, faultLines, faultAlone, faultSingle, faultEnding, faultBraces, faultHead}
+use Rattle.link_stray.specs.Stray.{firstFrom, strays}
+use Rattle.link_window.specs.Windows.{noRow, unheard, faultLines, faultAlone, faultSingle, faultEnding, faultBraces, faultHead}
 use Rattle.error.specs.declared.LinkFault.the-variants.{NodeRef, QuestionRef}
 use Rattle.link_window.specs.declared.Linking.{Linking}
 use Rattle.link_window.specs.declared.Linking.the-variants.{Whole, Refused}

@@ -45,8 +45,9 @@ use Rattle.link_search.specs.declared.Found.the-variants.{At, Nothing}
 use Rattle.link_find.specs.Find.{lastFrom, named, asked}
 use Rattle.link_find.proofs.Finding.{Named, hit}
 use Rattle.link_alone.specs.Alone.{singleIn}
+use Rattle.link_stray.specs.Stray.{firstFrom}
 use Rattle.link_alone.specs.declared.Single.{Single}
-use Rattle.link_window.specs.Windows.{firstFrom, FirstOf, off, none, nameFrom, nameIn, keyOf, Keys, KeyIn, gone, left, Keyed, Gone, isGone, heard, Marked, Holds, Taken, more, all, Filling, takenOf, behindOf, noRow, unheard, Windowed, missing, next, clean, faultLines, faultSingle, faultEnding, faultBraces}
+use Rattle.link_window.specs.Windows.{FirstOf, off, none, nameFrom, nameIn, keyOf, Keys, KeyIn, gone, left, Keyed, Gone, isGone, heard, Marked, Holds, Taken, more, all, Filling, takenOf, behindOf, noRow, unheard, Windowed, missing, next, clean, faultLines, faultSingle, faultEnding, faultBraces}
 use Rattle.link_window.specs.declared.Linking.{Linking}
 use Rattle.error.specs.declared.LinkFault.the-variants.{NodeRef, QuestionRef}
 use Rattle.link_window.specs.declared.Linking.the-variants.{Whole, Refused}
@@ -55,13 +56,7 @@ use Rattle.link_window.specs.declared.Filled.the-variants.{More, All}
 use Rattle.link_window.specs.declared.Window.{Window}
 use Rattle.link_window.specs.declared.Window.the-variants.{Missing, Next, Clean}
 
--- ---- tests joined by or
-
-pub or-first : {a : Bool} (b : Bool) → a ≡ true → true ≡ (a || b)
-or-first b e = sym (ap (λ (x : Bool). x || b) e)
-
-pub or-second : {a b r : Bool} → a ≡ false → r ≡ b → r ≡ (a || b)
-or-second {a} {b} e q = q ∙ sym (ap (λ (x : Bool). x || b) e)
+-- ---- what is gone
 
 -- what is gone by the one or the other
 gone-or : (a b : Bool) (x : ℕ) → cond b 0 (cond a 0 x) ≡ cond (a || b) 0 x
@@ -72,23 +67,6 @@ gone-or false b x = refl
 -- ---- the first of a list
 
 module _ {A : Type 0} (p : A → Bool) where
-  module _ (k : ℕ) where
-    pub first-here : {x : A} {xs ys : List A} {b : Bool} → ys ≡ x ∷ xs → b ≡ p x → b ≡ true → At k ≡ firstFrom p k ys
-    unfolding firstFrom
-    first-here {x} {xs} e h t = sym (ap (firstFrom p k) e ∙ ap (λ (b : Bool). cond b (At k) (firstFrom p (suc k) xs)) (sym h ∙ t))
-
-    pub first-on : {x : A} {xs ys : List A} {b : Bool} → ys ≡ x ∷ xs → b ≡ p x → b ≡ false → firstFrom p (k + 1) xs ≡ firstFrom p k ys
-    unfolding firstFrom
-    first-on {x} {xs} e h t = ap (λ (i : ℕ). firstFrom p i xs) (add-one k) ∙ sym (ap (firstFrom p k) e ∙ ap (λ (b : Bool). cond b (At k) (firstFrom p (suc k) xs)) (sym h ∙ t))
-
-    pub first-end : {x : A} {ys : List A} {b : Bool} → ys ≡ x ∷ [] → b ≡ p x → b ≡ false → Nothing ≡ firstFrom p k ys
-    unfolding firstFrom
-    first-end {x} e h t = sym (ap (firstFrom p k) e ∙ ap (λ (b : Bool). cond b (At k) Nothing) (sym h ∙ t))
-
-    pub first-none : {ys : List A} → ys ≡ [] → Nothing ≡ firstFrom p k ys
-    unfolding firstFrom
-    first-none e = sym (ap (firstFrom p k) e)
-
   pub first-is : (k : ℕ) {xs : List A} {m : ℕ} {x : A} → Nth xs m x → p x ≡ true → ((j : ℕ) (y : A) → j < m → Nth xs j y → p y ≡ false) → firstFrom p k xs ≡ At (k + m)
   unfolding firstFrom
   first-is k (here {x = x} {xs = xs}) t h = let z : k ≡ k + 0 = omega arith in ap (λ (b : Bool). cond b (At k) (firstFrom p (suc k) xs)) t ∙ ap At z

@@ -21,7 +21,8 @@ use Rattle.text_parts.specs.Parts.{partInside}
 use Rattle.link_search.specs.declared.Found.{Found}
 use Rattle.link_search.specs.declared.Found.the-variants.{At, Nothing}
 use Rattle.link_find.specs.Find.{named, asked}
-use Rattle.link_alone.specs.Alone.{nowhere, targetIn, singleIn}
+use Rattle.link_alone.specs.Alone.{singleIn}
+use Rattle.link_stray.specs.Stray.{firstFrom, strays}
 use Rattle.link_alone.specs.declared.Single.{Single}
 use Rattle.link_alone.specs.declared.Single.the-variants.{One, Several}
 use Rattle.link_window.specs.declared.Linking.{Linking}
@@ -32,12 +33,6 @@ use Rattle.link_window.specs.declared.Window.{Window}
 use Rattle.link_window.specs.declared.Window.the-variants.{Missing, Next, Clean}
 
 -- ---- the first of which a test is true
-
--- of a list, counted from k
-module _ {A : Type 0} (p : A → Bool) where
-  unfoldable pub firstFrom : ℕ → List A → Found
-  firstFrom k [] = Nothing
-  firstFrom k (x ∷ xs) = cond (p x) (At k) (firstFrom (suc k) xs)
 
 -- of the numbers below n, the first of which a test is false
 pub data FirstOf (p : ℕ → Bool) (n : ℕ) : Found → Type 0 where
@@ -120,10 +115,6 @@ noRow Nothing = true
 -- its question isn't there
 abbrev pub unheard : List ℕ → List QuestionPlace → Line → Bool
 unheard s qs l = noRow (asked s (partInside s (l .start) (l .len)) qs)
-
--- its yes or its no leads nowhere
-abbrev pub strays : List Line → Line → Bool
-strays ls l = nowhere (targetIn ls (l .yes)) || nowhere (targetIn ls (l .no))
 
 -- the lines from i on, at most 36 of them
 pub data Windowed (s : List ℕ) (qs : List QuestionPlace) (i : ℕ) : Window → Type 0 where

@@ -3,19 +3,17 @@
 // would take lines times questions. Every function takes any bytes and any place, also one past the end. A place is an index into the slice; the questions are those of the text that begins at `at`.
 use error::LinkFault;
 use link_alone::Single;
-use link_alone::is_nowhere;
 use link_alone::single_of;
-use link_alone::target_of;
 use link_find::NameStep;
 use link_find::ids_in_order;
 use link_find::next_name;
 use link_find::same_name;
 use link_search::Found;
+use link_stray::first_astray;
 use text_base::name_end;
 use text_parts::part_inside;
 use tree_body::TreeHead;
 use tree_body::tree_head;
-use tree_line::Line;
 use tree_line::LineStep;
 use tree_line::next_line;
 use tree_question::Item;
@@ -32,9 +30,9 @@ ghost use Rattle.laws.specs.Steps.{read};
 ghost use Rattle.tree_line.specs.Lines.{linesAt};
 ghost use Rattle.tree_question.specs.Questions.{questionStepAt, questionsAt};
 ghost use Rattle.tree_body.specs.Trees.{headAt};
-ghost use Rattle.link_find.specs.Find.{Lines};
+ghost use Rattle.link_stray.specs.Stray.{firstFrom};
 ghost use Rattle.link_window.specs.declared.Linking.the-variants.{Refused};
-ghost use Rattle.link_window.specs.Windows.{nameFrom, nameIn, keyOf, Keys, KeyIn, Keyed, Gone, isGone, heard, Marked, FirstOf, Filling, takenOf, behindOf, Windowed, unheard, strays, firstFrom, faultAlone, faultLines, faultBraces, faultHead};
+ghost use Rattle.link_window.specs.Windows.{nameFrom, nameIn, keyOf, Keys, KeyIn, Keyed, Gone, isGone, heard, Marked, FirstOf, Filling, takenOf, behindOf, Windowed, unheard, faultAlone, faultLines, faultBraces, faultHead};
 
 // How many lines are looked up at a time.
 const WINDOW: usize = 36;
@@ -303,48 +301,6 @@ pub fn first_unasked(s: &[u8], at: usize, first: usize) -> Found
                 window = read_window(s, at, next);
             }
             Window::Clean => {
-                return Found::Nothing;
-            }
-        }
-    }
-}
-
-// Whether a line's yes or no leads nowhere.
-fn is_astray(s: &[u8], first: usize, n: u64, in_order: bool, line: Line) -> bool
-    requires { ⌜ Lines (now s) first n «in_order» ⌝ }
-    ensures { λ r. ⌜ r ≡ strays (linesAt (now (s .entry)) first .items) line ⌝ }
-{
-    let to_yes = line.yes;
-    let to_no = line.no;
-    if is_nowhere(target_of(s, first, n, in_order, to_yes)) {
-        return true;
-    }
-    is_nowhere(target_of(s, first, n, in_order, to_no))
-}
-
-// The first of the n lines from `first` on of which yes or no leads nowhere.
-pub fn first_astray(s: &[u8], first: usize, n: u64, in_order: bool) -> Found
-    requires { ⌜ Lines (now s) first n «in_order» ⌝ }
-    ensures { λ r. ⌜ r ≡ firstFrom (strays (linesAt (now (s .entry)) first .items)) 0 (linesAt (now (s .entry)) first .items) ⌝ }
-{
-    let mut i = first;
-    let mut k: u64 = 0;
-    loop {
-        match next_line(s, i) {
-            LineStep::Next { line, next } => {
-                if is_astray(s, first, n, in_order, line) {
-                    return Found::At(k);
-                }
-                k = k + 1;
-                i = next;
-            }
-            LineStep::Last { line, next: _ } => {
-                if is_astray(s, first, n, in_order, line) {
-                    return Found::At(k);
-                }
-                return Found::Nothing;
-            }
-            LineStep::Broken => {
                 return Found::Nothing;
             }
         }

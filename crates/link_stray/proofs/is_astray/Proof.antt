@@ -1,10 +1,10 @@
--- `link_window::is_astray`: yes first, then no.
+-- `link_stray::is_astray`: yes first, then no.
 use mathlib.Core.Path.{_≡_, refl, sym, ap, ap₂, _∙_}
 use Rattle.link_alone.specs.Alone.{nowhere}
-use Rattle.link_window.proofs.Laws.{or-first, or-second}
+use Rattle.link_stray.proofs.Laws.{or-first, or-second}
 use borrow.Author.Needs.{needs}
-use Rattle.link_window.proofs.is_astray.Statement.{statement}
-use Rattle.link_window.proofs.is_astray.Tie as tie
+use Rattle.link_stray.proofs.is_astray.Statement.{statement}
+use Rattle.link_stray.proofs.is_astray.Tie as tie
 
 target-of-requires : tie.Need-target-of-requires
 target-of-requires c κs = c .before .pre
