@@ -16,7 +16,7 @@ use Rattle.written.specs.Said.{QuestionPlace}
 use Rattle.written.specs.Linking.{Nth, here, there}
 use Rattle.written.proofs.Walk.{nth-once, no-row}
 use Rattle.laws.proofs.Nth.{nth-inside, nth-of}
-use Rattle.laws.specs.Steps.{doneAt}
+use Rattle.laws.specs.Steps.{Ending, doneAt, brokenAt}
 use Rattle.tree_question.proofs.Filling.{questions-from}
 use Rattle.laws.specs.Runs.{stop}
 use Rattle.text_numbers.specs.Answers.{signedAt}
@@ -35,9 +35,9 @@ use Rattle.tree_line.specs.declared.ReadLine.the-variants as readLine
 use Rattle.tree_line.specs.declared.LineStep.{LineStep}
 use Rattle.tree_line.specs.declared.Line.{Line}
 use Rattle.tree_line.specs.declared.LineStep.the-variants as answer
-use Rattle.tree_survey_lines.specs.Counts.{linesCounted}
-use Rattle.tree_survey_lines.specs.declared.LineCount.the-variants as count
-use Rattle.tree_survey_lines.proofs.Counting.{items-next, items-last, items-broken, next-in, counted, not-counted}
+use Rattle.tree_survey_lines.proofs.Counting.{items-next, items-last, items-broken, next-in}
+use Rattle.tree_body.specs.declared.TreeHead.{TreeHead}
+use Rattle.tree_body.specs.declared.TreeHead.the-variants as head
 use Rattle.text_parts.specs.Parts.{partInside}
 use Rattle.link_search.specs.declared.Found.{Found}
 use Rattle.link_search.proofs.Ids.{true-same}
@@ -45,9 +45,13 @@ use Rattle.link_search.specs.declared.Found.the-variants.{At, Nothing}
 use Rattle.link_find.specs.Find.{lastFrom, named, asked}
 use Rattle.link_find.proofs.Finding.{Named, hit}
 use Rattle.link_alone.specs.Alone.{singleIn}
-use Rattle.link_stray.specs.Stray.{firstFrom}
+use Rattle.link_stray.specs.Stray.{firstFrom, strays}
 use Rattle.link_alone.specs.declared.Single.{Single}
-use Rattle.link_window.specs.Windows.{FirstOf, off, none, nameFrom, nameIn, keyOf, Keys, KeyIn, gone, left, Keyed, Gone, isGone, heard, Marked, Holds, Taken, more, all, Filling, takenOf, behindOf, noRow, unheard, Windowed, missing, next, clean, faultLines, faultSingle, faultEnding, faultBraces}
+use Rattle.link_alone.specs.declared.Single.the-variants as single
+use Rattle.link_shape.specs.Shapes.{shapeSingle, shapeEnding, shapeBraces, shapeHead}
+use Rattle.link_shape.specs.declared.Shape.{Shape}
+use Rattle.link_shape.specs.declared.Shape.the-variants as shape
+use Rattle.link_window.specs.Windows.{FirstOf, off, none, nameFrom, nameIn, keyOf, Keys, KeyIn, gone, left, Keyed, Gone, isGone, heard, Marked, Holds, Taken, more, all, Filling, takenOf, behindOf, noRow, unheard, Windowed, missing, next, clean, faultLines, faultAlone, faultSingle, faultEnding, faultBraces, faultHead}
 use Rattle.link_window.specs.declared.Linking.{Linking}
 use Rattle.error.specs.declared.LinkFault.the-variants.{NodeRef, QuestionRef}
 use Rattle.link_window.specs.declared.Linking.the-variants.{Whole, Refused}
@@ -551,20 +555,28 @@ lower-question {a} {b} h = sym (ap (λ (x : Bool). cond x (Refused QuestionRef b
 pub lower-node : {a b : ℕ} → a ≤ b → Refused NodeRef a ≡ faultLines (At a) (At b)
 lower-node {a} {b} h = sym (ap (λ (x : Bool). cond x (Refused QuestionRef b) (Refused NodeRef a)) (le-ltb b a h))
 
--- ---- a tree in braces
+-- ---- a tree, by its shape
 
-module _ (s : List ℕ) (qs : List QuestionPlace) (i : ℕ) where
-  module _ {n m e : ℕ} (h : count.Counted n m e ≡ linesCounted 0 0 (linesAt s i)) where
-    pub counted-many : n ≡ length (linesAt s i .items)
-    counted-many = sym (counted s i n m e h .lines)
+abbrev pub faultShape : List ℕ → List QuestionPlace → Shape → Linking
+faultShape s qs (shape.One x n) = faultAlone x
+faultShape s qs shape.Empty = Whole
+faultShape s qs (shape.Lines f n) = faultLines (firstFrom (strays (linesAt s f .items)) 0 (linesAt s f .items)) (firstFrom (unheard s qs) 0 (linesAt s f .items))
+faultShape s qs shape.Broken = Whole
 
-    pub braces-are : {r : Linking} (t : Single) → t ≡ singleIn (linesAt s i .items) → r ≡ faultSingle s qs (linesAt s i .items) t → r ≡ faultBraces s qs (linesAt s i)
-    unfolding faultBraces
-    braces-are t p q = q ∙ ap (faultSingle s qs (linesAt s i .items)) p ∙ sym (ap (faultEnding s qs (linesAt s i .items)) (counted s i n m e h .done))
+pub fault-shape : (s : List ℕ) (qs : List QuestionPlace) (h : TreeHead) → faultShape s qs (shapeHead s h) ≡ faultHead s qs h
+unfolding shapeBraces faultBraces
+fault-shape s qs (head.Lone x r e) = refl
+fault-shape s qs (head.Empty x e) = refl
+fault-shape s qs head.NoTree = refl
+fault-shape s qs (head.Lines x f) = go (linesAt s f .ending)
+  where
+    one : (t : Single) → faultShape s qs (shapeSingle f (length (linesAt s f .items)) t) ≡ faultSingle s qs (linesAt s f .items) t
+    one (single.One y) = refl
+    one single.Several = refl
 
-  pub braces-broken : count.Broken ≡ linesCounted 0 0 (linesAt s i) → Whole ≡ faultBraces s qs (linesAt s i)
-  unfolding faultBraces
-  braces-broken h = sym (ap (faultEnding s qs (linesAt s i .items)) (not-counted s i h .1))
+    go : (e : Ending) → faultShape s qs (shapeEnding f (linesAt s f .items) e) ≡ faultEnding s qs (linesAt s f .items) e
+    go (doneAt e) = one (singleIn (linesAt s f .items))
+    go (brokenAt e) = refl
 
 -- ---- how far the windows still have to go
 

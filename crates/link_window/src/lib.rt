@@ -2,25 +2,21 @@
 // A question is looked for in the text for 36 lines at a time, their names' places and a byte of each name on the stack: reading the questions once for each line
 // would take lines times questions. Every function takes any bytes and any place, also one past the end. A place is an index into the slice; the questions are those of the text that begins at `at`.
 use error::LinkFault;
-use link_alone::Single;
-use link_alone::single_of;
 use link_find::NameStep;
 use link_find::ids_in_order;
 use link_find::next_name;
 use link_find::same_name;
 use link_search::Found;
+use link_shape::Shape;
+use link_shape::shape_of;
 use link_stray::first_astray;
 use text_base::name_end;
 use text_parts::part_inside;
-use tree_body::TreeHead;
-use tree_body::tree_head;
 use tree_line::LineStep;
 use tree_line::next_line;
 use tree_question::Item;
 use tree_question::first_item;
 use tree_reference::TreeIndex;
-use tree_survey_lines::LineCount;
-use tree_survey_lines::count_lines;
 ghost use mathlib.Core.Path.{_≡_};
 ghost use mathlib.Core.Bool.{Bool, cond, _||_};
 ghost use Prim.Native.Nat.{ℕ, _<_, _≤_};
@@ -32,7 +28,7 @@ ghost use Rattle.tree_question.specs.Questions.{questionStepAt, questionsAt};
 ghost use Rattle.tree_body.specs.Trees.{headAt};
 ghost use Rattle.link_stray.specs.Stray.{firstFrom};
 ghost use Rattle.link_window.specs.declared.Linking.the-variants.{Refused};
-ghost use Rattle.link_window.specs.Windows.{nameFrom, nameIn, keyOf, Keys, KeyIn, Keyed, Gone, isGone, heard, Marked, FirstOf, Filling, takenOf, behindOf, Windowed, unheard, faultAlone, faultLines, faultBraces, faultHead};
+ghost use Rattle.link_window.specs.Windows.{nameFrom, nameIn, keyOf, Keys, KeyIn, Keyed, Gone, isGone, heard, Marked, FirstOf, Filling, takenOf, behindOf, Windowed, unheard, faultAlone, faultLines, faultHead};
 
 // How many lines are looked up at a time.
 const WINDOW: usize = 36;
@@ -350,40 +346,18 @@ fn link_alone(index: TreeIndex) -> Linking
     }
 }
 
-// The tree in braces whose first line stands at `first`.
-fn link_braces(s: &[u8], at: usize, first: usize) -> Linking
-    ensures { λ r. ⌜ r ≡ faultBraces (now (s .entry)) (questionsAt (now (s .entry)) at .items) (linesAt (now (s .entry)) first) ⌝ }
-{
-    match count_lines(s, first) {
-        LineCount::Counted {
-            lines,
-            pdfs: _,
-            next: _,
-        } => match single_of(s, first, lines) {
-            Single::One(index) => link_alone(index),
-            Single::Several => lower(
-                first_astray(s, first, lines as u64, ids_in_order(s, first)),
-                first_unasked(s, at, first),
-            ),
-        },
-        // never, of a tree that can be read
-        LineCount::Broken => Linking::Whole,
-    }
-}
-
 // The tree that stands at `star`.
 pub fn link_tree(s: &[u8], at: usize, star: usize) -> Linking
     ensures { λ r. ⌜ r ≡ faultHead (now (s .entry)) (questionsAt (now (s .entry)) at .items) (headAt (now (s .entry)) star) ⌝ }
 {
-    match tree_head(s, star) {
-        TreeHead::Lone {
-            state: _,
-            index,
-            next: _,
-        } => link_alone(index),
-        TreeHead::Empty { state: _, next: _ } => Linking::Whole,
-        TreeHead::Lines { state: _, first } => link_braces(s, at, first),
+    match shape_of(s, star) {
+        Shape::One { index, lines: _ } => link_alone(index),
+        Shape::Empty => Linking::Whole,
+        Shape::Lines { first, n } => lower(
+            first_astray(s, first, n, ids_in_order(s, first)),
+            first_unasked(s, at, first),
+        ),
         // never, of a tree that can be read
-        TreeHead::NoTree => Linking::Whole,
+        Shape::Broken => Linking::Whole,
     }
 }

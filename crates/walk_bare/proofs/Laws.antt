@@ -11,15 +11,12 @@ use lib.ListN.{length, getD}
 use Rattle.written.specs.Said.{QuestionPlace}
 use Rattle.written.specs.Linking.{Nth, here, there}
 use Rattle.written.specs.Walks.{chosen, isYes}
-use Rattle.laws.specs.Steps.{doneAt}
+use Rattle.laws.specs.Steps.{Ending, doneAt, brokenAt}
 use Rattle.error.specs.declared.Refusal.the-variants.{WalkTable, Steps}
 use Rattle.tree_reference.specs.declared.TreeIndex.{TreeIndex}
 use Rattle.tree_reference.specs.declared.TreeIndex.the-variants.{Node, Pdf}
 use Rattle.tree_line.specs.Lines.{linesAt}
 use Rattle.tree_line.specs.declared.Line as code
-use Rattle.tree_survey_lines.specs.Counts.{linesCounted}
-use Rattle.tree_survey_lines.specs.declared.LineCount.the-variants as count
-use Rattle.tree_survey_lines.proofs.Counting.{counted, not-counted}
 use Rattle.link_order.specs.Keys.{idKey}
 use Rattle.text_parts.specs.Parts.{partInside}
 use Rattle.link_search.specs.declared.Found.{Found}
@@ -31,6 +28,10 @@ use Rattle.link_find.proofs.Finding.{Stands, nowhere, stands, kept}
 use Rattle.text_parts.specs.Parts.{natOf}
 use Rattle.link_alone.specs.Alone.{singleIn}
 use Rattle.link_alone.specs.declared.Single.{Single}
+use Rattle.link_alone.specs.declared.Single.the-variants as single
+use Rattle.link_shape.specs.Shapes.{shapeSingle, shapeEnding, shapeBraces, shapeHead}
+use Rattle.link_shape.specs.declared.Shape.{Shape}
+use Rattle.link_shape.specs.declared.Shape.the-variants as shape
 use Rattle.walk.specs.Walking.{walkFrom}
 use Rattle.walk.specs.declared.Met.{Met}
 use Rattle.walk.specs.declared.Met.the-variants.{Leaf, Line, Wrong}
@@ -38,13 +39,15 @@ use Rattle.walk.specs.declared.Walked.{Walked}
 use Rattle.walk.specs.declared.Walked.the-variants as walked
 use Rattle.walk.proofs.Round.{plus, plus-none, walk-wrong, enough-min}
 use Rattle.walk.proofs.Following.{Following, following-leaf, following-wrong, following-limit, following-reach, following-on}
-use Rattle.walk_bare.specs.Bare.{replyIn, replyFound, replyTo, replyBorne, firstOf, soughtIn, turnOf, lineNumber, goalIn, metReply, metIn, meetsIn, readCount, endedOf, singleOf, endingOf, bracesOf, headOf, meteredOf, linkedAs, meterAt, chosenOf, bareOf, BareTells, no-room, told}
+use Rattle.walk_bare.specs.Bare.{replyIn, replyFound, replyTo, replyBorne, firstOf, soughtIn, turnOf, lineNumber, goalIn, metReply, metIn, meetsIn, readCount, endedOf, aloneOf, singleOf, endingOf, bracesOf, headOf, meteredOf, linkedAs, meterAt, chosenOf, bareOf, BareTells, no-room, told}
 use Rattle.walk_accepts.specs.Accepting.{chosenTree}
 use Rattle.walk_accepts.specs.declared.Choice.{Choice}
 use Rattle.link_window.specs.Windows.{faultHead}
 use Rattle.link_window.specs.declared.Linking.{Linking}
 use Rattle.tree_question.specs.Questions.{questionsAt}
 use Rattle.tree_body.specs.Trees.{headAt}
+use Rattle.tree_body.specs.declared.TreeHead.{TreeHead}
+use Rattle.tree_body.specs.declared.TreeHead.the-variants as head
 use Rattle.walk_bare.specs.declared.Meter.{Meter}
 use Rattle.walk_bare.specs.declared.Reply.{Reply}
 use Rattle.walk_bare.specs.declared.Reply.the-variants.{Goes, Missing}
@@ -231,20 +234,29 @@ module _ (n a : ℕ) where
       go (suc zero) e l = let z : n * a ≡ n * 1 = ap (λ (i : ℕ). n * i) e in omega (arith, z)
       go (suc (suc b)) e l = absurd (omega arith)
 
--- ---- a tree in braces
+-- ---- a tree, by its shape
 
-module _ (s : List ℕ) (qs : List QuestionPlace) (bytes : List ℕ) (limit i : ℕ) where
-  module _ {n m e : ℕ} (h : count.Counted n m e ≡ linesCounted 0 0 (linesAt s i)) where
-    pub counted-many : n ≡ length (linesAt s i .items)
-    counted-many = sym (counted s i n m e h .lines)
+module _ (s : List ℕ) (qs : List QuestionPlace) (bytes : List ℕ) (limit : ℕ) where
+  abbrev pub walkShape : Shape → Bare
+  walkShape (shape.One x n) = aloneOf n x
+  walkShape shape.Empty = bare.Refused WalkTable
+  walkShape (shape.Lines f n) = endedOf n (walkFrom (meetsIn s qs bytes (linesAt s f .items)) limit 0)
+  walkShape shape.Broken = bare.Refused WalkTable
 
-    pub braces-are : {r : Bare} (t : Single) → t ≡ singleIn (linesAt s i .items) → r ≡ singleOf s qs bytes limit (linesAt s i .items) t → r ≡ bracesOf s qs bytes limit (linesAt s i)
-    unfolding bracesOf
-    braces-are t p q = q ∙ ap (singleOf s qs bytes limit (linesAt s i .items)) p ∙ sym (ap (endingOf s qs bytes limit (linesAt s i .items)) (counted s i n m e h .done))
+  pub walk-shape : (h : TreeHead) → walkShape (shapeHead s h) ≡ headOf s qs bytes limit h
+  unfolding shapeBraces bracesOf
+  walk-shape (head.Lone x r e) = refl
+  walk-shape (head.Empty x e) = refl
+  walk-shape head.NoTree = refl
+  walk-shape (head.Lines x f) = go (linesAt s f .ending)
+    where
+      one : (t : Single) → walkShape (shapeSingle f (length (linesAt s f .items)) t) ≡ singleOf s qs bytes limit (linesAt s f .items) t
+      one (single.One y) = refl
+      one single.Several = refl
 
-  pub braces-broken : count.Broken ≡ linesCounted 0 0 (linesAt s i) → bare.Refused WalkTable ≡ bracesOf s qs bytes limit (linesAt s i)
-  unfolding bracesOf
-  braces-broken h = sym (ap (endingOf s qs bytes limit (linesAt s i .items)) (not-counted s i h .1))
+      go : (e : Ending) → walkShape (shapeEnding f (linesAt s f .items) e) ≡ endingOf s qs bytes limit (linesAt s f .items) e
+      go (doneAt e) = one (singleIn (linesAt s f .items))
+      go (brokenAt e) = refl
 
 pub ended-pdf : (n : ℕ) {p a r : ℕ} → r ≡ readCount n a → bare.Pdf p a r ≡ endedOf n (walked.Pdf p a)
 ended-pdf n {p = p} {a = a} e = ap (bare.Pdf p a) e

@@ -1,25 +1,21 @@
 // The walk straight over a tree text, without tables (02, Wish 12): a tree is chosen by its number, linked alone, and walked line by line; each line is found
 // again by reading the tree. Every function takes any bytes, any number, any answers and any limit.
 use error::Refusal;
-use link_alone::Single;
-use link_alone::single_of;
 use link_find::Borne;
 use link_find::last_bearing;
 use link_find::last_question;
 use link_order::id_key;
 use link_search::Found;
+use link_shape::Shape;
+use link_shape::shape_of;
 use link_window::Linking;
 use link_window::link_tree;
 use text_parts::natural;
 use text_parts::part_inside;
-use tree_body::TreeHead;
-use tree_body::tree_head;
 use tree_line::Line;
 use tree_line::LineStep;
 use tree_line::next_line;
 use tree_reference::TreeIndex;
-use tree_survey_lines::LineCount;
-use tree_survey_lines::count_lines;
 use walk::Walked;
 use walk_accepts::Choice;
 use walk_accepts::choose_tree;
@@ -32,7 +28,7 @@ ghost use Rattle.tree_question.specs.Questions.{questionsAt};
 ghost use Rattle.tree_line.specs.Lines.{linesAt};
 ghost use Rattle.tree_body.specs.Trees.{headAt};
 ghost use Rattle.walk.specs.Walking.{walkFrom};
-ghost use Rattle.walk_bare.specs.Bare.{replyIn, replyTo, replyBorne, firstOf, soughtIn, turnOf, meetsIn, readCount, endedOf, aloneOf, bracesOf, headOf, refusedBy, refusedAs, meteredOf, meterAt, bareOf, BareTells};
+ghost use Rattle.walk_bare.specs.Bare.{replyIn, replyTo, replyBorne, firstOf, soughtIn, turnOf, meetsIn, readCount, endedOf, aloneOf, headOf, refusedBy, refusedAs, meteredOf, meterAt, bareOf, BareTells};
 
 // 20: a lent slice is too short.
 const ROOM: u64 = 20;
@@ -220,41 +216,16 @@ fn alone(index: TreeIndex, read: u64) -> Bare
     }
 }
 
-// The tree in braces whose first line stands at `first`.
-fn walk_braces(s: &[u8], at: usize, first: usize, answers: &[u8], limit: u64) -> Bare
-    ensures { λ r. ⌜ r ≡ bracesOf (now (s .entry)) (questionsAt (now (s .entry)) at .items) (now (answers .entry)) limit (linesAt (now (s .entry)) first) ⌝ }
-{
-    match count_lines(s, first) {
-        LineCount::Counted {
-            lines,
-            pdfs: _,
-            next: _,
-        } => match single_of(s, first, lines) {
-            Single::One(index) => alone(index, 1),
-            Single::Several => {
-                let n = lines as u64;
-                ended(n, follow(s, at, first, n, answers, limit))
-            }
-        },
-        // never, of a tree that can be read
-        LineCount::Broken => Bare::Refused(Refusal::WalkTable),
-    }
-}
-
 // The tree that stands at `star`, once it is known to link.
 fn walk_tree(s: &[u8], at: usize, star: usize, answers: &[u8], limit: u64) -> Bare
     ensures { λ r. ⌜ r ≡ headOf (now (s .entry)) (questionsAt (now (s .entry)) at .items) (now (answers .entry)) limit (headAt (now (s .entry)) star) ⌝ }
 {
-    match tree_head(s, star) {
-        TreeHead::Lone {
-            state: _,
-            index,
-            next: _,
-        } => alone(index, 0),
-        TreeHead::Empty { state: _, next: _ } => Bare::Refused(Refusal::WalkTable),
-        TreeHead::Lines { state: _, first } => walk_braces(s, at, first, answers, limit),
+    match shape_of(s, star) {
+        Shape::One { index, lines } => alone(index, lines),
+        Shape::Empty => Bare::Refused(Refusal::WalkTable),
+        Shape::Lines { first, n } => ended(n, follow(s, at, first, n, answers, limit)),
         // never, of a tree that can be read
-        TreeHead::NoTree => Bare::Refused(Refusal::WalkTable),
+        Shape::Broken => Bare::Refused(Refusal::WalkTable),
     }
 }
 
