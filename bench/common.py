@@ -32,12 +32,12 @@ def newer(path, *sources):
     return all(os.path.getmtime(os.path.join(f, n)) <= made for s in sources for f, _, names in os.walk(s) for n in names)
 
 
-def built(level, triple=NATIVE, *flags):
-    """The library's object for a target at a level, by host/native."""
-    path = os.path.join(ROOM, '-'.join(['larsavim' + level, triple.split('-')[0], *(f.strip('-') for f in flags)]) + '.o')
+def built(level, triple=NATIVE, *flags, crate='larsavim'):
+    """A library's object for a target at a level, by host/native."""
+    path = os.path.join(ROOM, '-'.join([crate + level, triple.split('-')[0], *(f.strip('-') for f in flags)]) + '.o')
     if not newer(path, os.path.join(ROOT, 'crates')):
         os.makedirs(ROOM, exist_ok=True)
-        subprocess.run([os.path.join(ROOT, 'host', 'native'), path, triple, level, '-fstack-size-section', *flags], check=True)
+        subprocess.run([os.path.join(ROOT, 'host', 'native'), path, triple, level, '-fstack-size-section', *flags], check=True, env=dict(os.environ, CRATE=crate))
     return path
 
 

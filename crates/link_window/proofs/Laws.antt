@@ -362,7 +362,7 @@ module _ (s : List ℕ) (first : ℕ) (names₀ : List ℕ) where
     pub inside : k ≤ length (linesAt s first .items)
     pub up : k + first ≤ i
     pub within : 0 < k → i ≤ length s
-    pub most : k ≤ 36
+    pub most : k ≤ 40
 
   pub taking-none : Taking names₀ first 0
   taking-none = record { long = refl; holds = λ m l n h. absurd (omega arith); rest = refl; inside = omega arith; up = omega arith; within = λ h. absurd (omega arith); most = omega arith }
@@ -380,7 +380,7 @@ module _ (s : List ℕ) (first : ℕ) (names₀ : List ℕ) where
               subst (λ (y : Line). stop inName s (y .start) - y .start ≡ y .len) (sym q) size,
             )
 
-    pub taking-on : {names′ : List ℕ} {j : ℕ} → names′ ≡ set names k (l .start) → ls ≡ linesAt s j .items → 3 + i ≤ j → j ≤ length s → k < 36 → Taking names′ j (k + 1)
+    pub taking-on : {names′ : List ℕ} {j : ℕ} → names′ ≡ set names k (l .start) → ls ≡ linesAt s j .items → 3 + i ≤ j → j ≤ length s → k < 40 → Taking names′ j (k + 1)
     taking-on {names′} {j} q z a b f =
         subst (λ (t : List ℕ). Taking t j (k + 1)) (sym q)
         (record {
@@ -393,7 +393,7 @@ module _ (s : List ℕ) (first : ℕ) (names₀ : List ℕ) where
           within = λ h. b;
         })
 
-    pub taking-last : {names′ : List ℕ} → names′ ≡ set names k (l .start) → ls ≡ [] → k < 36 → Filling s first names₀ (All (k + 1)) names′
+    pub taking-last : {names′ : List ℕ} → names′ ≡ set names k (l .start) → ls ≡ [] → k < 40 → Filling s first names₀ (All (k + 1)) names′
     taking-last {names′} q z h =
         subst (λ (t : List ℕ). Filling s first names₀ (All (k + 1)) t) (sym q)
         (record {
@@ -404,12 +404,12 @@ module _ (s : List ℕ) (first : ℕ) (names₀ : List ℕ) where
         })
 
   module _ {names : List ℕ} {i k : ℕ} (w : Taking names i k) where
-    pub taking-broken : linesAt s i .items ≡ [] → k < 36 → Filling s first names₀ (All k) names
+    pub taking-broken : linesAt s i .items ≡ [] → k < 40 → Filling s first names₀ (All k) names
     taking-broken z h = record { long = w .long; taken = all (w .holds) (let f = drop-nil k (linesAt s first .items) (w .rest ∙ z) in omega (arith, f, w .inside)) (omega arith) }
 
-    pub taking-end : 36 ≤ k → Filling s first names₀ (More i) names
+    pub taking-end : 40 ≤ k → Filling s first names₀ (More i) names
     taking-end h =
-        let z : k ≡ 36 = omega (arith, w .most) in
+        let z : k ≡ 40 = omega (arith, w .most) in
         record {
           long = w .long;
           taken = more (subst (λ (n : ℕ). Holds s names n (linesAt s first .items)) z (w .holds)) (sym (ap (λ (n : ℕ). drop n (linesAt s first .items)) z) ∙ w .rest) (omega (arith, w .inside)) (omega (arith, w .up)) (w .within (omega arith));
@@ -460,7 +460,7 @@ module _ (s names : List ℕ) (qs : List QuestionPlace) {n : ℕ} {ls : List Lin
 -- ---- a window
 
 module _ (s names : List ℕ) (qs : List QuestionPlace) (i : ℕ) where
-  of-missing : {n j : ℕ} → Holds s names n (linesAt s i .items) → n ≤ length (linesAt s i .items) → n ≤ 36 → {r : Found} → FirstOf (λ (m : ℕ). heard s (nameIn s names m) qs) n r → r ≡ At j → Windowed s qs i (Missing j)
+  of-missing : {n j : ℕ} → Holds s names n (linesAt s i .items) → n ≤ length (linesAt s i .items) → n ≤ 40 → {r : Found} → FirstOf (λ (m : ℕ). heard s (nameIn s names m) qs) n r → r ≡ At j → Windowed s qs i (Missing j)
   of-missing {n} {j} h a b (off {j = k} l e f) z =
       let q : k ≡ j = cc in
       let w = nth-of (linesAt s i .items) k (omega arith) in
@@ -484,7 +484,7 @@ module _ (s names : List ℕ) (qs : List QuestionPlace) (i : ℕ) where
   pub window-clear : {f : Filled} {n : ℕ} {r : Found} {w : Window} → Taken s i names f → n ≡ takenOf f → FirstOf (λ (m : ℕ). heard s (nameIn s names m) qs) n r → r ≡ Nothing → w ≡ behindOf f → Windowed s qs i w
   window-clear {f = f} {r = r} t e g z q = subst (Windowed s qs i) (sym q) (window-behind t (subst (λ (x : ℕ). FirstOf (λ (m : ℕ). heard s (nameIn s names m) qs) x r) e g) z)
 
-pub taken-few : {s names : List ℕ} {i n : ℕ} {f : Filled} → Taken s i names f → n ≡ takenOf f → n ≤ 36
+pub taken-few : {s names : List ℕ} {i n : ℕ} {f : Filled} → Taken s i names f → n ≡ takenOf f → n ≤ 40
 taken-few (more h d a b c) e = omega arith
 taken-few (all h a b) e = omega arith
 
@@ -500,14 +500,14 @@ module _ (s : List ℕ) (qs : List QuestionPlace) (first : ℕ) where
   going-none = record { same = refl; few = omega arith; within = λ h. absurd (omega arith) }
 
   module _ {i k : ℕ} (g : Going i k) {w : _} (h : Windowed s qs i w) where
-    pub going-small : {j : ℕ} → w ≡ Missing j → (j < 36) × (k ≤ length s)
+    pub going-small : {j : ℕ} → w ≡ Missing j → (j < 40) × (k ≤ length s)
     going-small {j} e = go h e
       where
         few : Dec (0 < k) → k ≤ length s
         few (yes p) = omega (arith, g .few, g .within p)
         few (no p) = omega arith
 
-        go : {w : _} → Windowed s qs i w → w ≡ Missing j → (j < 36) × (k ≤ length s)
+        go : {w : _} → Windowed s qs i w → w ≡ Missing j → (j < 40) × (k ≤ length s)
         go (missing {j = m} a b c d) e = let q : m ≡ j = cc in (omega arith, few (decLt 0 k))
         go (next {j = m} a b c d f) e = let y : _≡_ {A = ℕ} 0 1 = cc in absurd (omega arith)
         go (clean a) e = let y : _≡_ {A = ℕ} 0 1 = cc in absurd (omega arith)
@@ -520,23 +520,23 @@ module _ (s : List ℕ) (qs : List QuestionPlace) (first : ℕ) where
         go (next {j = m} a b c d f) e = let y : _≡_ {A = ℕ} 0 1 = cc in absurd (omega arith)
         go (clean a) e = let y : _≡_ {A = ℕ} 0 1 = cc in absurd (omega arith)
 
-    pub going-up : {j : ℕ} → w ≡ Next j → (36 + i ≤ j) × (j ≤ length s)
+    pub going-up : {j : ℕ} → w ≡ Next j → (40 + i ≤ j) × (j ≤ length s)
     going-up {j} e = go h e
       where
-        go : {w : _} → Windowed s qs i w → w ≡ Next j → (36 + i ≤ j) × (j ≤ length s)
+        go : {w : _} → Windowed s qs i w → w ≡ Next j → (40 + i ≤ j) × (j ≤ length s)
         go (missing a b c d) e = let y : _≡_ {A = ℕ} 0 1 = cc in absurd (omega arith)
         go (next {j = m} a b c d f) e = let q : m ≡ j = cc in (omega arith, omega arith)
         go (clean a) e = let y : _≡_ {A = ℕ} 0 1 = cc in absurd (omega arith)
 
-    pub going-next : {j : ℕ} → w ≡ Next j → Going j (k + 36)
+    pub going-next : {j : ℕ} → w ≡ Next j → Going j (k + 40)
     going-next {j} e = go h e
       where
-        go : {w : _} → Windowed s qs i w → w ≡ Next j → Going j (k + 36)
+        go : {w : _} → Windowed s qs i w → w ≡ Next j → Going j (k + 40)
         go (missing a b c d) e = let y : _≡_ {A = ℕ} 0 1 = cc in absurd (omega arith)
         go (next {j = m} a b c d f) e =
             let q : m ≡ j = cc in
-            subst (λ (x : ℕ). Going x (k + 36)) q
-            (record { same = sym (ap (firstFrom (unheard s qs) (k + 36)) b) ∙ sym (first-drop (unheard s qs) k 36 (linesAt s i .items) c a) ∙ g .same; few = omega (arith, g .few); within = λ p. f })
+            subst (λ (x : ℕ). Going x (k + 40)) q
+            (record { same = sym (ap (firstFrom (unheard s qs) (k + 40)) b) ∙ sym (first-drop (unheard s qs) k 40 (linesAt s i .items) c a) ∙ g .same; few = omega (arith, g .few); within = λ p. f })
         go (clean a) e = let y : _≡_ {A = ℕ} 0 1 = cc in absurd (omega arith)
 
     pub going-clean : w ≡ Clean → Nothing ≡ firstFrom (unheard s qs) 0 (linesAt s first .items)

@@ -87,10 +87,10 @@ pub record Marked (m : List ℕ) (n : ℕ) (p : ℕ → Bool) (e : List ℕ) : T
 abbrev pub Holds : List ℕ → List ℕ → ℕ → List Line → Type 0
 Holds s names n ls = (m : ℕ) (l : Line) → Nth ls m l → m < n → (getD names m 0 ≡ l .start) × (stop inName s (l .start) - l .start ≡ l .len)
 
--- names of the lines from i on: 36 and where the next stands, or all
+-- names of the lines from i on: 40 and where the next stands, or all
 pub data Taken (s : List ℕ) (i : ℕ) (names : List ℕ) : Filled → Type 0 where
-  more : {j : ℕ} → Holds s names 36 (linesAt s i .items) → drop 36 (linesAt s i .items) ≡ linesAt s j .items → 36 ≤ length (linesAt s i .items) → 36 + i ≤ j → j ≤ length s → Taken s i names (More j)
-  all : {n : ℕ} → Holds s names n (linesAt s i .items) → length (linesAt s i .items) ≡ n → n ≤ 36 → Taken s i names (All n)
+  more : {j : ℕ} → Holds s names 40 (linesAt s i .items) → drop 40 (linesAt s i .items) ≡ linesAt s j .items → 40 ≤ length (linesAt s i .items) → 40 + i ≤ j → j ≤ length s → Taken s i names (More j)
+  all : {n : ℕ} → Holds s names n (linesAt s i .items) → length (linesAt s i .items) ≡ n → n ≤ 40 → Taken s i names (All n)
 
 pub record Filling (s : List ℕ) (i : ℕ) (names : List ℕ) (r : Filled) (e : List ℕ) : Type 0 where
   pub long : length e ≡ length names
@@ -98,7 +98,7 @@ pub record Filling (s : List ℕ) (i : ℕ) (names : List ℕ) (r : Filled) (e :
 
 -- how many
 abbrev pub takenOf : Filled → ℕ
-takenOf (More j) = 36
+takenOf (More j) = 40
 takenOf (All n) = n
 
 -- what follows them
@@ -116,12 +116,12 @@ noRow Nothing = true
 abbrev pub unheard : List ℕ → List QuestionPlace → Line → Bool
 unheard s qs l = noRow (asked s (partInside s (l .start) (l .len)) qs)
 
--- the lines from i on, at most 36 of them
+-- the lines from i on, at most 40 of them
 pub data Windowed (s : List ℕ) (qs : List QuestionPlace) (i : ℕ) : Window → Type 0 where
-  missing : {j : ℕ} {l : Line} → Nth (linesAt s i .items) j l → unheard s qs l ≡ true → j < 36
+  missing : {j : ℕ} {l : Line} → Nth (linesAt s i .items) j l → unheard s qs l ≡ true → j < 40
       → ((m : ℕ) (e : Line) → m < j → Nth (linesAt s i .items) m e → unheard s qs e ≡ false) → Windowed s qs i (Missing j)
-  next : {j : ℕ} → ((m : ℕ) (e : Line) → m < 36 → Nth (linesAt s i .items) m e → unheard s qs e ≡ false)
-      → drop 36 (linesAt s i .items) ≡ linesAt s j .items → 36 ≤ length (linesAt s i .items) → 36 + i ≤ j → j ≤ length s → Windowed s qs i (Next j)
+  next : {j : ℕ} → ((m : ℕ) (e : Line) → m < 40 → Nth (linesAt s i .items) m e → unheard s qs e ≡ false)
+      → drop 40 (linesAt s i .items) ≡ linesAt s j .items → 40 ≤ length (linesAt s i .items) → 40 + i ≤ j → j ≤ length s → Windowed s qs i (Next j)
   clean : ((m : ℕ) (e : Line) → Nth (linesAt s i .items) m e → unheard s qs e ≡ false) → Windowed s qs i Clean
 
 -- ---- a tree

@@ -1,5 +1,5 @@
 // The linking of one tree by reading its text, without tables or work, and quickly: the first line with a fault (01, 'Linking and tables'; 02, Wish 12).
-// A question is looked for in the text for 36 lines at a time, their names' places and a byte of each name on the stack: reading the questions once for each line
+// A question is looked for in the text for 40 lines at a time, their names' places and a byte of each name on the stack: reading the questions once for each line
 // would take lines times questions. Every function takes any bytes and any place, also one past the end. A place is an index into the slice; the questions are those of the text that begins at `at`.
 use error::LinkFault;
 use link_find::NameStep;
@@ -31,7 +31,7 @@ ghost use Rattle.link_window.specs.declared.Linking.the-variants.{Refuse
 ghost use Rattle.link_window.specs.Windows.{nameFrom, nameIn, keyOf, Keys, KeyIn, Keyed, Gone, isGone, heard, Marked, FirstOf, Filling, takenOf, behindOf, Windowed, unheard, faultAlone, faultLines, faultHead};
 
 // How many lines are looked up at a time.
-const WINDOW: usize = 36;
+const WINDOW: usize = 40;
 
 // Whether a tree links, or at which line it doesn't.
 pub enum Linking {
@@ -64,7 +64,7 @@ fn put_name(names: &mut [u64], k: usize, start: usize)
 
 // The names of the lines from `first` on, as many as there is room for.
 fn fill(s: &[u8], first: usize, names: &mut [u64]) -> Filled
-    requires { ⌜ length (now names) ≡ 36 ⌝ }
+    requires { ⌜ length (now names) ≡ 40 ⌝ }
     ensures { λ r. ⌜ Filling (now (s .entry)) first (now (names .entry)) r (now (names .exit)) ⌝ }
 {
     let mut i = first;
@@ -226,10 +226,10 @@ fn first_left(keys: &[u8], n: usize) -> Found
 
 // The first of n names that no question bears, where the questions begin at `first`.
 fn first_unheard(s: &[u8], first: usize, names: &[u64], n: usize) -> Found
-    requires { ⌜ (n ≤ 36) × (n ≤ length (now names)) ⌝ }
+    requires { ⌜ (n ≤ 40) × (n ≤ length (now names)) ⌝ }
     ensures { λ r. ⌜ FirstOf (λ (j : ℕ). heard (now (s .entry)) (nameIn (now (s .entry)) (now (names .entry)) j) (read (questionStepAt (now (s .entry))) (length (now (s .entry))) first .items)) n r ⌝ }
 {
-    let mut keys = [0u8; 36];
+    let mut keys = [0u8; 40];
     set_keys(s, names, &mut keys, n);
     mark_all(s, first, names, &mut keys, n);
     first_left(&keys, n)
@@ -237,7 +237,7 @@ fn first_unheard(s: &[u8], first: usize, names: &[u64], n: usize) -> Found
 
 // The first of n names that no question bears; where the text has no question, the first of them.
 fn look_up(s: &[u8], at: usize, names: &[u64], n: usize) -> Found
-    requires { ⌜ (n ≤ 36) × (n ≤ length (now names)) ⌝ }
+    requires { ⌜ (n ≤ 40) × (n ≤ length (now names)) ⌝ }
     ensures { λ r. ⌜ FirstOf (λ (j : ℕ). heard (now (s .entry)) (nameIn (now (s .entry)) (now (names .entry)) j) (questionsAt (now (s .entry)) at .items)) n r ⌝ }
 {
     match first_item(s, at) {
@@ -272,7 +272,7 @@ fn behind(filled: Filled) -> Window
 fn read_window(s: &[u8], at: usize, first: usize) -> Window
     ensures { λ r. ⌜ Windowed (now (s .entry)) (questionsAt (now (s .entry)) at .items) first r ⌝ }
 {
-    let mut names = [0u64; 36];
+    let mut names = [0u64; 40];
     let filled = fill(s, first, &mut names);
     match look_up(s, at, &names, taken(filled)) {
         Found::At(j) => Window::Missing(j),
@@ -293,7 +293,7 @@ pub fn first_unasked(s: &[u8], at: usize, first: usize) -> Found
                 return Found::At(k + j);
             }
             Window::Next(next) => {
-                k = k + 36;
+                k = k + 40;
                 window = read_window(s, at, next);
             }
             Window::Clean => {

@@ -12,7 +12,7 @@ abbrev Inv-loop : tie.InvT-loop
 Inv-loop s first names₀ i₀ k₀ names i k = Taking s first names₀ names i k
 
 abbrev μ-loop : tie.MeasureT-loop
-μ-loop s first names₀ i₀ k₀ names i k = 36 - k
+μ-loop s first names₀ i₀ k₀ names i k = 40 - k
 
 loop-holds : tie.Need-loop-holds Inv-loop μ-loop
 loop-holds c = taking-none _ _ _
