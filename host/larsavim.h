@@ -400,7 +400,7 @@ uint64_t larsavim_accepts(const uint8_t *text, uint64_t text_len, uint64_t tree,
 /* Walks one tree straight over a tree text, without tables or work: each line is found again by reading. For a text whose model loads, larsavim_walk over its tables
  * gives the same number, PDF number and questions asked, for every tree number, all answers (also too few) and every limit. Answer byte i is that of the text's i-th
  * question, counted from 0. out: number (0, 17, 18, 20 to 25), place, line, PDF number, questions asked, and the lines of that tree that the walk read, the checks
- * before it left out: the first line, and all lines of the tree for each question but the last (a line that was found is parsed once more, and not counted); 0 of a lone reference; at most the tree's lines times one more than
+ * before it left out: the first line, and all lines of the tree for each question but the last; 0 of a lone reference; at most the tree's lines times one more than
  * the questions asked. Where it were more than 2^64 - 1 (no text below 4 GiB comes near), that number stands there. Refused: PDF number, questions and lines are 0.
  * Order: 20 for `out`, 17 (place: from the text's first byte on), 18, 24 for no such tree, 21 to 23 of this tree alone (place and line: tree and line), 24 and 25. */
 uint64_t larsavim_bare_walk(const uint8_t *text, uint64_t text_len, uint64_t tree, const uint8_t *answers, uint64_t answers_len, uint64_t limit, uint64_t *out, uint64_t out_len);

@@ -117,7 +117,7 @@ def drawn(number):
     if number % 8 == 7:  # any text of the judge's, broken or not
         s, questions, trees = treetexts.tree_text(number), 3, 3
     elif number % 8 == 6:
-        (s, questions), trees = long_tree(r, r.choice((1, 2, 35, 36, 37, 71, 72, 73, 100))), 1
+        (s, questions), trees = long_tree(r, r.choice((1, 2, 39, 40, 41, 79, 80, 81, 120))), 1
     else:
         s, questions, trees = accepting.text(r), 4, 3
     answers = [r.choice((0, 0, 1, 255)) for _ in range(r.choice((questions, questions, r.randint(0, questions))))]
