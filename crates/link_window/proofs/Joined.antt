@@ -1,8 +1,8 @@
 -- What is said of a tree's linking here is what `link_alone` judges of it, whatever the rows are.
-use mathlib.Core.Path.{_≡_, refl, sym, ap, ap₂, _∙_, subst}
+use mathlib.Core.Path.{_≡_, refl, sym, _∙_}
 use mathlib.Core.Bool.{Bool, true, false, cond, _&&_, _||_}
 use mathlib.Core.List.{List, [], _∷_}
-use Prim.Native.Nat.{ℕ, zero, suc, _≤_, _<_}
+use Prim.Native.Nat.{ℕ, suc, _≤_}
 use native.Mathlib.Omega.{arith}
 use Rattle.written.specs.Said.{QuestionPlace}
 use Rattle.laws.specs.Steps.{Ending, doneAt, brokenAt}

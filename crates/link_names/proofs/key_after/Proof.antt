@@ -1,13 +1,13 @@
--- `link_window::key_after`: by the key, then by the name.
+-- `link_names::key_after`: by the key, then by the name.
 use mathlib.Core.Path.{_≡_, refl, sym, ap, ap₂, _∙_}
 use mathlib.Core.Bool.{Bool, cond}
 use mathlib.Core.List.{List}
 use Prim.Native.Nat.{ℕ}
 use Rattle.written.specs.Bytes.{same}
-use Rattle.link_window.proofs.Laws.{key-other}
+use Rattle.link_names.proofs.Laws.{key-other}
 use borrow.Author.Needs.{needs}
-use Rattle.link_window.proofs.key_after.Statement.{statement}
-use Rattle.link_window.proofs.key_after.Tie as tie
+use Rattle.link_names.proofs.key_after.Statement.{statement}
+use Rattle.link_names.proofs.key_after.Tie as tie
 
 returns : tie.Need-returns
 returns c = key-other (c .before .before .before .args .s .now) (c .before .before .before .args .start) (c .before .before .before .args .name .now) (c .before .before .before .pre .0) (c .before .before .before .pre .1) (c .if1 .taken)

@@ -1,4 +1,4 @@
--- `link_window::name_at`: up to the end of the name.
+-- `link_names::name_at`: up to the end of the name.
 use mathlib.Core.Path.{_≡_, refl, sym, ap, ap₂, _∙_}
 use native.Mathlib.Omega.{arith}
 use Rattle.written.specs.Bytes.{inName}
@@ -6,8 +6,8 @@ use Rattle.laws.proofs.Runs.{stop-from}
 use Rattle.text_parts.specs.Parts.{partInside}
 use Prim.Native.Nat.{ℕ, _-_}
 use borrow.Author.Needs.{needs}
-use Rattle.link_window.proofs.name_at.Statement.{statement}
-use Rattle.link_window.proofs.name_at.Tie as tie
+use Rattle.link_names.proofs.name_at.Statement.{statement}
+use Rattle.link_names.proofs.name_at.Tie as tie
 
 name-end-requires : tie.Need-name-end-requires
 name-end-requires c κs = search needs

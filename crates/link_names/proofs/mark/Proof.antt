@@ -1,13 +1,13 @@
--- `link_window::mark`: name by name.
+-- `link_names::mark`: name by name.
 use mathlib.Core.Path.{_≡_, refl, sym, ap, ap₂, _∙_}
 use native.Mathlib.Omega.{arith}
 use Prim.Native.Nat.{ℕ, _-_}
 use Rattle.written.specs.Bytes.{same}
-use Rattle.link_window.specs.Windows.{nameIn}
-use Rattle.link_window.proofs.Laws.{Marking, marking-from, marking-on, marking-end, marking-key}
+use Rattle.link_names.specs.Names.{nameIn}
+use Rattle.link_names.proofs.Laws.{Marking, marking-from, marking-on, marking-end, marking-key}
 use borrow.Author.Needs.{needs}
-use Rattle.link_window.proofs.mark.Statement.{statement}
-use Rattle.link_window.proofs.mark.Tie as tie
+use Rattle.link_names.proofs.mark.Statement.{statement}
+use Rattle.link_names.proofs.mark.Tie as tie
 
 abbrev Inv-loop : tie.InvT-loop
 Inv-loop s names keys₀ low n name key j₀ keys j = Marking keys₀ (λ (i : ℕ). same name (nameIn s names i)) keys j

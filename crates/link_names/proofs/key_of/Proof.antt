@@ -1,8 +1,8 @@
--- `link_window::key_of`: by length and last byte.
-use Rattle.link_window.proofs.Laws.{key-none, key-is}
+-- `link_names::key_of`: by length and last byte.
+use Rattle.link_names.proofs.Laws.{key-none, key-is}
 use borrow.Author.Needs.{needs}
-use Rattle.link_window.proofs.key_of.Statement.{statement}
-use Rattle.link_window.proofs.key_of.Tie as tie
+use Rattle.link_names.proofs.key_of.Statement.{statement}
+use Rattle.link_names.proofs.key_of.Tie as tie
 
 returns : tie.Need-returns
 returns c = key-none _ (c .if1 .taken)

@@ -1,14 +1,14 @@
--- `link_window::mark_all`: question by question, as long as a key is left.
+-- `link_names::mark_all`: question by question, as long as a key is left.
 use mathlib.Core.Path.{_≡_, refl, sym, ap, ap₂, _∙_}
 use native.Mathlib.Omega.{arith}
 use Prim.Native.Nat.{_-_, _≤_}
 use lib.ListN.{length}
 use Rattle.link_find.proofs.Finding.{named-next, named-last, named-none}
-use Rattle.link_window.specs.Windows.{Gone}
-use Rattle.link_window.proofs.Laws.{gone-none, gone-fewer, marked-gone, Hearing, hearing-on, hearing-last, hearing-over, hearing-none}
+use Rattle.link_names.specs.Names.{Gone}
+use Rattle.link_names.proofs.Laws.{gone-none, gone-fewer, marked-gone, Hearing, hearing-on, hearing-last, hearing-over, hearing-none}
 use borrow.Author.Needs.{needs}
-use Rattle.link_window.proofs.mark_all.Statement.{statement}
-use Rattle.link_window.proofs.mark_all.Tie as tie
+use Rattle.link_names.proofs.mark_all.Statement.{statement}
+use Rattle.link_names.proofs.mark_all.Tie as tie
 
 abbrev Inv-loop : tie.InvT-loop
 Inv-loop s first names keys₀ n i₀ low₀ keys i low = Hearing s names keys₀ n first keys i × Gone low keys × (low ≤ n)

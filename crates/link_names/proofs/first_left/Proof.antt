@@ -1,14 +1,14 @@
--- `link_window::first_left`: those before are gone.
+-- `link_names::first_left`: those before are gone.
 use mathlib.Core.Path.{_≡_, refl, sym, ap, ap₂, _∙_}
 use native.Mathlib.Omega.{arith}
 use Prim.Native.Nat.{ℕ, _-_, _<_}
 use mathlib.Core.Bool.{true}
 use lib.ListN.{getD}
-use Rattle.link_window.specs.Windows.{isGone, off, none}
-use Rattle.link_window.proofs.Laws.{first-more, gone-not}
+use Rattle.link_names.specs.Names.{isGone, off, none}
+use Rattle.link_names.proofs.Laws.{first-more, gone-not}
 use borrow.Author.Needs.{needs}
-use Rattle.link_window.proofs.first_left.Statement.{statement}
-use Rattle.link_window.proofs.first_left.Tie as tie
+use Rattle.link_names.proofs.first_left.Statement.{statement}
+use Rattle.link_names.proofs.first_left.Tie as tie
 
 abbrev Inv-loop : tie.InvT-loop
 Inv-loop keys n j₀ j = (i : ℕ) → i < j → isGone (getD keys i 0) ≡ true

@@ -1,11 +1,11 @@
--- `link_window::gone_from`: one more, as long as it is gone.
+-- `link_names::gone_from`: one more, as long as it is gone.
 use native.Mathlib.Omega.{arith}
 use Prim.Native.Nat.{_-_}
-use Rattle.link_window.specs.Windows.{Gone}
-use Rattle.link_window.proofs.Laws.{gone-more}
+use Rattle.link_names.specs.Names.{Gone}
+use Rattle.link_names.proofs.Laws.{gone-more}
 use borrow.Author.Needs.{needs}
-use Rattle.link_window.proofs.gone_from.Statement.{statement}
-use Rattle.link_window.proofs.gone_from.Tie as tie
+use Rattle.link_names.proofs.gone_from.Statement.{statement}
+use Rattle.link_names.proofs.gone_from.Tie as tie
 
 abbrev Inv-loop : tie.InvT-loop
 Inv-loop keys low n j₀ j = Gone j keys

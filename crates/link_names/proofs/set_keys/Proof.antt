@@ -1,12 +1,12 @@
--- `link_window::set_keys`: name by name.
+-- `link_names::set_keys`: name by name.
 use mathlib.Core.Path.{_≡_, refl, sym, ap, ap₂, _∙_}
 use native.Mathlib.Omega.{arith}
 use Prim.Native.Nat.{_-_}
-use Rattle.link_window.specs.Windows.{keyOf}
-use Rattle.link_window.proofs.Laws.{Keying, keying-none, keying-on, keying-end}
+use Rattle.link_names.specs.Names.{keyOf}
+use Rattle.link_names.proofs.Laws.{Keying, keying-none, keying-on, keying-end}
 use borrow.Author.Needs.{needs}
-use Rattle.link_window.proofs.set_keys.Statement.{statement}
-use Rattle.link_window.proofs.set_keys.Tie as tie
+use Rattle.link_names.proofs.set_keys.Statement.{statement}
+use Rattle.link_names.proofs.set_keys.Tie as tie
 
 abbrev Inv-loop : tie.InvT-loop
 Inv-loop s names keys₀ n j₀ keys j = Keying s names keys₀ keys j

@@ -1,12 +1,12 @@
--- `link_window::look_up`: by what the text begins with.
+-- `link_names::look_up`: by what the text begins with.
 use mathlib.Core.Path.{_≡_, refl, sym, ap, ap₂, _∙_}
 use Rattle.laws.specs.Steps.{Reading}
 use Rattle.written.specs.Said.{QuestionPlace}
 use Rattle.tree_question.proofs.Filling.{begins-question, begins-tree}
-use Rattle.link_window.proofs.Laws.{heard-in, silent-none, silent-some}
+use Rattle.link_names.proofs.Laws.{heard-in, silent-none, silent-some}
 use borrow.Author.Needs.{needs}
-use Rattle.link_window.proofs.look_up.Statement.{statement}
-use Rattle.link_window.proofs.look_up.Tie as tie
+use Rattle.link_names.proofs.look_up.Statement.{statement}
+use Rattle.link_names.proofs.look_up.Tie as tie
 
 first-item-requires : tie.Need-first-item-requires
 first-item-requires c κs = search needs

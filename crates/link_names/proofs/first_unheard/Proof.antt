@@ -1,9 +1,9 @@
--- `link_window::first_unheard`: the keys, then those that are left of them, then the first.
+-- `link_names::first_unheard`: the keys, then those that are left of them, then the first.
 use native.Mathlib.Omega.{arith}
-use Rattle.link_window.proofs.Laws.{keys-keyed, from-keys}
+use Rattle.link_names.proofs.Laws.{keys-keyed, from-keys}
 use borrow.Author.Needs.{needs}
-use Rattle.link_window.proofs.first_unheard.Statement.{statement}
-use Rattle.link_window.proofs.first_unheard.Tie as tie
+use Rattle.link_names.proofs.first_unheard.Statement.{statement}
+use Rattle.link_names.proofs.first_unheard.Tie as tie
 
 slice-aggregate-set-keys : tie.Need-slice-aggregate-set-keys
 slice-aggregate-set-keys c = search needs
