@@ -5,7 +5,8 @@ use Prim.Native.Nat.{ℕ}
 use Rattle.face_record.specs.Answers.{commentSaid, getSaid, pairSaid}
 use Rattle.face_model.specs.Answers.{neededOf, endedOf}
 use Rattle.load_model.specs.Load.{Tables}
-use Rattle.larsavim.specs.Face.{saidNumbers, partNumbers, pairNumbers, neededNumbers, endedNumbers, Answers, Opens, Comments, Gets, Pairs, Needs, Loads, Walks, Leaves}
+use Rattle.larsavim.specs.Face.{saidNumbers, partNumbers, pairNumbers, endedNumbers, Answers, Opens, Comments, Gets, Pairs, Needs, Loads, Walks, Leaves}
+use Rattle.face_put.specs.Put.{neededNumbers}
 use Rattle.larsavim.specs.Write.{Measures, Writes}
 
 -- what equals one thing is equal

@@ -1,19 +1,16 @@
 -- How answers are written, and what a slice that is too short leaves.
-use mathlib.Core.Path.{_≡_, refl, sym, ap, _∙_, subst}
+use mathlib.Core.Path.{_≡_, sym, ap, _∙_, subst}
 use mathlib.Core.Bool.{Bool, cond}
-use mathlib.Core.List.{List, [], _∷_}
+use mathlib.Core.List.{List}
 use Prim.Native.Nat.{ℕ, _≤_, _<_}
-use borrow.Author.Tests.{lt-ltb, le-ltb, eq-eqb, ne-eqb}
-use lib.Dec.{ltb}
-use lib.ListN.{length, set}
+use borrow.Author.Tests.{lt-ltb, le-ltb}
+use lib.ListN.{length}
 use lib.Seq.{sets}
 use Rattle.written.specs.Sharing.{bottom, Held, nothing}
 use Rattle.load_model.specs.Load.{Tables}
-use Rattle.face_model.specs.declared.Needed.{Needed}
 use Rattle.face_model.specs.declared.Rows.{Rows}
 use Rattle.face_load.specs.Answers.{LoadSaid}
-use Rattle.larsavim.specs.Face.{answered, written, left, neededNumbers, rowsNumbers}
-use Rattle.larsavim.specs.Sharing.{heldLeft}
+use Rattle.larsavim.specs.Face.{answered, written, left}
 
 module _ (k n : ℕ) where
   pub answer-short : (x : ℕ) → k < n → 20 ≡ answered k n x
@@ -50,29 +47,6 @@ module _ (out : List ℕ) (n : ℕ) where
       → (number a ≡ answered (length out) n (number b)) × (o ≡ written out n (numbers b))
   full {A} number numbers a b o h e q =
       (answer-full (length out) n (number a) (number b) h (ap number e), out-full o (numbers b) h (q ∙ ap (λ (x : A). sets out 0 (numbers x)) e))
-
--- ---- answers written part by part
-
-pub rows-written : (x : Rows) (t t₁ t₂ : List ℕ) → t₁ ≡ sets t 0 (x .number ∷ x .place ∷ x .line ∷ x .questions ∷ []) → t₂ ≡ sets t₁ 4 (x .patterns ∷ x .trees ∷ x .records ∷ x .values ∷ [])
-    → t₂ ≡ sets t 0 (rowsNumbers x)
-rows-written x t t₁ t₂ e₁ e₂ = e₂ ∙ ap (λ (u : List ℕ). sets u 4 (x .patterns ∷ x .trees ∷ x .records ∷ x .values ∷ [])) e₁
-
-pub needed-written : (x : Needed) (t t₁ t₂ t₃ : List ℕ) → t₁ ≡ sets t 0 (x .number ∷ x .place ∷ x .line ∷ x .questions ∷ []) → t₂ ≡ sets t₁ 4 (x .patterns ∷ x .trees ∷ x .records ∷ x .values ∷ [])
-    → t₃ ≡ sets t₂ 8 (x .work ∷ x .width ∷ []) → t₃ ≡ sets t 0 (neededNumbers x)
-needed-written x t t₁ t₂ t₃ e₁ e₂ e₃ =
-    e₃ ∙ ap (λ (u : List ℕ). sets u 8 (x .work ∷ x .width ∷ [])) (e₂ ∙ ap (λ (u : List ℕ). sets u 4 (x .patterns ∷ x .trees ∷ x .records ∷ x .values ∷ [])) e₁)
-
--- ---- a task's bounds
-
-pub keep-done : (x : Rows) (t t₁ : List ℕ) → x .number ≡ 0 → t₁ ≡ sets t 0 (x .questions ∷ x .patterns ∷ x .trees ∷ x .records ∷ []) → set t₁ 4 (x .values) ≡ heldLeft x t
-unfolding heldLeft
-keep-done x t t₁ z e =
-    ap (λ (u : List ℕ). set u 4 (x .values)) e
-    ∙ sym (ap (λ (b : Bool). cond b (sets t 0 (x .questions ∷ x .patterns ∷ x .trees ∷ x .records ∷ x .values ∷ [])) t) (eq-eqb (x .number) 0 z))
-
-pub keep-not : (x : Rows) (t : List ℕ) → (x .number ≡ 0 → ⊥) → t ≡ heldLeft x t
-unfolding heldLeft
-keep-not x t z = sym (ap (λ (b : Bool). cond b (sets t 0 (x .questions ∷ x .patterns ∷ x .trees ∷ x .records ∷ x .values ∷ [])) t) (ne-eqb (x .number) 0 z))
 
 -- bounds of nobody are nothing
 pub load-alone : (s w : List ℕ) (n : ℕ) (T : Tables) {o : Held} {r : Rows} {T₁ : Tables} → o ≡ nothing → LoadSaid s w n bottom o T r T₁ → LoadSaid s w n bottom nothing T r T₁

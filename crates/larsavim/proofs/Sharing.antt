@@ -12,8 +12,8 @@ use Rattle.load_model.specs.Load.{Tables}
 use Rattle.load_unload.specs.Unloads.{Tabled}
 use Rattle.face_model.specs.declared.Rows.{Rows}
 use Rattle.face_shared.specs.Answers.{heldAt, UnloadSaid}
-use Rattle.larsavim.specs.Face.{rowsNumbers}
-use Rattle.larsavim.specs.Sharing.{heldLeft, LoadShares, TreeShares, UnloadTells}
+use Rattle.face_put.specs.Put.{rowsNumbers, heldLeft}
+use Rattle.larsavim.specs.Sharing.{LoadShares, TreeShares, UnloadTells}
 
 -- a slice that is long enough is not too short
 not-short : {a b c : ℕ} → (a < 8) ⊎ ((b < 5) ⊎ (c < 5)) → 8 ≤ a → 5 ≤ b → 5 ≤ c → ⊥

@@ -10,9 +10,8 @@ use lib.Seq.{sets}
 use Rattle.face_record.specs.declared.Said.{Said}
 use Rattle.face_record.specs.declared.Part.{Part}
 use Rattle.face_record.specs.declared.Pair.{Pair}
-use Rattle.face_model.specs.declared.Needed.{Needed}
-use Rattle.face_model.specs.declared.Rows.{Rows}
 use Rattle.face_model.specs.declared.Ended.{Ended}
+use Rattle.face_put.specs.Put.{neededNumbers, rowsNumbers}
 use Rattle.head_words.specs.Words.{flagWord}
 use Rattle.written.specs.Sharing.{bottom, nothing}
 use Rattle.load_model.specs.Load.{Tables}
@@ -44,13 +43,6 @@ partNumbers x = x .number ∷ x .slice ∷ x .start ∷ x .len ∷ []
 
 abbrev pub pairNumbers : Pair → List ℕ
 pairNumbers x = x .number ∷ x .first ∷ x .second ∷ []
-
-abbrev pub neededNumbers : Needed → List ℕ
-neededNumbers x =
-    x .number ∷ x .place ∷ x .line ∷ x .questions ∷ x .patterns ∷ x .trees ∷ x .records ∷ x .values ∷ x .work ∷ x .width ∷ []
-
-abbrev pub rowsNumbers : Rows → List ℕ
-rowsNumbers x = x .number ∷ x .place ∷ x .line ∷ x .questions ∷ x .patterns ∷ x .trees ∷ x .records ∷ x .values ∷ []
 
 abbrev pub endedNumbers : Ended → List ℕ
 endedNumbers x = x .number ∷ x .pdf ∷ x .asked ∷ []

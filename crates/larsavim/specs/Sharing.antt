@@ -5,7 +5,6 @@ use mathlib.Core.Bool.{Bool, cond}
 use mathlib.Core.List.{List, [], _∷_}
 use mathlib.Core.Logic.{_⊎_}
 use Prim.Native.Nat.{ℕ, _≤_, _<_}
-use lib.Dec.{eqb}
 use lib.ListN.{length}
 use lib.Seq.{sets}
 use Rattle.load_model.specs.Load.{Tables}
@@ -14,11 +13,7 @@ use Rattle.load_unload.specs.Unloads.{Tabled}
 use Rattle.face_model.specs.declared.Rows.{Rows}
 use Rattle.face_shared.specs.Answers.{heldAt, SharedSaid, UnloadSaid}
 use Rattle.face_tree.specs.Answers.{TreeSaid}
-use Rattle.larsavim.specs.Face.{rowsNumbers}
-
--- a task's bounds after a load that answers x
-unfoldable pub heldLeft : Rows → List ℕ → List ℕ
-heldLeft x held = cond (eqb (x .number) 0) (sets held 0 (x .questions ∷ x .patterns ∷ x .trees ∷ x .records ∷ x .values ∷ [])) held
+use Rattle.face_put.specs.Put.{rowsNumbers, heldLeft}
 
 -- larsavim_load_shared: what it returns, the task's bounds, what was lent and `out` after it
 pub data LoadShares (s w : List ℕ) (n d : ℕ) (held other : List ℕ) (T : Tables) (out : List ℕ) (r : ℕ) (held₁ : List ℕ) (T₁ : Tables) (out₁ : List ℕ) : Type 0 where

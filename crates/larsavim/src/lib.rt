@@ -4,11 +4,14 @@ use face_house::house_said;
 use face_jobs::Job;
 use face_jobs::walk_job;
 use face_load::load_said;
-use face_model::Needed;
-use face_model::Rows;
 use face_model::needs_said;
 use face_model::walk_said;
 use face_open::open_words;
+use face_put::keep_nothing;
+use face_put::keep_rows;
+use face_put::put_needed;
+use face_put::put_rows;
+use face_put::put3;
 use face_record::comment_said;
 use face_record::get_said;
 use face_record::pair_said;
@@ -28,17 +31,13 @@ use walk_bare::bare_said;
 use walk_depth::depth_said;
 use walk_leaves::leaves_fit;
 ghost use mathlib.Core.Path.{_≡_};
-ghost use mathlib.Core.List.{[], _∷_};
-ghost use Prim.Native.Nat.{_≤_};
-ghost use lib.ListN.{length};
-ghost use lib.Seq.{sets};
 ghost use Rattle.label_answers.specs.Answering.{Answering};
 ghost use Rattle.face_jobs.specs.Done.{jobsDone};
 ghost use Rattle.load_model.specs.Load.{lent};
-ghost use Rattle.larsavim.specs.Face.{rowsNumbers, neededNumbers, Opens, Comments, Gets, Pairs, Needs, Loads, Walks, Leaves};
+ghost use Rattle.larsavim.specs.Face.{Opens, Comments, Gets, Pairs, Needs, Loads, Walks, Leaves};
 ghost use Rattle.larsavim.specs.Write.{Measures, Writes};
 ghost use Rattle.larsavim.specs.Depths.{DepthTells};
-ghost use Rattle.larsavim.specs.Sharing.{heldLeft, LoadShares, TreeShares, UnloadTells};
+ghost use Rattle.larsavim.specs.Sharing.{LoadShares, TreeShares, UnloadTells};
 ghost use Rattle.larsavim.specs.Accepts.{AcceptTells};
 ghost use Rattle.larsavim.specs.Trails.{TrailerTells, TrailedTells};
 ghost use Rattle.walk_bare.specs.Bare.{BareTells};
@@ -79,76 +78,6 @@ const ACCEPTS_OUT: usize = 3;
 const TRAILER_OUT: usize = 3;
 
 const TRAILED_OUT: usize = 4;
-
-// Three numbers to the front.
-fn put3(out: &mut [u64], a: u64, b: u64, c: u64)
-    requires { ⌜ 3 ≤ length (now out) ⌝ }
-    ensures { λ r. ⌜ now (out .exit) ≡ sets (now (out .entry)) 0 (a ∷ b ∷ c ∷ []) ⌝ }
-{
-    out[0] = a;
-    out[1] = b;
-    out[2] = c;
-}
-
-// Why a load is refused, or its rows, to the front.
-fn put_rows(out: &mut [u64], rows: Rows)
-    requires { ⌜ 8 ≤ length (now out) ⌝ }
-    ensures { λ r. ⌜ now (out .exit) ≡ sets (now (out .entry)) 0 (rowsNumbers rows) ⌝ }
-{
-    put4(out, 0, rows.number, rows.place, rows.line, rows.questions);
-    put4(out, 4, rows.patterns, rows.trees, rows.records, rows.values);
-}
-
-// A task's bounds after a load: its rows where it is done, else as they were.
-fn keep_rows(held: &mut [u64], rows: Rows)
-    requires { ⌜ 5 ≤ length (now held) ⌝ }
-    ensures { λ r. ⌜ now (held .exit) ≡ heldLeft rows (now (held .entry)) ⌝ }
-{
-    if rows.number == 0 {
-        put4(
-            held,
-            0,
-            rows.questions,
-            rows.patterns,
-            rows.trees,
-            rows.records,
-        );
-        held[4] = rows.values;
-    }
-}
-
-// The bounds of a task that holds nothing.
-fn keep_nothing(held: &mut [u64])
-    requires { ⌜ 5 ≤ length (now held) ⌝ }
-    ensures { λ r. ⌜ now (held .exit) ≡ sets (now (held .entry)) 0 (0 ∷ 0 ∷ 0 ∷ 0 ∷ 0 ∷ []) ⌝ }
-{
-    put4(held, 0, 0, 0, 0, 0);
-    held[4] = 0;
-}
-
-// What a model needs, to the front.
-fn put_needed(out: &mut [u64], needed: Needed)
-    requires { ⌜ 10 ≤ length (now out) ⌝ }
-    ensures { λ r. ⌜ now (out .exit) ≡ sets (now (out .entry)) 0 (neededNumbers needed) ⌝ }
-{
-    put4(
-        out,
-        0,
-        needed.number,
-        needed.place,
-        needed.line,
-        needed.questions,
-    );
-    put4(
-        out,
-        4,
-        needed.patterns,
-        needed.trees,
-        needed.records,
-        needed.values,
-    );
-    put2(out, 8, needed.work, needed.width);
-}
 
 // Opens a file, with the record into the words.
 #[no_mangle]

@@ -5,13 +5,8 @@ use mathlib.Core.List.{List, [], _∷_}
 use Prim.Native.Nat.{ℕ, suc, _+_, _≤_, _<_}
 use native.Mathlib.Numerals.{add-one}
 use native.Mathlib.Omega.{arith}
-use borrow.Author.Tests.{ltb-true}
-use lib.Dec.{ltb}
 use lib.ListN.{length}
 use Rattle.written.specs.Said.{QuestionPlace}
-use Rattle.laws.proofs.Every.{first-of}
-use Rattle.table_rows.specs.Rows.{recordRows}
-use Rattle.laws.specs.Steps.{Ending, doneAt, brokenAt}
 use Rattle.error.specs.declared.LinkFault.{LinkFault}
 use Rattle.tree_reference.specs.References.{sameIndex}
 use Rattle.tree_line.specs.Lines.{lineStepAt, linesAt}
@@ -20,7 +15,7 @@ use Rattle.tree_line.specs.declared.LineStep.the-variants as answer
 use Rattle.tree_survey_lines.specs.Counts.{linesCounted}
 use Rattle.tree_survey_lines.specs.declared.LineCount.the-variants as count
 use Rattle.tree_survey_lines.proofs.Counting.{items-next, items-last, items-broken, counted, not-counted}
-use Rattle.link_alone.specs.Alone.{isLeaf, linkIn, judgedLine, onward, ended, judgedLines, singleIn, judgedSingle, judgedEnding, judgedBraces}
+use Rattle.link_alone.specs.Alone.{linkIn, judgedLine, onward, ended, judgedLines, singleIn, judgedSingle, judgedEnding, judgedBraces}
 use Rattle.link_alone.specs.declared.Judged.{Judged}
 use Rattle.link_alone.specs.declared.Judged.the-variants.{Told, Refused}
 use Rattle.link_alone.specs.declared.Single.{Single}
@@ -103,10 +98,3 @@ module _ (s : List ℕ) (qs : List QuestionPlace) (R : List ℕ) (i : ℕ) where
   pub braces-broken : count.Broken ≡ linesCounted 0 0 (linesAt s i) → Told false ≡ judgedBraces s qs R (linesAt s i)
   unfolding judgedBraces
   braces-broken h = sym (ap (judgedEnding s qs R (linesAt s i .items)) (not-counted s i h .1))
-
--- ---- rows
-
--- a leaf is there
-pub leaf-there : (R : List ℕ) (i : ℕ) → isLeaf R i ≡ true → i < recordRows R
-unfolding isLeaf
-leaf-there R i h = ltb-true i (recordRows R) (first-of (ltb i (recordRows R)) _ h)

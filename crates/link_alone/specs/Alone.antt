@@ -1,12 +1,11 @@
 -- What the functions of this crate answer, of the questions and lines that are read of a text and the rows of a table.
 use mathlib.Core.Bool.{Bool, true, false, cond, _&&_}
 use mathlib.Core.List.{List, [], _∷_}
-use Prim.Native.Nat.{ℕ, suc, _-_}
-use lib.Dec.{eqb, ltb}
+use Prim.Native.Nat.{ℕ, suc}
+use lib.Dec.{eqb}
 use lib.ListN.{length}
 use Rattle.written.specs.Said.{QuestionPlace}
 use Rattle.error.specs.declared.LinkFault.the-variants.{NodeRef, QuestionRef, LoneNode}
-use Rattle.laws.specs.Every.{all}
 use Rattle.laws.specs.Steps.{Ending, doneAt, brokenAt, Reading}
 use Rattle.tree_reference.specs.References.{sameIndex}
 use Rattle.tree_reference.specs.declared.TreeIndex.{TreeIndex}
@@ -15,15 +14,16 @@ use Rattle.tree_line.specs.Lines.{linesAt}
 use Rattle.tree_line.specs.declared.Line as code
 use Rattle.tree_body.specs.declared.TreeHead.{TreeHead}
 use Rattle.tree_body.specs.declared.TreeHead.the-variants as head
-use Rattle.table_rows.specs.Rows.{recordRows, recordKind, recordQuestion, recordPdf, recordYes, recordNo}
+use Rattle.table_rows.specs.Rows.{recordRows}
 use Rattle.link_order.specs.Keys.{idKey}
 use Rattle.text_parts.specs.Parts.{partInside}
 use Rattle.link_search.specs.declared.Found.{Found}
 use Rattle.link_search.specs.declared.Found.the-variants.{At, Nothing}
 use Rattle.text_parts.specs.Parts.{natOf}
 use Rattle.link_find.specs.Find.{asked, bearer}
-use Rattle.link_alone.specs.declared.Target.{Target}
-use Rattle.link_alone.specs.declared.Target.the-variants.{Line, Leaf, Nowhere}
+use Rattle.link_fits.specs.Fits.{nowhere, leafOf, rowFits, leavesFrom}
+use Rattle.link_fits.specs.declared.Target.{Target}
+use Rattle.link_fits.specs.declared.Target.the-variants.{Line, Leaf, Nowhere}
 use Rattle.link_alone.specs.declared.LineLink.{LineLink}
 use Rattle.link_alone.specs.declared.LineLink.the-variants as link
 use Rattle.link_alone.specs.declared.Judged.{Judged}
@@ -32,11 +32,6 @@ use Rattle.link_alone.specs.declared.Single.{Single}
 use Rattle.link_alone.specs.declared.Single.the-variants.{One, Several}
 
 -- ---- where references lead
-
-abbrev pub nowhere : Target → Bool
-nowhere (Line k) = false
-nowhere (Leaf n) = false
-nowhere Nowhere = true
 
 abbrev pub toLine : Found → Target
 toLine (At k) = Line k
@@ -59,28 +54,6 @@ linkOf y n f = cond (nowhere y) (link.Fails NodeRef) (cond (nowhere n) (link.Fai
 
 unfoldable pub linkIn : List ℕ → List QuestionPlace → List code.Line → code.Line → LineLink
 linkIn s qs ls l = linkOf (targetIn ls (l .yes)) (targetIn ls (l .no)) (asked s (partInside s (l .start) (l .len)) qs)
-
--- ---- rows
-
--- row i is there, and is (1, a number, 0, 0)
-unfoldable pub isLeaf : List ℕ → ℕ → Bool
-isLeaf R i = ltb i (recordRows R) && (eqb (recordKind R i) 1 && (eqb (recordYes R i) 0 && eqb (recordNo R i) 0))
-
-unfoldable pub leafOf : List ℕ → ℕ → ℕ → Bool
-leafOf R n i = isLeaf R i && eqb (recordPdf R i) n
-
-abbrev pub leadsTo : List ℕ → Target → ℕ → Bool
-leadsTo R (Line k) i = eqb i k
-leadsTo R (Leaf n) i = leafOf R n i
-leadsTo R Nowhere i = false
-
--- row k is there, and is (0, question, yes, no)
-unfoldable pub rowFits : List ℕ → ℕ → ℕ → Target → Target → Bool
-rowFits R k q y n = ltb k (recordRows R) && (eqb (recordKind R k) 0 && (eqb (recordQuestion R k) q && (leadsTo R y (recordYes R k) && leadsTo R n (recordNo R k))))
-
--- every row from n on is a leaf
-unfoldable pub leavesFrom : List ℕ → ℕ → Bool
-leavesFrom R n = all (isLeaf R) n (recordRows R - n)
 
 -- ---- the lines of a tree
 

@@ -5,14 +5,14 @@ use error::LinkFault;
 use link_find::ids_in_order;
 use link_find::last_question;
 use link_find::line_of;
+use link_fits::Target;
+use link_fits::is_leaf_of;
+use link_fits::is_nowhere;
+use link_fits::leaves_from;
+use link_fits::row_fits;
 use link_order::id_key;
 use link_search::Found;
-use table_rows::record_kind;
-use table_rows::record_no;
-use table_rows::record_pdf;
-use table_rows::record_question;
 use table_rows::record_rows;
-use table_rows::record_yes;
 use text_parts::natural;
 use text_parts::part_inside;
 use tree_body::TreeHead;
@@ -32,14 +32,7 @@ ghost use Rattle.tree_question.specs.Questions.{questionsAt};
 ghost use Rattle.tree_line.specs.Lines.{linesAt};
 ghost use Rattle.tree_body.specs.Trees.{headAt};
 ghost use Rattle.link_find.specs.Find.{Lines};
-ghost use Rattle.link_alone.specs.Alone.{nowhere, targetIn, linkIn, isLeaf, leafOf, leadsTo, rowFits, judgedLine, judgedLines, leavesFrom, ended, judgedAlone, singleIn, judgedBraces, judgedHead};
-
-// Where a reference leads: to a line of the tree, to a leaf of a number, or nowhere.
-pub enum Target {
-    Line(u64),
-    Leaf(u64),
-    Nowhere,
-}
+ghost use Rattle.link_alone.specs.Alone.{targetIn, linkIn, judgedLine, judgedLines, ended, judgedAlone, singleIn, judgedBraces, judgedHead};
 
 // A line's question and where its references lead; or what is wrong with it.
 pub enum LineLink {
@@ -55,16 +48,6 @@ pub enum LineLink {
 pub enum Judged {
     Told(bool),
     Refused { fault: LinkFault, line: usize },
-}
-
-pub fn is_nowhere(target: Target) -> bool
-    ensures { λ r. ⌜ r ≡ nowhere target ⌝ }
-{
-    match target {
-        Target::Line(_) => false,
-        Target::Leaf(_) => false,
-        Target::Nowhere => true,
-    }
 }
 
 // Where a reference of one of the n lines from `first` on leads.
@@ -100,62 +83,6 @@ pub fn link_line(s: &[u8], at: usize, first: usize, n: u64, in_order: bool, line
         Found::At(question) => LineLink::Goes { question, yes, no },
         Found::Nothing => LineLink::Fails(LinkFault::QuestionRef),
     }
-}
-
-// Whether row i is there and is a leaf: (1, a number, 0, 0).
-fn is_leaf(records: &[u64], i: u64) -> bool
-    ensures { λ r. ⌜ r ≡ isLeaf (now (records .entry)) i ⌝ }
-{
-    if record_rows(records) <= i {
-        return false;
-    }
-    if record_kind(records, i) != 1 {
-        return false;
-    }
-    if record_yes(records, i) != 0 {
-        return false;
-    }
-    record_no(records, i) == 0
-}
-
-// Whether it is a leaf of a number.
-fn is_leaf_of(records: &[u64], i: u64, number: u64) -> bool
-    ensures { λ r. ⌜ r ≡ leafOf (now (records .entry)) number i ⌝ }
-{
-    if !is_leaf(records, i) {
-        return false;
-    }
-    record_pdf(records, i) == number
-}
-
-// Whether a row is one that a reference may lead to.
-fn leads_to(records: &[u64], target: Target, row: u64) -> bool
-    ensures { λ r. ⌜ r ≡ leadsTo (now (records .entry)) target row ⌝ }
-{
-    match target {
-        Target::Line(line) => row == line,
-        Target::Leaf(number) => is_leaf_of(records, row, number),
-        Target::Nowhere => false,
-    }
-}
-
-// Whether row k is that of a line with this question and these targets.
-fn row_fits(records: &[u64], k: u64, question: u64, yes: Target, no: Target) -> bool
-    ensures { λ r. ⌜ r ≡ rowFits (now (records .entry)) k question yes no ⌝ }
-{
-    if record_rows(records) <= k {
-        return false;
-    }
-    if record_kind(records, k) != 0 {
-        return false;
-    }
-    if record_question(records, k) != question {
-        return false;
-    }
-    if !leads_to(records, yes, record_yes(records, k)) {
-        return false;
-    }
-    leads_to(records, no, record_no(records, k))
 }
 
 // Line k of the tree.
@@ -232,21 +159,6 @@ fn last_judged(judged: Judged, fits: bool) -> Judged
         Judged::Told(fit) => Judged::Told(both(fits, fit)),
         Judged::Refused { fault, line } => Judged::Refused { fault, line },
     }
-}
-
-// Whether every row from n on is a leaf.
-fn leaves_from(records: &[u64], n: u64) -> bool
-    ensures { λ r. ⌜ r ≡ leavesFrom (now (records .entry)) n ⌝ }
-{
-    let rows = record_rows(records);
-    let mut i = n;
-    while i < rows {
-        if !is_leaf(records, i) {
-            return false;
-        }
-        i = i + 1;
-    }
-    true
 }
 
 // A tree that is one reference: with a PDF one leaf, with a node refused.

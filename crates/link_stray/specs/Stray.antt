@@ -7,7 +7,8 @@ use Rattle.tree_line.specs.declared.LineStep.{LineStep}
 use Rattle.tree_line.specs.declared.LineStep.the-variants as step
 use Rattle.link_search.specs.declared.Found.{Found}
 use Rattle.link_search.specs.declared.Found.the-variants.{At, Nothing}
-use Rattle.link_alone.specs.Alone.{nowhere, targetIn}
+use Rattle.link_alone.specs.Alone.{targetIn}
+use Rattle.link_fits.specs.Fits.{nowhere}
 use Rattle.link_stray.specs.declared.Stray.{Stray}
 use Rattle.link_stray.specs.declared.Stray.the-variants.{Astray, Next, Clean}
 

@@ -16,7 +16,8 @@ use Rattle.text_parts.specs.Parts.{partInside}
 use Rattle.link_search.specs.declared.Found.{Found}
 use Rattle.link_search.specs.declared.Found.the-variants.{At, Nothing}
 use Rattle.link_find.specs.Find.{asked}
-use Rattle.link_alone.specs.Alone.{nowhere, targetIn, linkAsked, linkOf, linkIn, judgedLine, onward, ended, judgedLines, judgedAlone, singleIn, judgedSingle, judgedEnding, judgedBraces, judgedHead, leavesFrom}
+use Rattle.link_alone.specs.Alone.{targetIn, linkAsked, linkOf, linkIn, judgedLine, onward, ended, judgedLines, judgedAlone, singleIn, judgedSingle, judgedEnding, judgedBraces, judgedHead}
+use Rattle.link_fits.specs.Fits.{nowhere, leavesFrom}
 use Rattle.link_alone.specs.declared.LineLink.the-variants as link
 use Rattle.link_alone.specs.declared.Judged.{Judged}
 use Rattle.link_alone.specs.declared.Judged.the-variants as judged

@@ -26,7 +26,8 @@ use Rattle.walk.specs.Walking.{walkOf}
 use Rattle.walk_leaves.specs.Checks.{leavesFit}
 use Rattle.face_model.specs.declared.Rows.{Rows}
 use Rattle.face_shared.specs.Answers.{heldAt, sideAt}
-use Rattle.larsavim.specs.Sharing.{heldLeft, LoadShares, UnloadTells}
+use Rattle.larsavim.specs.Sharing.{LoadShares, UnloadTells}
+use Rattle.face_put.specs.Put.{heldLeft}
 use Rattle.shown_apart.specs.Real.{plannedOf, rowsFor}
 use Rattle.shown_apart.proofs.Fills.{words-fill}
 use Rattle.shown_apart.proofs.Kept.{keeps-of}

@@ -54,7 +54,7 @@ use Rattle.load_bounds.specs.Bounds.{needOf}
 use Rattle.load_shared.proofs.Laws.{room-true}
 use Rattle.face_model.specs.Answers.{rowsBy}
 use Rattle.face_load.specs.Answers.{filledBy, filledIn, filledOf}
-use Rattle.larsavim.specs.Face.{rowsNumbers}
+use Rattle.face_put.specs.Put.{rowsNumbers}
 use Rattle.shown_words.proofs.Shaped.{record-back}
 use Rattle.shown_text.proofs.Text.{text-questions, text-patterns}
 use Rattle.shown_load.specs.Stored.{Stored}

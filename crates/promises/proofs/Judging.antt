@@ -31,7 +31,7 @@ use Rattle.load_shared.specs.Beside.{rowsOf, besideOf}
 use Rattle.load_bounds.specs.Bounds.{heldOf}
 use Rattle.face_model.specs.Answers.{rowsBy}
 use Rattle.face_trail.proofs.Above.{above-zero}
-use Rattle.larsavim.specs.Face.{rowsNumbers}
+use Rattle.face_put.specs.Put.{rowsNumbers}
 use Rattle.house_model.specs.Model.{ruleOf}
 use Rattle.house_own.specs.Own.{ruleIn}
 use Rattle.house_step.specs.Steps.{boundsOf}

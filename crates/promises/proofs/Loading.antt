@@ -29,7 +29,8 @@ use Rattle.face_model.specs.Answers as face
 use Rattle.face_model.specs.Answers.{rowsBy}
 use Rattle.face_model.specs.declared.Needed.{Needed}
 use Rattle.face_load.specs.Answers.{Filled, filledBy, filledOf}
-use Rattle.larsavim.specs.Face.{answered, written, left, rowsNumbers, neededNumbers, Loads, Needs}
+use Rattle.larsavim.specs.Face.{answered, written, left, Loads, Needs}
+use Rattle.face_put.specs.Put.{rowsNumbers, neededNumbers}
 use Rattle.shown_words.proofs.Shaped.{record-back}
 use Rattle.shown_models.proofs.Chosen.{whichOf}
 use Rattle.promises.specs.Opening.{recordWords}

@@ -35,8 +35,8 @@ use Rattle.face_model.specs.Answers.{rowsBy}
 use Rattle.face_load.specs.Answers.{Filled, filledBy, untouched}
 use Rattle.face_shared.specs.Answers.{heldAt, sideAt, standing}
 use Rattle.face_tree.specs.Answers.{treeFilledIn, treeFilledOf, treeSharedOf}
-use Rattle.larsavim.specs.Face.{rowsNumbers}
-use Rattle.larsavim.specs.Sharing.{heldLeft, TreeShares}
+use Rattle.face_put.specs.Put.{rowsNumbers, heldLeft}
+use Rattle.larsavim.specs.Sharing.{TreeShares}
 use Rattle.shown_words.proofs.Shaped.{record-back}
 use Rattle.shown_models.proofs.Chosen.{whichOf}
 use Rattle.shown_load.specs.Stored.{Stored}

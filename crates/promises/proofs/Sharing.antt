@@ -21,8 +21,8 @@ use Rattle.face_model.specs.declared.Rows.{Rows}
 use Rattle.face_load.specs.Answers as load
 use Rattle.face_load.specs.Answers.{Filled, filledOf}
 use Rattle.face_shared.specs.Answers.{heldAt, sideAt, standing, sharedOf, unloadedOf}
-use Rattle.larsavim.specs.Face.{rowsNumbers}
-use Rattle.larsavim.specs.Sharing.{heldLeft, LoadShares, UnloadTells}
+use Rattle.face_put.specs.Put.{rowsNumbers, heldLeft}
+use Rattle.larsavim.specs.Sharing.{LoadShares, UnloadTells}
 use Rattle.promises.specs.Opening.{recordWords}
 use Rattle.promises.specs.Sharing.{Standing, BesideEnds, SharedEnds, AfterShared, AfterUnload}
 use Rattle.promises.proofs.Moved.{moved₃, moved₄}

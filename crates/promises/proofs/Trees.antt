@@ -39,7 +39,8 @@ use Rattle.face_load.specs.Answers.{Filled, filledBy, untouched}
 use Rattle.face_shared.specs.Answers.{heldAt, sideAt, standing}
 use Rattle.face_tree.specs.Answers.{treeFilledIn, treeFilledOf, treeSharedOf}
 use Rattle.face_trail.proofs.Above.{above-zero}
-use Rattle.larsavim.specs.Sharing.{heldLeft, TreeShares}
+use Rattle.larsavim.specs.Sharing.{TreeShares}
+use Rattle.face_put.specs.Put.{heldLeft}
 use Rattle.larsavim.specs.Trails.{TrailedTells}
 use Rattle.shown_models.proofs.Chosen.{whichOf}
 use Rattle.shown_load.specs.Stored.{Stored}

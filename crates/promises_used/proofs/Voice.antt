@@ -104,7 +104,8 @@ use Rattle.walk.specs.declared.Walked.{Walked}
 use Rattle.face_model.specs.Answers.{rowsBy, endedBy, endedOf}
 use Rattle.face_model.specs.declared.Ended.{Ended}
 use Rattle.face_load.specs.Answers.{Filled, filledBy}
-use Rattle.larsavim.specs.Face.{answered, written as written-out, left, rowsNumbers, endedNumbers, Opens, Gets, Loads, Walks}
+use Rattle.larsavim.specs.Face.{answered, written as written-out, left, endedNumbers, Opens, Gets, Loads, Walks}
+use Rattle.face_put.specs.Put.{rowsNumbers}
 use Rattle.shown_open.proofs.Opened.{open-says}
 use Rattle.promises.specs.Opening.{recordWords as wordsOf, AfterOpen}
 use Rattle.promises.specs.Walking.{AfterWalk}

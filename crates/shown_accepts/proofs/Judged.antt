@@ -12,7 +12,8 @@ use Rattle.laws.proofs.Every.{both, first-of, second-of}
 use Rattle.tree_line.specs.declared.Line as code
 use Rattle.error.specs.Numbers.{faultNumber}
 use Rattle.error.specs.declared.LinkFault.{LinkFault}
-use Rattle.link_alone.specs.Alone.{linkIn, rowFits, judgedLine, onward, judgedLines}
+use Rattle.link_alone.specs.Alone.{linkIn, judgedLine, onward, judgedLines}
+use Rattle.link_fits.specs.Fits.{rowFits}
 use Rattle.link_alone.specs.declared.LineLink.{LineLink}
 use Rattle.link_alone.specs.declared.Judged.{Judged}
 use Rattle.link_alone.specs.declared.Judged.the-variants.{Told, Refused}

@@ -26,9 +26,10 @@ use Rattle.link_find.specs.Find as find
 use Rattle.error.specs.Numbers.{faultNumber}
 use Rattle.error.specs.declared.LinkFault.{LinkFault}
 use Rattle.error.specs.declared.LinkFault.the-variants.{NodeRef, QuestionRef}
-use Rattle.link_alone.specs.Alone.{nowhere, toLine, targetIn, linkAsked, linkOf, linkIn}
-use Rattle.link_alone.specs.declared.Target.{Target}
-use Rattle.link_alone.specs.declared.Target.the-variants.{Line, Leaf, Nowhere}
+use Rattle.link_alone.specs.Alone.{toLine, targetIn, linkAsked, linkOf, linkIn}
+use Rattle.link_fits.specs.Fits.{nowhere}
+use Rattle.link_fits.specs.declared.Target.{Target}
+use Rattle.link_fits.specs.declared.Target.the-variants.{Line, Leaf, Nowhere}
 use Rattle.link_alone.specs.declared.LineLink.{LineLink}
 use Rattle.link_alone.specs.declared.LineLink.the-variants as link
 use Rattle.shown_text.proofs.Words.{name-stands}

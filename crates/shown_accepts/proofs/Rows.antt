@@ -15,9 +15,9 @@ use Rattle.laws.proofs.Every.{both, first-of, second-of}
 use Rattle.table_rows.specs.Rows.{recordRows, recordKind, recordQuestion, recordPdf, recordYes, recordNo, recordRow, recordTable, rowsFrom}
 use Rattle.table_rows.proofs.Stand.{row-of, row-there}
 use Rattle.tree_line.specs.declared.Line as code
-use Rattle.link_alone.specs.Alone.{isLeaf, leafOf, leadsTo, rowFits}
-use Rattle.link_alone.specs.declared.Target.{Target}
-use Rattle.link_alone.specs.declared.Target.the-variants.{Line, Leaf, Nowhere}
+use Rattle.link_fits.specs.Fits.{isLeaf, leafOf, leadsTo, rowFits}
+use Rattle.link_fits.specs.declared.Target.{Target}
+use Rattle.link_fits.specs.declared.Target.the-variants.{Line, Leaf, Nowhere}
 use Rattle.shown_accepts.proofs.Lines.{LineSaid, QuestionSaid, Leads, to-line, to-leaf, to-none}
 
 module _ (R : List ℕ) where

@@ -29,7 +29,8 @@ use Rattle.tree_body.specs.Trees.{bodyOf}
 use Rattle.error.specs.Numbers.{faultNumber}
 use Rattle.error.specs.declared.LinkFault.{LinkFault}
 use Rattle.error.specs.declared.LinkFault.the-variants.{LoneNode}
-use Rattle.link_alone.specs.Alone.{isLeaf, leafOf, leavesFrom, ended, judgedLines, judgedAlone, singleIn, judgedSingle}
+use Rattle.link_alone.specs.Alone.{ended, judgedLines, judgedAlone, singleIn, judgedSingle}
+use Rattle.link_fits.specs.Fits.{isLeaf, leafOf, leavesFrom}
 use Rattle.link_alone.specs.declared.Judged.{Judged}
 use Rattle.link_alone.specs.declared.Judged.the-variants.{Told}
 use Rattle.link_alone.specs.declared.Judged.the-variants as judged

@@ -26,8 +26,8 @@ use Rattle.link_search.specs.declared.Found.{Found}
 use Rattle.link_search.specs.declared.Found.the-variants.{At, Nothing}
 use Rattle.link_find.specs.Find as find
 use Rattle.link_alone.specs.Alone.{toLine, targetIn}
-use Rattle.link_alone.specs.declared.Target.{Target}
-use Rattle.link_alone.specs.declared.Target.the-variants as target
+use Rattle.link_fits.specs.declared.Target.{Target}
+use Rattle.link_fits.specs.declared.Target.the-variants as target
 use Rattle.walk.specs.Walking.{walkFrom, byMet, oneMore}
 use Rattle.walk.specs.Answer as answer
 use Rattle.walk.specs.declared.Met.{Met}

@@ -2,7 +2,7 @@
 use mathlib.Core.Path.{ap, _∙_}
 use lib.Seq.{sets}
 use Rattle.load_model.specs.Load.{lent}
-use Rattle.larsavim.specs.Face.{rowsNumbers}
+use Rattle.face_put.specs.Put.{rowsNumbers}
 use Rattle.larsavim.proofs.Laws.{answer-short, answer-full, out-short, out-full, left-short, left-full, load-alone}
 use borrow.Author.Needs.{needs}
 use Rattle.larsavim.proofs.larsavim_load.Statement.{statement}

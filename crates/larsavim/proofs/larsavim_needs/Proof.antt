@@ -1,5 +1,5 @@
 -- `larsavim::larsavim_needs`: too short, or written.
-use Rattle.larsavim.specs.Face.{neededNumbers}
+use Rattle.face_put.specs.Put.{neededNumbers}
 use Rattle.larsavim.proofs.Laws.{short, full}
 use borrow.Author.Needs.{needs}
 use Rattle.larsavim.proofs.larsavim_needs.Statement.{statement}

@@ -5,7 +5,8 @@ use Prim.Native.Nat.{ℕ}
 use lib.Dec.{eqb}
 use Rattle.laws.proofs.Signed.{back}
 use Rattle.text_parts.specs.Parts.{natOf}
-use Rattle.link_alone.specs.Alone.{leafOf, judgedAlone}
+use Rattle.link_alone.specs.Alone.{judgedAlone}
+use Rattle.link_fits.specs.Fits.{leafOf}
 use Rattle.link_alone.specs.declared.Judged.the-variants.{Told}
 use borrow.Author.Needs.{needs}
 use Rattle.link_alone.proofs.judge_alone.Statement.{statement}

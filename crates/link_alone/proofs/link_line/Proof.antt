@@ -10,8 +10,9 @@ use Rattle.text_parts.specs.Parts.{partInside}
 use Rattle.link_search.specs.declared.Found.{Found}
 use Rattle.link_search.specs.declared.Found.the-variants.{At, Nothing}
 use Rattle.link_find.specs.Find.{asked}
-use Rattle.link_alone.specs.Alone.{nowhere, targetIn, linkAsked, linkOf, linkIn}
-use Rattle.link_alone.specs.declared.Target.{Target}
+use Rattle.link_alone.specs.Alone.{targetIn, linkAsked, linkOf, linkIn}
+use Rattle.link_fits.specs.Fits.{nowhere}
+use Rattle.link_fits.specs.declared.Target.{Target}
 use Rattle.link_alone.specs.declared.LineLink.{LineLink}
 use Rattle.link_alone.specs.declared.LineLink.the-variants as link
 use borrow.Author.Needs.{needs}

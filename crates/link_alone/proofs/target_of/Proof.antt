@@ -7,7 +7,7 @@ use Rattle.link_order.specs.Keys.{idKey}
 use Rattle.text_parts.specs.Parts.{natOf}
 use Rattle.link_find.specs.Find.{bearer}
 use Rattle.link_alone.specs.Alone.{toLine, targetIn}
-use Rattle.link_alone.specs.declared.Target.the-variants.{Leaf}
+use Rattle.link_fits.specs.declared.Target.the-variants.{Leaf}
 use borrow.Author.Needs.{needs}
 use Rattle.link_alone.proofs.target_of.Statement.{statement}
 use Rattle.link_alone.proofs.target_of.Tie as tie

@@ -1,8 +1,8 @@
--- `larsavim::keep_rows`: the rows, or as they were.
-use Rattle.larsavim.proofs.Laws.{keep-done, keep-not}
+-- `face_put::keep_rows`: the rows, or as they were.
+use Rattle.face_put.proofs.Laws.{keep-done, keep-not}
 use borrow.Author.Needs.{needs}
-use Rattle.larsavim.proofs.keep_rows.Statement.{statement}
-use Rattle.larsavim.proofs.keep_rows.Tie as tie
+use Rattle.face_put.proofs.keep_rows.Statement.{statement}
+use Rattle.face_put.proofs.keep_rows.Tie as tie
 
 put4-requires : tie.Need-put4-requires
 put4-requires c κs = search needs

@@ -1,11 +1,11 @@
--- `larsavim::keep_nothing`: number by number.
+-- `face_put::keep_nothing`: number by number.
 use mathlib.Core.Path.{ap}
 use mathlib.Core.List.{List}
 use Prim.Native.Nat.{ℕ}
 use lib.ListN.{set}
 use borrow.Author.Needs.{needs}
-use Rattle.larsavim.proofs.keep_nothing.Statement.{statement}
-use Rattle.larsavim.proofs.keep_nothing.Tie as tie
+use Rattle.face_put.proofs.keep_nothing.Statement.{statement}
+use Rattle.face_put.proofs.keep_nothing.Tie as tie
 
 put4-requires : tie.Need-put4-requires
 put4-requires c κs = search needs

@@ -1,8 +1,8 @@
--- `larsavim::put_needed`: part by part.
-use Rattle.larsavim.proofs.Laws.{needed-written}
+-- `face_put::put_needed`: part by part.
+use Rattle.face_put.proofs.Laws.{needed-written}
 use borrow.Author.Needs.{needs}
-use Rattle.larsavim.proofs.put_needed.Statement.{statement}
-use Rattle.larsavim.proofs.put_needed.Tie as tie
+use Rattle.face_put.proofs.put_needed.Statement.{statement}
+use Rattle.face_put.proofs.put_needed.Tie as tie
 
 put4-requires : tie.Need-put4-requires
 put4-requires c κs = search needs

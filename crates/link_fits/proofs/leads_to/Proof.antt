@@ -1,11 +1,11 @@
--- `link_alone::leads_to`: by the target.
+-- `link_fits::leads_to`: by the target.
 use mathlib.Core.Path.{_≡_, sym, ap, _∙_}
 use mathlib.Core.Bool.{Bool}
-use Rattle.link_alone.specs.Alone.{leadsTo}
-use Rattle.link_alone.specs.declared.Target.{Target}
+use Rattle.link_fits.specs.Fits.{leadsTo}
+use Rattle.link_fits.specs.declared.Target.{Target}
 use borrow.Author.Needs.{needs}
-use Rattle.link_alone.proofs.leads_to.Statement.{statement}
-use Rattle.link_alone.proofs.leads_to.Tie as tie
+use Rattle.link_fits.proofs.leads_to.Statement.{statement}
+use Rattle.link_fits.proofs.leads_to.Tie as tie
 
 enum-known-target : tie.Need-enum-known-target
 enum-known-target c = search needs

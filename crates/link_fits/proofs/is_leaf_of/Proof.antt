@@ -1,4 +1,4 @@
--- `link_alone::is_leaf_of`: a leaf, and its number.
+-- `link_fits::is_leaf_of`: a leaf, and its number.
 use mathlib.Core.Path.{_≡_, sym, ap, _∙_}
 use native.Mathlib.Omega.{arith}
 use borrow.Author.Tests.{not-true, not-false, ltb-true}
@@ -6,11 +6,11 @@ use lib.Dec.{eqb, ltb}
 use Prim.Native.Nat.{ℕ}
 use Rattle.laws.proofs.Every.{not-first, then-second, first-of}
 use Rattle.table_rows.specs.Rows.{recordRows}
-use Rattle.link_alone.specs.Alone.{isLeaf, leafOf}
-use Rattle.link_alone.proofs.Judging.{leaf-there}
+use Rattle.link_fits.specs.Fits.{isLeaf, leafOf}
+use Rattle.link_fits.proofs.Rows.{leaf-there}
 use borrow.Author.Needs.{needs}
-use Rattle.link_alone.proofs.is_leaf_of.Statement.{statement}
-use Rattle.link_alone.proofs.is_leaf_of.Tie as tie
+use Rattle.link_fits.proofs.is_leaf_of.Statement.{statement}
+use Rattle.link_fits.proofs.is_leaf_of.Tie as tie
 
 is-leaf-requires : tie.Need-is-leaf-requires
 is-leaf-requires c κs = search needs

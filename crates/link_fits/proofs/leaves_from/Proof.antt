@@ -1,14 +1,14 @@
--- `link_alone::leaves_from`: the rest is tested as all are.
+-- `link_fits::leaves_from`: the rest is tested as all are.
 use mathlib.Core.Path.{_≡_, sym, ap, _∙_}
 use Prim.Native.Nat.{_-_, _≤_}
 use native.Mathlib.Omega.{arith}
 use borrow.Author.Tests.{not-true, not-false}
 use Rattle.laws.proofs.Every.{Going, going-none, going-on, going-off, going-end}
 use Rattle.table_rows.specs.Rows.{recordRows}
-use Rattle.link_alone.specs.Alone.{isLeaf, leavesFrom}
+use Rattle.link_fits.specs.Fits.{isLeaf, leavesFrom}
 use borrow.Author.Needs.{needs}
-use Rattle.link_alone.proofs.leaves_from.Statement.{statement}
-use Rattle.link_alone.proofs.leaves_from.Tie as tie
+use Rattle.link_fits.proofs.leaves_from.Statement.{statement}
+use Rattle.link_fits.proofs.leaves_from.Tie as tie
 
 abbrev Inv-loop : tie.InvT-loop
 Inv-loop records n rows₀ i₀ i = Going (isLeaf records) n (recordRows records) i

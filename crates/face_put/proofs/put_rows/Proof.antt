@@ -1,8 +1,8 @@
--- `larsavim::put_rows`: part by part.
-use Rattle.larsavim.proofs.Laws.{rows-written}
+-- `face_put::put_rows`: part by part.
+use Rattle.face_put.proofs.Laws.{rows-written}
 use borrow.Author.Needs.{needs}
-use Rattle.larsavim.proofs.put_rows.Statement.{statement}
-use Rattle.larsavim.proofs.put_rows.Tie as tie
+use Rattle.face_put.proofs.put_rows.Statement.{statement}
+use Rattle.face_put.proofs.put_rows.Tie as tie
 
 put4-requires : tie.Need-put4-requires
 put4-requires c κs = search needs

@@ -1,9 +1,9 @@
--- `larsavim::put3`: number by number.
+-- `face_put::put3`: number by number.
 use native.Mathlib.Omega.{arith}
 use lib.ListN.{length-set}
 use borrow.Author.Needs.{needs}
-use Rattle.larsavim.proofs.put3.Statement.{statement}
-use Rattle.larsavim.proofs.put3.Tie as tie
+use Rattle.face_put.proofs.put3.Statement.{statement}
+use Rattle.face_put.proofs.put3.Tie as tie
 
 slice-write-out : tie.Need-slice-write-out
 slice-write-out c = search needs

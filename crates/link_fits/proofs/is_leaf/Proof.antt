@@ -1,4 +1,4 @@
--- `link_alone::is_leaf`: the four tests, one after the other.
+-- `link_fits::is_leaf`: the four tests, one after the other.
 use mathlib.Core.Path.{_≡_, sym, ap, _∙_}
 use mathlib.Core.Bool.{Bool}
 use native.Mathlib.Omega.{arith}
@@ -7,10 +7,10 @@ use lib.Dec.{eqb}
 use Prim.Native.Nat.{ℕ}
 use Rattle.laws.proofs.Every.{not-first, then-second}
 use Rattle.table_rows.specs.Rows.{recordRows, recordKind, recordYes, recordNo}
-use Rattle.link_alone.specs.Alone.{isLeaf}
+use Rattle.link_fits.specs.Fits.{isLeaf}
 use borrow.Author.Needs.{needs}
-use Rattle.link_alone.proofs.is_leaf.Statement.{statement}
-use Rattle.link_alone.proofs.is_leaf.Tie as tie
+use Rattle.link_fits.proofs.is_leaf.Statement.{statement}
+use Rattle.link_fits.proofs.is_leaf.Tie as tie
 
 record-rows-requires : tie.Need-record-rows-requires
 record-rows-requires c κs = search needs
