@@ -2,8 +2,8 @@
 use mathlib.Core.Bool.{Bool, cond, _&&_}
 use mathlib.Core.List.{List, [], _∷_, _++_}
 use Prim.Native.Nat.{ℕ, _+_, _-_, _*_}
-use lib.Dec.{leb, ltb, eqb}
-use lib.ListN.{length, take}
+use lib.Dec.{ltb, eqb}
+use lib.ListN.{length}
 use lib.Seq.{sets}
 use Rattle.written.specs.Blocks.{littleEndian}
 use Rattle.written.specs.Trailer.{sum32, unsummed}
@@ -19,6 +19,7 @@ use Rattle.trail_voice.specs.declared.VoiceTrees.{VoiceTrees}
 use Rattle.trail_voice.specs.declared.VoiceTrees.the-variants.{Trees, Refused}
 use Rattle.face_open.specs.Answers.{openSaid, openWords}
 use Rattle.face_record.specs.declared.Said.{Said}
+use Rattle.trail_last.specs.Last.{hasRoom, summedOf}
 use Rattle.face_trail.specs.declared.Written.{Written}
 use Rattle.face_trail.specs.declared.Found.{Found}
 
@@ -26,10 +27,6 @@ use Rattle.face_trail.specs.declared.Found.{Found}
 
 abbrev pub wrote : ℕ → ℕ → ℕ → Written
 wrote n p b = record { number = n; place = p; bytes = b }
-
--- so many bytes fit the buffer, and behind the file its limit
-unfoldable pub hasRoom : ℕ → ℕ → ℕ → Bool
-hasRoom bytes buffer file = leb bytes buffer && leb (file + bytes) 16777216
 
 -- the rows of all models
 abbrev pub allRows : List ℕ → Header → List ℕ
@@ -68,10 +65,6 @@ trailerLeft s w t = cond (eqb (openSaid s (length w) .number) 0) (writtenLeft s 
 
 abbrev pub found : ℕ → ℕ → ℕ → ℕ → Found
 found n p r b = record { number = n; place = p; rows = r; begin = b }
-
--- the last four bytes are the sum of every earlier one
-unfoldable pub summedOf : List ℕ → Bool
-summedOf s = eqb (wordAt s (length s - 4)) (sum32 (take (length s - 4) s))
 
 -- the rows of a voice of n trees end where the last three numbers begin, and are the text's
 unfoldable pub rowsStand : List ℕ → Header → ℕ → Bool

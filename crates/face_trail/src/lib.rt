@@ -2,28 +2,24 @@
 // Both open the file themselves, with the record into the words as `larsavim_open` has it. Any file, any words, any buffer.
 use error::Refusal;
 use face_open::open_words;
-use head_words::FILE_LIMIT;
 use load_plan::data_of;
 use pdf_blocks::word;
-use trail_bytes::put_words;
-use trail_bytes::sum_on;
+use trail_last::has_room;
+use trail_last::put_last;
+use trail_last::summed;
 use trail_voice::VoiceTrees;
 use trail_voice::count_trees;
 use trail_voice::put_voice;
 use trail_voice::same_voice;
 ghost use mathlib.Core.Path.{_≡_};
-ghost use mathlib.Core.List.{[], _∷_, _++_};
 ghost use Prim.Native.Nat.{_+_, _-_, _*_, _≤_};
-ghost use lib.ListN.{length, take};
-ghost use lib.Seq.{sets};
-ghost use Rattle.written.specs.Blocks.{littleEndian};
-ghost use Rattle.written.specs.Trailer.{sum32};
+ghost use lib.ListN.{length};
 ghost use Rattle.head_words.specs.Words.{headerAt};
 ghost use Rattle.load_voice.specs.Voice.{modelsOf};
 ghost use Rattle.trail_voice.specs.Voice.{voiceTrees};
 ghost use Rattle.trail_voice.specs.declared.VoiceTrees.the-variants.{Trees};
 ghost use Rattle.face_open.specs.Answers.{openWords};
-ghost use Rattle.face_trail.specs.Answers.{hasRoom, writtenOf, writtenLeft, trailerSaid, trailerLeft, summedOf, rowsFound, foundOf, trailedSaid};
+ghost use Rattle.face_trail.specs.Answers.{writtenOf, writtenLeft, trailerSaid, trailerLeft, rowsFound, foundOf, trailedSaid};
 
 // The bytes of a row, and of the three numbers at the very end.
 const ROW: usize = 12;
@@ -45,31 +41,6 @@ pub struct Found {
     pub place: u64,
     pub rows: u64,
     pub begin: u64,
-}
-
-// Whether a trailer of so many bytes fits the buffer, and the file with it its limit.
-fn has_room(bytes: usize, buffer: usize, file: usize) -> bool
-    ensures { λ r. ⌜ r ≡ hasRoom bytes buffer file ⌝ }
-{
-    if buffer < bytes {
-        return false;
-    }
-    if FILE_LIMIT < file {
-        return false;
-    }
-    bytes <= FILE_LIMIT - file
-}
-
-// The three numbers behind n rows: their count, where they begin, and the sum of every earlier byte.
-fn put_last(file: &[u8], trailer: &mut [u8], n: usize)
-    requires { ⌜ 12 * n + 12 ≤ length (now trailer) ⌝ }
-    ensures { λ r. ⌜ now (trailer .exit) ≡ sets (now (trailer .entry)) (12 * n) (littleEndian (n ∷ length (now (file .entry)) ∷ sum32 (now (file .entry) ++ (take (12 * n) (now (trailer .entry)) ++ littleEndian (n ∷ length (now (file .entry)) ∷ []))) ∷ [])) ⌝ }
-{
-    let at = ROW * n;
-    let begin = file.len() as u64;
-    put_words(trailer, at, n as u64, begin, 0);
-    let sum = sum_on(sum_on(0, file, file.len()), trailer, at + 8);
-    put_words(trailer, at, n as u64, begin, sum as u64);
 }
 
 // The trailer of a file that opened.
@@ -116,15 +87,6 @@ pub fn trailer_said(file: &[u8], words: &mut [u64], trailer: &mut [u8]) -> Writt
         };
     }
     write_opened(file, words, trailer)
-}
-
-// Whether the last four bytes are the sum of every earlier one.
-fn summed(file: &[u8]) -> bool
-    requires { ⌜ 4 ≤ length (now file) ⌝ }
-    ensures { λ r. ⌜ r ≡ summedOf (now (file .entry)) ⌝ }
-{
-    let end = file.len() - 4;
-    word(file, end) == sum_on(0, file, end)
 }
 
 fn not_found(number: u64, place: u64) -> Found

@@ -1,7 +1,7 @@
 // The first line of a tree of which a reference leads nowhere, by reading the tree (01, 'Linking and tables'; 02, Wish 12).
 // Every function takes any bytes and any place, also one past the end. A place is an index into the slice.
-use link_fits::is_nowhere;
 use link_alone::target_of;
+use link_fits::is_nowhere;
 use link_search::Found;
 use tree_line::Line;
 use tree_line::LineStep;

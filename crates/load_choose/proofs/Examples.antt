@@ -14,7 +14,8 @@ use Rattle.head_record.specs.declared.Header.{Header}
 use Rattle.head_record.specs.Lists.{filled}
 use Rattle.head_record_fits.specs.Fits.{each, counted, spanFits, globalFits, streamFits, positionFits, recordFits}
 use Rattle.link_search.specs.Found.{lastBelow}
-use Rattle.load_choose.specs.Chosen.{withinOf, modelOf, streamModel, gvModel, named, numbered, chosenOf}
+use Rattle.load_choose.specs.Chosen.{modelOf, streamModel, gvModel, named, numbered, chosenOf}
+use Rattle.load_range.specs.Ranges.{withinOf}
 use Rattle.load_choose.specs.declared.Chosen.the-variants.{Model, Refused}
 use Rattle.load_choose.specs.declared.Which.the-variants.{Duration, Stream, Gv}
 use Rattle.load_choose.specs.declared.Bounds.the-variants.{Inside, Outside}

@@ -3,7 +3,7 @@
 use mathlib.Core.Bool.{Bool, true, false, cond, _&&_}
 use mathlib.Core.List.{List}
 use Prim.Native.Nat.{ℕ, _+_, _*_, _≤_, _<_}
-use lib.Dec.{ltb, leb}
+use lib.Dec.{ltb}
 use lib.ListN.{length, getD}
 use Rattle.written.specs.Bytes.{same}
 use Rattle.error.specs.declared.Refusal.the-variants as refusal
@@ -21,13 +21,8 @@ use Rattle.load_choose.specs.declared.Which.{Which}
 use Rattle.load_choose.specs.declared.Which.the-variants.{Duration, Stream, Gv}
 use Rattle.load_choose.specs.declared.Chosen.{Chosen}
 use Rattle.load_choose.specs.declared.Chosen.the-variants.{Model, Refused}
-use Rattle.load_choose.specs.declared.Bounds.{Bounds}
-use Rattle.load_choose.specs.declared.Bounds.the-variants.{Inside, Outside}
 
 -- ---- a range, whose end belongs to it, in data of n bytes
-
-unfoldable pub withinOf : ℕ → ℕ → ℕ → Bounds
-withinOf a b n = cond (leb a (b + 1) && leb (b + 1) n) (Inside a (b + 1)) Outside
 
 -- ---- a model of a width
 

@@ -25,6 +25,8 @@ use head_words::USE_GV;
 use head_words::VECTOR_LENGTH;
 use head_words_fit::record_fits;
 use link_search::Found;
+use load_range::WIDTH_LIMIT;
+use load_range::product;
 use text_parts::Span;
 use text_parts::same_part;
 ghost use mathlib.Core.Path.{_≡_};
@@ -36,7 +38,7 @@ ghost use Rattle.text_parts.specs.Parts.{bytesOf};
 ghost use Rattle.head_record_fits.specs.Fits.{recordFits};
 ghost use Rattle.head_words.specs.Words.{wordAt, spanAt, rangeAt, streamAt, positionAt, headerAt};
 ghost use Rattle.link_search.specs.Found.{lastBelow};
-ghost use Rattle.load_choose.specs.Chosen.{withinOf, bit, modelOf, streamBy, usable, gvBy, madeBy, positionNamed, streamNamed, numbered, chosenBy, chosenOf, textChosen, usesGv, NamesIn};
+ghost use Rattle.load_choose.specs.Chosen.{bit, modelOf, streamBy, usable, gvBy, madeBy, positionNamed, streamNamed, numbered, chosenBy, chosenOf, textChosen, usesGv, NamesIn};
 ghost use Rattle.load_choose.specs.Entries.{typeName};
 
 // The model asked for; a stream by its number in STREAM_TYPE.
@@ -56,57 +58,6 @@ pub enum Chosen {
         width: u64,
     },
     Refused(Refusal),
-}
-
-// Bytes of the data from `start` up to `end`.
-pub enum Bounds {
-    Inside { start: usize, end: usize },
-    Outside,
-}
-
-// A range, whose end belongs to it, in data of `len` bytes (16).
-pub fn within(from: u64, to: u64, len: usize) -> Bounds
-    ensures { λ r. ⌜ r ≡ withinOf from to len ⌝ }
-{
-    if len as u64 <= to {
-        return Bounds::Outside;
-    }
-    let end = to + 1;
-    if end < from {
-        return Bounds::Outside;
-    }
-    Bounds::Inside {
-        start: from as usize,
-        end: end as usize,
-    }
-}
-
-// The greatest width of an entry (01, 'Limits').
-const WIDTH_LIMIT: u64 = 4096;
-
-const TOO_WIDE: u64 = 4097;
-
-// The product, or one more than the limit where it is greater.
-fn product(a: u64, b: u64) -> u64
-    ensures { λ r. ⌜ r ≡ min (a * b) 4097 ⌝ }
-{
-    if a == 0 {
-        return 0;
-    }
-    if b == 0 {
-        return 0;
-    }
-    if WIDTH_LIMIT < a {
-        return TOO_WIDE;
-    }
-    if WIDTH_LIMIT < b {
-        return TOO_WIDE;
-    }
-    let p = a * b;
-    if WIDTH_LIMIT < p {
-        return TOO_WIDE;
-    }
-    p
 }
 
 // The model of width 2 × a × b, and one more for MSD, whose ranges stand at two places of the words.

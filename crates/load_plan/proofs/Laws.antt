@@ -28,12 +28,13 @@ use Rattle.head_record.specs.declared.Header.{Header}
 use Rattle.pdf_blocks.specs.Values.{blockAt}
 use Rattle.pdf_blocks.specs.declared.Block.{Block}
 use Rattle.pdf_blocks.specs.declared.Block.the-variants as block
-use Rattle.load_choose.specs.Chosen.{withinOf, chosenOf}
+use Rattle.load_choose.specs.Chosen.{chosenOf}
+use Rattle.load_range.specs.Ranges.{withinOf}
 use Rattle.load_choose.specs.declared.Which.{Which}
 use Rattle.load_choose.specs.declared.Chosen.{Chosen}
 use Rattle.load_choose.specs.declared.Chosen.the-variants as chosen
-use Rattle.load_choose.specs.declared.Bounds.{Bounds}
-use Rattle.load_choose.specs.declared.Bounds.the-variants as bounds
+use Rattle.load_range.specs.declared.Bounds.{Bounds}
+use Rattle.load_range.specs.declared.Bounds.the-variants as bounds
 use Rattle.load_plan.specs.declared.Plan.{Plan}
 use Rattle.load_plan.specs.declared.Planned.{Planned}
 use Rattle.load_plan.specs.declared.Planned.the-variants.{Model, Refused}

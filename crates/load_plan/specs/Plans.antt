@@ -15,12 +15,13 @@ use Rattle.tree_survey.specs.declared.Survey.the-variants as survey
 use Rattle.pdf_blocks.specs.Values.{blockAt}
 use Rattle.pdf_blocks.specs.declared.Block.{Block}
 use Rattle.pdf_blocks.specs.declared.Block.the-variants as block
-use Rattle.load_choose.specs.Chosen.{withinOf, chosenOf}
+use Rattle.load_choose.specs.Chosen.{chosenOf}
+use Rattle.load_range.specs.Ranges.{withinOf}
 use Rattle.load_choose.specs.declared.Which.{Which}
 use Rattle.load_choose.specs.declared.Chosen.{Chosen}
 use Rattle.load_choose.specs.declared.Chosen.the-variants as chosen
-use Rattle.load_choose.specs.declared.Bounds.{Bounds}
-use Rattle.load_choose.specs.declared.Bounds.the-variants as bounds
+use Rattle.load_range.specs.declared.Bounds.{Bounds}
+use Rattle.load_range.specs.declared.Bounds.the-variants as bounds
 use Rattle.load_plan.specs.declared.Text.{Text}
 use Rattle.load_plan.specs.declared.Text.the-variants as text
 use Rattle.load_plan.specs.declared.Plan.{Plan}

@@ -3,11 +3,11 @@
 use error::Refusal;
 use head_words::DATA_LEN;
 use head_words::DATA_START;
-use load_choose::Bounds;
 use load_choose::Chosen;
 use load_choose::Which;
 use load_choose::choose;
-use load_choose::within;
+use load_range::Bounds;
+use load_range::within;
 use pdf_blocks::Block;
 use pdf_blocks::check_block;
 use text_parts::part_of;

@@ -2,15 +2,15 @@
 // 17, 18. Nothing lent is written.
 use error::Refusal;
 use head_words::STREAM_TYPE_COUNT;
-use load_choose::Bounds;
 use load_choose::Chosen;
 use load_choose::Which;
 use load_choose::choose_text;
 use load_choose::uses_gv;
-use load_choose::within;
 use load_plan::Text;
 use load_plan::data_of;
 use load_plan::read_text;
+use load_range::Bounds;
+use load_range::within;
 use text_parts::up_to;
 ghost use mathlib.Core.Path.{_≡_};
 ghost use mathlib.Core.Bool.{true};

@@ -22,12 +22,13 @@ use Rattle.pdf_blocks.specs.Values.{wordsAt, valuesAt, blockAt}
 use Rattle.pdf_blocks.specs.declared.Block.{Block}
 use Rattle.pdf_blocks.specs.declared.Block.the-variants as fitting
 use Rattle.pdf_blocks.proofs.Joined.{Small, fits-block}
-use Rattle.load_choose.specs.Chosen.{withinOf, chosenOf}
+use Rattle.load_choose.specs.Chosen.{chosenOf}
+use Rattle.load_range.specs.Ranges.{withinOf}
 use Rattle.load_choose.specs.Entries.{Arrays}
 use Rattle.load_choose.specs.declared.Chosen.{Chosen}
 use Rattle.load_choose.specs.declared.Chosen.the-variants as chosen
-use Rattle.load_choose.specs.declared.Bounds.{Bounds}
-use Rattle.load_choose.specs.declared.Bounds.the-variants as bounds
+use Rattle.load_range.specs.declared.Bounds.{Bounds}
+use Rattle.load_range.specs.declared.Bounds.the-variants as bounds
 use Rattle.load_choose.proofs.Joined.{chosen-so}
 use Rattle.load_plan.specs.Plans as plans
 use Rattle.load_plan.specs.Plans.{textOf, withEntries, entriesFor, entriesOf, planFor, blockIn, blockOf, planIn, planOf, plannedFor, planned}

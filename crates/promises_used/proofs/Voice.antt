@@ -73,7 +73,8 @@ use Rattle.link_targets.specs.Targets.{targetOf, orderFrom}
 use Rattle.link_rows.specs.Rows.{leafRows, lineRows}
 use Rattle.link_tree.specs.Linked.{leavesOf, recordRows, linkOutcome, linkedRows}
 use Rattle.link_tree.specs.Steps.{stepQuestion, outcome, goals}
-use Rattle.load_choose.specs.Chosen.{withinOf, modelOf, streamModel, gvModel, named as named-load-choose-chosen, numbered, chosenOf}
+use Rattle.load_choose.specs.Chosen.{modelOf, streamModel, gvModel, named as named-load-choose-chosen, numbered, chosenOf}
+use Rattle.load_range.specs.Ranges.{withinOf}
 use Rattle.load_plan.specs.Plans.{textOf, entriesOf, planOf, planned}
 use Rattle.load_questions.specs.Words.{spanWords, patternWords, questionWords, rowAt as rowAt-load-questions-words}
 use Rattle.load_lines.specs.Words.{askedAt, lineWords}

@@ -35,7 +35,8 @@ use Rattle.link_targets.specs.Targets.{targetOf, orderFrom}
 use Rattle.link_rows.specs.Rows.{leafRows, lineRows}
 use Rattle.link_tree.specs.Linked.{leavesOf, recordRows, linkOutcome, linkedRows}
 use Rattle.link_tree.specs.Steps.{stepQuestion, outcome, goals}
-use Rattle.load_choose.specs.Chosen.{withinOf, modelOf, streamModel, gvModel, named, numbered, chosenOf}
+use Rattle.load_choose.specs.Chosen.{modelOf, streamModel, gvModel, named, numbered, chosenOf}
+use Rattle.load_range.specs.Ranges.{withinOf}
 use Rattle.tree_question.specs.Questions.{pastQs, startsQuestion, headAt, afterPattern, patternStepAt, itemAt, afterQuestion, patternsAt, questionStepAt, questionsAt}
 use Rattle.tree_survey_questions.specs.Counts.{patternsCounted, questionsCounted}
 use Rattle.text_spaces.specs.Spaces.{nameOf, nameAt as nameAt-base-spaces, pastByte, newlineAt, partingAt, linePartingAt, closeAt}

@@ -30,13 +30,14 @@ use Rattle.tree_question.specs.Questions.{questionsAt}
 use Rattle.pdf_blocks.specs.Values.{blockAt}
 use Rattle.pdf_blocks.specs.declared.Block.{Block}
 use Rattle.pdf_blocks.specs.declared.Block.the-variants as block
-use Rattle.load_choose.specs.Chosen.{withinOf, modelOf, streamModel, gvModel, positionNamed, streamNamed, withPosition, withStream, named, numbered, asked, chosenOf}
+use Rattle.load_choose.specs.Chosen.{modelOf, streamModel, gvModel, positionNamed, streamNamed, withPosition, withStream, named, numbered, asked, chosenOf}
+use Rattle.load_range.specs.Ranges.{withinOf}
 use Rattle.load_choose.specs.declared.Which.{Which}
 use Rattle.load_choose.specs.declared.Which.the-variants.{Duration, Stream, Gv}
 use Rattle.load_choose.specs.declared.Chosen.{Chosen}
 use Rattle.load_choose.specs.declared.Chosen.the-variants as chosen
-use Rattle.load_choose.specs.declared.Bounds.{Bounds}
-use Rattle.load_choose.specs.declared.Bounds.the-variants as bounds
+use Rattle.load_range.specs.declared.Bounds.{Bounds}
+use Rattle.load_range.specs.declared.Bounds.the-variants as bounds
 use Rattle.load_trees.specs.declared.Linked.{Linked}
 use Rattle.load_trees.specs.declared.Linked.the-variants as linked
 use Rattle.load_text.specs.Text.{endAt}

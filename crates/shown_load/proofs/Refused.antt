@@ -29,13 +29,14 @@ use Rattle.pdf_blocks.specs.Values.{wordsAt, blockAt}
 use Rattle.pdf_blocks.specs.declared.Block.{Block}
 use Rattle.pdf_blocks.specs.declared.Block.the-variants as block
 use Rattle.pdf_blocks.proofs.Joined.{Small, block-read}
-use Rattle.load_choose.specs.Chosen.{withinOf, chosenOf}
+use Rattle.load_choose.specs.Chosen.{chosenOf}
+use Rattle.load_range.specs.Ranges.{withinOf}
 use Rattle.load_choose.specs.Entries.{Arrays, Choice}
 use Rattle.load_choose.specs.declared.Which.{Which}
 use Rattle.load_choose.specs.declared.Chosen.{Chosen}
 use Rattle.load_choose.specs.declared.Chosen.the-variants as chosen
-use Rattle.load_choose.specs.declared.Bounds.{Bounds}
-use Rattle.load_choose.specs.declared.Bounds.the-variants as bounds
+use Rattle.load_range.specs.declared.Bounds.{Bounds}
+use Rattle.load_range.specs.declared.Bounds.the-variants as bounds
 use Rattle.load_choose.proofs.Joined.{chosen-so, chosen-once}
 use Rattle.load_trees.specs.declared.Linked.{Linked}
 use Rattle.load_text.specs.Text.{endAt}

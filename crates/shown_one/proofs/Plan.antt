@@ -29,12 +29,13 @@ use Rattle.pdf_blocks.specs.Values.{wordAt, wordsAt, blockAt}
 use Rattle.pdf_blocks.specs.declared.Block.{Block}
 use Rattle.pdf_blocks.specs.declared.Block.the-variants as block
 use Rattle.link_search.specs.declared.Found.the-variants as found
-use Rattle.load_choose.specs.Chosen.{withinOf, asked, chosenOf}
+use Rattle.load_choose.specs.Chosen.{asked, chosenOf}
+use Rattle.load_range.specs.Ranges.{withinOf}
 use Rattle.load_choose.specs.declared.Which.{Which}
 use Rattle.load_choose.specs.declared.Chosen.{Chosen}
 use Rattle.load_choose.specs.declared.Chosen.the-variants as chosen
-use Rattle.load_choose.specs.declared.Bounds.{Bounds}
-use Rattle.load_choose.specs.declared.Bounds.the-variants as bounds
+use Rattle.load_range.specs.declared.Bounds.{Bounds}
+use Rattle.load_range.specs.declared.Bounds.the-variants as bounds
 use Rattle.load_plan.specs.Plans.{textOf, withEntries, entriesFor, entriesOf, planFor, blockIn, blockOf, planIn, planOf, dataOf, plannedFor, planned}
 use Rattle.load_plan.specs.declared.Text as read
 use Rattle.load_plan.specs.declared.Text.the-variants as text

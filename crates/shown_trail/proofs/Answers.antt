@@ -37,11 +37,12 @@ use Rattle.trail_voice.specs.declared.VoiceTrees.the-variants as trees
 use Rattle.trail_voice.proofs.Laws.{counted}
 use Rattle.face_open.specs.Answers.{openSaidBy, openSaid, openWordsBy, openWords}
 use Rattle.face_record.specs.Answers.{said}
-use Rattle.face_trail.specs.Answers.{wrote, hasRoom, allRows, trailerBytes, writtenBy, writtenOf, leftBy, writtenLeft, trailerBy, trailerSaid, trailerLeft, found, summedOf, rowsStand, rowsFound, foundBy, foundOf, trailedBy, trailedSaid}
+use Rattle.face_trail.specs.Answers.{wrote, allRows, trailerBytes, writtenBy, writtenOf, leftBy, writtenLeft, trailerBy, trailerSaid, trailerLeft, found, rowsStand, rowsFound, foundBy, foundOf, trailedBy, trailedSaid}
+use Rattle.trail_last.specs.Last.{hasRoom, summedOf}
 use Rattle.face_trail.specs.declared.Written.{Written}
 use Rattle.face_trail.specs.declared.Found.{Found}
 use Rattle.face_trail.proofs.Above.{above-zero}
-use Rattle.face_trail.proofs.Laws.{room-fits}
+use Rattle.trail_last.proofs.Laws.{room-fits}
 use Rattle.shown_open.proofs.Opened.{OpenAnswer, open-sound}
 use Rattle.shown_open.proofs.Opened as answer
 use Rattle.shown_words.proofs.Shaped.{record-back}

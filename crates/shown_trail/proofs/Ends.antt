@@ -19,7 +19,8 @@ use Rattle.pdf_blocks.proofs.Joined.{Small, length-words, words-append, words-b
 use Rattle.head_record.specs.declared.Header.{Header}
 use Rattle.trail_bytes.specs.Numbers.{sameWords}
 use Rattle.trail_bytes.proofs.Numbers.{same-are, are-same}
-use Rattle.face_trail.specs.Answers.{allRows, summedOf, rowsStand}
+use Rattle.face_trail.specs.Answers.{allRows, rowsStand}
+use Rattle.trail_last.specs.Last.{summedOf}
 
 both : (a b : Bool) → a && b ≡ true → (a ≡ true) × (b ≡ true)
 both true b e = (refl, e)

@@ -25,11 +25,12 @@ use Rattle.tree_survey.specs.Survey.{surveyAt}
 use Rattle.tree_survey.specs.declared.Survey.{Survey}
 use Rattle.tree_survey.specs.declared.Survey.the-variants as survey
 use Rattle.tree_survey.proofs.Said.{negative-said}
-use Rattle.load_choose.specs.Chosen.{withinOf, modelOf, streamBy, gvBy, askedBy, textChosen}
+use Rattle.load_choose.specs.Chosen.{modelOf, streamBy, gvBy, askedBy, textChosen}
+use Rattle.load_range.specs.Ranges.{withinOf}
 use Rattle.load_choose.specs.declared.Chosen.{Chosen}
 use Rattle.load_choose.specs.declared.Chosen.the-variants as chosen
-use Rattle.load_choose.specs.declared.Bounds.{Bounds}
-use Rattle.load_choose.specs.declared.Bounds.the-variants as bounds
+use Rattle.load_range.specs.declared.Bounds.{Bounds}
+use Rattle.load_range.specs.declared.Bounds.the-variants as bounds
 use Rattle.load_choose.proofs.Joined.{numbered-so}
 use Rattle.load_plan.specs.Plans.{placed, textOf, dataOf}
 use Rattle.load_plan.specs.declared.Text.{Text}

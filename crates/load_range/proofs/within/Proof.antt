@@ -1,8 +1,8 @@
--- `load_choose::within` meets its contract.
+-- `load_range::within` meets its contract.
 use borrow.Author.Needs.{needs}
-use Rattle.load_choose.proofs.Widths.{starts-behind, ends-behind, stands-inside}
-use Rattle.load_choose.proofs.within.Statement.{statement}
-use Rattle.load_choose.proofs.within.Tie as tie
+use Rattle.load_range.proofs.Laws.{starts-behind, ends-behind, stands-inside}
+use Rattle.load_range.proofs.within.Statement.{statement}
+use Rattle.load_range.proofs.within.Tie as tie
 
 returns : tie.Need-returns
 returns c = ends-behind _ _ _ (c .if1 .taken)

@@ -1,8 +1,8 @@
--- `face_trail::summed` meets its contract.
-use Rattle.face_trail.proofs.Laws.{summed-as}
+-- `trail_last::summed` meets its contract.
+use Rattle.trail_last.proofs.Laws.{summed-as}
 use borrow.Author.Needs.{needs}
-use Rattle.face_trail.proofs.summed.Statement.{statement}
-use Rattle.face_trail.proofs.summed.Tie as tie
+use Rattle.trail_last.proofs.summed.Statement.{statement}
+use Rattle.trail_last.proofs.summed.Tie as tie
 
 sub-end : tie.Need-sub-end
 sub-end c = search needs

@@ -1,11 +1,11 @@
--- `load_choose::product` meets its contract.
+-- `load_range::product` meets its contract.
 use borrow.Author.Needs.{needs}
 use Prim.Native.Nat.{_<_}
-use Rattle.load_choose.proofs.Widths.{none-left, none-right, large-left, large-right, small}
+use Rattle.load_range.proofs.Laws.{none-left, none-right, large-left, large-right, small}
 use native.Mathlib.Omega.{arith}
 use mathlib.Core.Path.{sym}
-use Rattle.load_choose.proofs.product.Statement.{statement}
-use Rattle.load_choose.proofs.product.Tie as tie
+use Rattle.load_range.proofs.product.Statement.{statement}
+use Rattle.load_range.proofs.product.Tie as tie
 
 returns : tie.Need-returns
 returns c = sym (none-left _ _ (c .if1 .taken))

@@ -1,7 +1,7 @@
--- `face_trail::has_room` meets its contract.
-use Rattle.face_trail.proofs.Laws.{room-short, room-long, room-as}
-use Rattle.face_trail.proofs.has_room.Statement.{statement}
-use Rattle.face_trail.proofs.has_room.Tie as tie
+-- `trail_last::has_room` meets its contract.
+use Rattle.trail_last.proofs.Laws.{room-short, room-long, room-as}
+use Rattle.trail_last.proofs.has_room.Statement.{statement}
+use Rattle.trail_last.proofs.has_room.Tie as tie
 
 returns : tie.Need-returns
 returns c = room-short _ _ _ (c .if1 .taken)

@@ -1,8 +1,8 @@
--- `face_trail::put_last`: the sum of what is stored before it.
-use Rattle.face_trail.proofs.Laws.{last-stored}
+-- `trail_last::put_last`: the sum of what is stored before it.
+use Rattle.trail_last.proofs.Laws.{last-stored}
 use borrow.Author.Needs.{needs}
-use Rattle.face_trail.proofs.put_last.Statement.{statement}
-use Rattle.face_trail.proofs.put_last.Tie as tie
+use Rattle.trail_last.proofs.put_last.Statement.{statement}
+use Rattle.trail_last.proofs.put_last.Tie as tie
 
 mul-at : tie.Need-mul-at
 mul-at c = search needs
