@@ -233,6 +233,13 @@ module _ (x : ℕ) (f : Borne) where
   unfolding bearingFrom
   bearing-over e = sym (ap (bearingFrom x f) e)
 
+-- kept where it bears the id
+pub hit-kept : {b : Bool} (x y : Borne) → b ≡ true → x ≡ cond b x y
+hit-kept x y e = sym (ap (λ (b : Bool). cond b x y) e)
+
+pub miss-kept : {b : Bool} (x y : Borne) → b ≡ false → y ≡ cond b x y
+miss-kept x y e = sym (ap (λ (b : Bool). cond b x y) e)
+
 -- the line that is kept is the one whose number is found
 pub data Stands (all : List Line) : Found → Borne → Type 0 where
   nowhere : Stands all Nothing borne.Nothing

@@ -199,13 +199,6 @@ pub enum Borne {
     Nothing,
 }
 
-// What is kept once a line was looked at.
-fn kept_after(before: Borne, hit: bool, line: Line) -> Borne
-    ensures { λ r. ⌜ r ≡ cond hit (borne.Line line) before ⌝ }
-{
-    if hit { Borne::Line(line) } else { before }
-}
-
 // The last of a tree's lines, from the first one's place on, that bears the id of a key: the line itself, so that none is read twice.
 pub fn last_bearing(s: &[u8], first: usize, key: u64) -> Borne
     ensures { λ r. ⌜ r ≡ bearing key (linesAt (now (s .entry)) first .items) ⌝ }
@@ -215,11 +208,16 @@ pub fn last_bearing(s: &[u8], first: usize, key: u64) -> Borne
     loop {
         match next_line(s, i) {
             LineStep::Next { line, next } => {
-                last = kept_after(last, bears_id(line, key), line);
+                if bears_id(line, key) {
+                    last = Borne::Line(line);
+                }
                 i = next;
             }
             LineStep::Last { line, next: _ } => {
-                return kept_after(last, bears_id(line, key), line);
+                if bears_id(line, key) {
+                    return Borne::Line(line);
+                }
+                return last;
             }
             LineStep::Broken => {
                 return last;

@@ -18,7 +18,7 @@ use Rattle.load_choose.specs.Chosen.{modelOf, streamModel, gvModel, name
 use Rattle.load_range.specs.Ranges.{withinOf}
 use Rattle.load_choose.specs.declared.Chosen.the-variants.{Model, Refused}
 use Rattle.load_choose.specs.declared.Which.the-variants.{Duration, Stream, Gv}
-use Rattle.load_choose.specs.declared.Bounds.the-variants.{Inside, Outside}
+use Rattle.load_range.specs.declared.Bounds.the-variants.{Inside, Outside}
 
 -- ---- ranges: 5-5 is one byte, 5-4 is none
 
