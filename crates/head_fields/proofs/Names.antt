@@ -9,7 +9,7 @@ use lib.ListN.{length}
 use Rattle.written.specs.Bytes.{same}
 use Rattle.written.specs.HeaderText.{Field}
 use Rattle.written.proofs.Tests.{differ}
-use Rattle.written.proofs.ApartFile.{same-same}
+use Rattle.written_apart.proofs.ApartFile.{same-same}
 use Rattle.written_total.proofs.Total.{same-true, Named}
 use Rattle.head_fields.specs.Fields.{fieldIndex}
 

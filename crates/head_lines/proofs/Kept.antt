@@ -16,7 +16,7 @@ use Rattle.written.specs.HeaderText.{Range, Kind, a-string, a-number, a-bool, s
 use Rattle.written.specs.Faults.{Missing}
 use Rattle.written.proofs.Tests.{differ, both}
 use Rattle.laws.proofs.Ranges.{all, at}
-use Rattle.written.proofs.ApartFile.{same-same}
+use Rattle.written_apart.proofs.ApartFile.{same-same}
 use Rattle.written_total.proofs.Total.{same-true}
 use Rattle.head_fields.specs.Fields.{fieldIndex, anyMissing}
 use Rattle.head_fields.proofs.Names.{index-named, named-index, index-one}

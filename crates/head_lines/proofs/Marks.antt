@@ -13,7 +13,7 @@ use Rattle.written.specs.Bytes.{same}
 use Rattle.written.specs.HeaderText.{Field, Entry, Value, valuesOf}
 use Rattle.written.specs.Faults.{Repeats}
 use Rattle.written.proofs.Tests.{differ}
-use Rattle.written.proofs.ApartFile.{values-append, same-same}
+use Rattle.written_apart.proofs.ApartFile.{values-append, same-same}
 use Rattle.written_total.proofs.Total.{same-true}
 use Rattle.head_fields.specs.Fields.{fieldIndex}
 use Rattle.head_fields.proofs.Names.{index-named, named-index, index-one}

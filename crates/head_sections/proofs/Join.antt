@@ -14,7 +14,7 @@ use Rattle.written.specs.Sections.{UpToNext, newlines, Part, Sections}
 use Rattle.written.specs.Sections as says
 use Rattle.written.proofs.Tests.{differ, both}
 use Rattle.written.proofs.OneFile.{heads, tails, one-newline}
-use Rattle.written.proofs.ApartFile.{same-same}
+use Rattle.written_apart.proofs.ApartFile.{same-same}
 use Rattle.written_total.proofs.Total.{same-true}
 use Rattle.laws.specs.Runs.{run, stop}
 use Rattle.laws.proofs.Runs.{byte-is, byte-in}

@@ -13,7 +13,7 @@ use Rattle.written.specs.Loading.{ModelSaid}
 use Rattle.written.specs.House.{HouseVoice, VoiceBreaks}
 use Rattle.written.specs.Sharing.{Side, questions, trees, records, values, Tables, Held, nothing, Stand}
 use Rattle.written.proofs.OneFile.{says-one}
-use Rattle.written.proofs.ApartFile.{refused-one as opening-one, says-never}
+use Rattle.written_apart.proofs.ApartFile.{refused-one as opening-one, says-never}
 use Rattle.written_models.proofs.Openings.{refused-low}
 use Rattle.written_models.proofs.OneModel.{models-one}
 use Rattle.written_house.proofs.Housed.{voice-breaks-one, voice-never}

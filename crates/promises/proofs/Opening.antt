@@ -11,7 +11,7 @@ use lib.Seq.{sets}
 use Rattle.written.specs.Record.{Header, Says}
 use Rattle.written.specs.Faults.{Refused}
 use Rattle.written.proofs.OneFile.{says-one}
-use Rattle.written.proofs.ApartFile.{refused-one, says-never}
+use Rattle.written_apart.proofs.ApartFile.{refused-one, says-never}
 use Rattle.error.specs.Numbers.{numberOf}
 use Rattle.head_record.specs.Record.{headerRecord}
 use Rattle.head_words.specs.Words.{headerWords}

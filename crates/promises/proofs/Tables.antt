@@ -11,7 +11,7 @@ use lib.IntN.{ℤ, pos}
 use lib.ListN.{length, drop, replicate}
 use lib.Seq.{sets}
 use Rattle.written.specs.Depths.{DepthSaid, TreeDepth}
-use Rattle.written.proofs.Paths.{tree-depth-once}
+use Rattle.written_depth.proofs.Paths.{tree-depth-once}
 use Rattle.table_rows.specs.Rows.{treeTable, recordTable}
 use Rattle.head_words.specs.Words.{flagWord}
 use Rattle.walk.specs.Walking.{walkOf}

@@ -12,7 +12,7 @@ use Rattle.written.specs.Record.{Header, Says}
 use Rattle.written.specs.Faults.{Refused}
 use Rattle.written.specs.Trailer.{Trailer, Writes, WritesOf, Finds}
 use Rattle.written.proofs.OneFile.{says-one}
-use Rattle.written.proofs.ApartFile.{refused-one, says-never}
+use Rattle.written_apart.proofs.ApartFile.{refused-one, says-never}
 use Rattle.written_trailer.proofs.Trailing.{SameWriting, SameReading, writes-once, finds-once, written-read}
 use Rattle.written_trailer.proofs.TrailerExactly.{refused-nothing, writes-zero}
 use Rattle.head_record.specs.Record.{headerRecord}

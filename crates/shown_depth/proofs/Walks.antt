@@ -15,8 +15,8 @@ use Rattle.written.specs.Linking.{Nth, Row}
 use Rattle.written.specs.Walks.{Outcome, Loaded, LoadedTree}
 use Rattle.written.specs.Depths as depths
 use Rattle.written.specs.Depths.{DepthSaid, Path, TreeDepth, deep}
-use Rattle.written.proofs.Paths.{no-walk-more, depth-enough, some-path, tree-depth-once}
-use Rattle.written.proofs.Deepest.{lineRecords, straight-lines}
+use Rattle.written_depth.proofs.Paths.{no-walk-more, depth-enough, some-path, tree-depth-once}
+use Rattle.written_depth.proofs.Deepest.{lineRecords, straight-lines}
 use Rattle.table_rows.specs.Rows.{treeRows, treeFirst, treeRecords, treeRow, treeTable, recordTable}
 use Rattle.table_rows.proofs.Stand.{row-of}
 use Rattle.walk.specs.declared.Walked.{Walked}

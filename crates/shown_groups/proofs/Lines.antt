@@ -19,7 +19,7 @@ use Rattle.written.specs.Record.{All, next}
 use Rattle.written.proofs.Tests.{differ}
 use Rattle.written.proofs.One.{text-one, line-starts}
 use Rattle.written.proofs.OneFile.{rows-one}
-use Rattle.written.proofs.Apart.{text-never}
+use Rattle.written_apart.proofs.Apart.{text-never}
 use Rattle.laws.specs.Runs.{stop}
 use Rattle.laws.proofs.Runs.{stop-on, stop-here, stop-end, byte-is, byte-out}
 use Rattle.head_record.specs.Empty.{span}

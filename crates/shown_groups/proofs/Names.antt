@@ -12,7 +12,7 @@ use Rattle.written.specs.Bytes as written
 use Rattle.written.specs.Bytes.{same, part}
 use Rattle.written.specs.Groups.{Row, Group, Grouped, next, ofGroup, ofOthers, nameOf}
 use Rattle.written.proofs.Tests.{differ}
-use Rattle.written.proofs.ApartFile.{same-same}
+use Rattle.written_apart.proofs.ApartFile.{same-same}
 use Rattle.written_total.proofs.Total.{same-true}
 use Rattle.head_record.specs.Empty.{noSpan}
 use Rattle.head_record.specs.Lists.{filled, spanOf}

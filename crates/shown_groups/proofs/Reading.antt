@@ -15,7 +15,7 @@ use Rattle.written.specs.Groups.{ofGroup, alone, Alone, Pointwise, none, more, 
 use Rattle.written.specs.Record.{All, next}
 use Rattle.written.specs.Faults.{Unreadable, Repeats, NoRow, NoGroup, bad-row}
 use Rattle.written.proofs.Tests.{differ}
-use Rattle.written.proofs.ApartFile.{same-same}
+use Rattle.written_apart.proofs.ApartFile.{same-same}
 use Rattle.written_total.proofs.Total.{same-true, distinct-more}
 use Rattle.error.specs.Numbers as error
 use Rattle.error.specs.declared.Refusal.{Refusal}

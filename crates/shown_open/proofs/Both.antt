@@ -7,7 +7,7 @@ use Rattle.written.specs.HeaderText.{Range}
 use Rattle.written.specs.Record.{GlobalText, GlobalFits, StreamText, StreamsFit, PositionText, PositionsFit}
 use Rattle.written.specs.Record as record-of
 use Rattle.written.proofs.OneFile.{global-text-one, stream-text-one, position-text-one}
-use Rattle.written.proofs.ApartFile.{no-global-never, no-streams-never, no-positions-never}
+use Rattle.written_apart.proofs.ApartFile.{no-global-never, no-streams-never, no-positions-never}
 use Rattle.head_record.specs.Empty.{emptyStream, emptyPosition}
 use Rattle.head_record.specs.Lists.{filled, rangeOf}
 use Rattle.head_record.specs.Record.{globalRecord, streamRecord, positionRecord}

@@ -13,7 +13,7 @@ use Rattle.written.specs.Sections as says-split
 use Rattle.written.specs.Faults.{NoHeader, Refused}
 use Rattle.written_total.proofs.Eleven.{refused-other}
 use Rattle.written.proofs.OneFile.{says-one}
-use Rattle.written.proofs.ApartFile.{refused-one, says-never}
+use Rattle.written_apart.proofs.ApartFile.{refused-one, says-never}
 use Rattle.error.specs.Numbers as error
 use Rattle.error.specs.declared.Refusal.{Refusal}
 use Rattle.error.specs.declared.Refusal.the-variants as refusal

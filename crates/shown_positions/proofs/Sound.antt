@@ -19,7 +19,7 @@ use Rattle.written.specs.Record as record-of
 use Rattle.written.specs.Faults.{NoGroup, NoGroups}
 use Rattle.written.proofs.Tests.{unbracketed}
 use Rattle.written_total.proofs.Total.{same-true}
-use Rattle.written.proofs.ApartFile.{position-whole}
+use Rattle.written_apart.proofs.ApartFile.{position-whole}
 use Rattle.error.specs.Numbers as error
 use Rattle.error.specs.declared.Refusal.{Refusal}
 use Rattle.error.specs.declared.Refusal.the-variants as refusal

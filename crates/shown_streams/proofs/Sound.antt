@@ -16,7 +16,7 @@ use Rattle.written.specs.Groups.{Group, Grouped, ofGroup, Pointwise}
 use Rattle.written.specs.Record.{stream-fields, stream-group, streamSays, All, GroupSays, GroupsOf, StreamsFit}
 use Rattle.written.specs.Record as record-of
 use Rattle.written.specs.Faults.{NoGroup, NoGroups}
-use Rattle.written.proofs.ApartFile.{stream-whole}
+use Rattle.written_apart.proofs.ApartFile.{stream-whole}
 use Rattle.error.specs.Numbers as error
 use Rattle.error.specs.declared.Refusal.{Refusal}
 use Rattle.error.specs.declared.Refusal.the-variants as refusal

@@ -15,7 +15,7 @@ use Rattle.written.specs.Models as models
 use Rattle.written.specs.Models.{Model, Models}
 use Rattle.written.specs.Blocks.{Below32}
 use Rattle.written.specs.Trailer.{VoiceRows, Trailer, EndsIn, Summed, WritesOf, FindsOf, Writes, Finds}
-use Rattle.written.proofs.ApartFile.{says-never}
+use Rattle.written_apart.proofs.ApartFile.{says-never}
 use Rattle.written.proofs.OneFile.{says-one}
 use Rattle.written_models.proofs.Longer.{data-ends}
 use Rattle.written_trailer.proofs.Trailing.{trailer-size}

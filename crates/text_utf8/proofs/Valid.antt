@@ -13,7 +13,7 @@ use lib.Seq.{drop-append-seam, take-add, drop-drop}
 use Rattle.text_utf8.specs.declared.Answer.{Answer}
 use Rattle.text_utf8.specs.declared.Answer.the-variants.{Valid, Bad}
 use Rattle.written.specs.Rfc3629.{Range, _⋯_, table, Fit, none, one, Char, row, Octets, end, more, FirstBad}
-use Rattle.written.proofs.ApartFile.{octets-never, first-bad-one}
+use Rattle.written_apart.proofs.ApartFile.{octets-never, first-bad-one}
 use Rattle.text_utf8.specs.Widths.{starts, width, holds}
 use Rattle.text_utf8.specs.Check.{scan, checkOf}
 use Rattle.text_utf8.proofs.Rows.{inside, decides, all-at}

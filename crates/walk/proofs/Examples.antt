@@ -9,7 +9,7 @@ use Rattle.written.specs.Linking.{here, there, Row}
 use Rattle.written.specs.Walks.{Ending, Answers}
 use Rattle.written.proofs.Walk.{no-row}
 use Rattle.written.proofs.Link.{records-linked}
-use Rattle.written.proofs.Examples.{records₁, walk₁, walk₁-limit}
+use Rattle.written_examples.proofs.Examples.{records₁, walk₁, walk₁-limit}
 use Rattle.table_rows.specs.Rows.{HasTree}
 use Rattle.table_rows.proofs.Stand.{flat-stands}
 use Rattle.table_rows.proofs.Fours.{fours-records}

@@ -11,7 +11,7 @@ use Rattle.walk.specs.declared.Met.the-variants.{Leaf, Line, Wrong}
 use Rattle.walk.specs.declared.Walked.{Walked}
 use Rattle.walk.specs.declared.Walked.the-variants.{Pdf, Refused}
 use Rattle.walk.specs.Walking.{oneMore, byMet, walkFrom}
-use Rattle.written.proofs.Pigeonhole.{Twice, twice}
+use Rattle.written_depth.proofs.Pigeonhole.{Twice, twice}
 
 -- so many questions more
 abbrev pub plus : ℕ → Walked → Walked

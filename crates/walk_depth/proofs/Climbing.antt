@@ -12,7 +12,7 @@ use lib.IntN.{ℤ, pos}
 use lib.ListN.{length, set, replicate, length-set}
 use Rattle.written.specs.Linking.{Row}
 use Rattle.written.specs.Depths.{Path, stay, on, Refers, Met, Round}
-use Rattle.written.proofs.Deepest.{Deep, deep-round, way-path, long-round}
+use Rattle.written_depth.proofs.Deepest.{Deep, deep-round, way-path, long-round}
 use Rattle.walk_reach.specs.Work.{slotAt, zeros}
 use Rattle.walk_reach.proofs.Rows.{met-on}
 use Rattle.walk_reach.proofs.Slots.{slot-same, slot-other, slot-zero, zeros-same, zeros-fewer, zeros-all}

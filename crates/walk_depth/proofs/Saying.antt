@@ -13,8 +13,8 @@ use lib.ListN.{length, replicate, length-replicate}
 use Rattle.written.specs.Linking.{Row}
 use Rattle.written.specs.Depths as depths
 use Rattle.written.specs.Depths.{DepthSaid, TreeDepth}
-use Rattle.written.proofs.Deepest.{depth-deep}
-use Rattle.written.proofs.Paths.{tree-depth-once}
+use Rattle.written_depth.proofs.Deepest.{depth-deep}
+use Rattle.written_depth.proofs.Paths.{tree-depth-once}
 use Rattle.table_rows.specs.Rows.{treeThere, treeFirst, treeRecords, treeTable, recordTable}
 use Rattle.table_rows.proofs.Stand.{tree-there, tree-missing}
 use Rattle.walk_reach.specs.Seeing.{treeRecordsOf}

@@ -12,7 +12,7 @@ use lib.ListN.{length}
 use Rattle.written.specs.Linking.{Nth, Row, branch}
 use Rattle.written.specs.Depths.{Refers, by-yes, by-no, Met, Good}
 use Rattle.written.proofs.Walk.{nth-once}
-use Rattle.written.proofs.Deepest.{Deep}
+use Rattle.written_depth.proofs.Deepest.{Deep}
 use Rattle.laws.proofs.Every.{both}
 use Rattle.table_rows.specs.Rows.{recordRows, recordsIn, recordThere, recordKind, recordQuestion, recordYes, recordNo, recordRow}
 use Rattle.table_rows.proofs.Stand.{record-stands}

@@ -6,7 +6,7 @@ use Prim.Native.Nat.{ℕ, suc, _≤_, _<_}
 use lib.IntN.{ℤ}
 use Rattle.written.specs.Linking.{Row}
 use Rattle.written.specs.Depths.{Refers, Round}
-use Rattle.written.proofs.Deepest.{Deep}
+use Rattle.written_depth.proofs.Deepest.{Deep}
 use Rattle.walk_reach.specs.Work.{slotAt}
 use Rattle.walk_depth.specs.declared.Next.{Next}
 use Rattle.walk_depth.specs.declared.Next.the-variants.{Settled, Down}

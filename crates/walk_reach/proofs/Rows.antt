@@ -11,7 +11,7 @@ use lib.ListN.{length, take, drop, length-take, length-drop}
 use Rattle.written.specs.Linking.{Nth, Row, branch}
 use Rattle.written.specs.Depths.{Path, stay, on, Refers, by-yes, by-no, Met, Good}
 use Rattle.written.proofs.Walk.{nth-once}
-use Rattle.written.proofs.Deepest.{then}
+use Rattle.written_depth.proofs.Deepest.{then}
 use Rattle.table_rows.specs.Rows.{recordTable, recordThere, recordsIn, recordRows, recordKind, recordQuestion, recordYes, recordNo, recordRow}
 use Rattle.table_rows.proofs.Stand.{nth-below, record-stands, record-out, records-many}
 use Rattle.walk_reach.specs.Seeing.{treeRecordsOf, kindSeen, seenAt}

@@ -1,13 +1,10 @@
--- Header files: at most one answer (One, OneFile, OneBlock), never two kinds (Apart, ApartFile), always one (Total); worked examples.
+-- Header files: at most one answer (One, OneFile, OneBlock); 01's sums (Sums).
 pub mod Tests
 pub mod One
 pub mod OneFile
 pub mod OneBlock
-pub mod Apart
-pub mod ApartFile
 pub mod Sums
-pub mod Example
--- Tree text: at most one answer (Once), decided (Decide); linking (Link, Links, ModelOnce); tree rows (Folded); walks (Walk, Model); worked examples.
+-- Tree text: at most one answer (Once), decided (Decide); linking (Link, Links, ModelOnce); tree rows (Folded); walks (Walk, Model).
 pub mod Once
 pub mod Decide
 pub mod Link
@@ -16,12 +13,8 @@ pub mod ModelOnce
 pub mod Walk
 pub mod Folded
 pub mod Model
-pub mod Examples
--- Answers from a label: at most one (Answers). The depth of a tree: from its leaves up (Deepest, by Pigeonhole), one answer, and what it says of walks (Paths).
+-- Answers from a label: at most one (Answers).
 pub mod Answers
-pub mod Pigeonhole
-pub mod Deepest
-pub mod Paths
 -- In small: the models of a voice and the house's rules (Voices), a trailer byte by byte (TrailerExample).
 pub mod Voices
 pub mod TrailerExample

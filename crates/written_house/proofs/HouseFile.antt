@@ -13,7 +13,7 @@ use Rattle.written.specs.Loading.{ModelSaid, Unloaded, Unread, NoModel}
 use Rattle.written.specs.House.{SaysModel, Judges, JudgesFile}
 use Rattle.written.proofs.Once.{says-once}
 use Rattle.written.proofs.OneFile.{says-one}
-use Rattle.written.proofs.ApartFile.{says-never, refused-one}
+use Rattle.written_apart.proofs.ApartFile.{says-never, refused-one}
 use Rattle.written.proofs.Link.{refused-no-records, refused-once}
 use Rattle.written.proofs.ModelOnce.{model-refused-once, model-never-both}
 use Rattle.written_total.proofs.Broken.{breaks-once, breaks-silent}

@@ -16,7 +16,7 @@ use Rattle.written.specs.Faults.{NoText, NoNumber, no-digit, too-large, NoFlag,
 use Rattle.written.proofs.Tests.{differ, both, span}
 use Rattle.laws.specs.Runs.{stop}
 use Rattle.laws.proofs.Cursor.{stop-each, stop-ends, bare-string, unknown-value, close, quoted-string, open-string, digit-run}
-use Rattle.written.proofs.ApartFile.{values-append, same-same}
+use Rattle.written_apart.proofs.ApartFile.{values-append, same-same}
 
 -- from i on: something is read up to j, or refused
 pub data Outcome {A : Type 0} (s : List ℕ) (i : ℕ) (R : A → ℕ → Type 0) (N : ℕ → ℕ → Type 0) : Type 0 where

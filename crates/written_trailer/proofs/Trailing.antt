@@ -14,7 +14,7 @@ use Rattle.written.specs.Models.{Model, modelNumber, Models}
 use Rattle.written.specs.Trailer.{TrailerRows, VoiceRows, NoVoiceRows, sum32, unsummed, Trailer, EndsIn, Summed, WritesOf, FindsOf, Writes, Finds, longer}
 use Rattle.written.proofs.OneFile.{heads, tails, append-same, says-one}
 use Rattle.written.proofs.OneBlock.{bytes-one}
-use Rattle.written.proofs.ApartFile.{says-never, refused-one}
+use Rattle.written_apart.proofs.ApartFile.{says-never, refused-one}
 use Rattle.written_models.proofs.OneModel.{models-one, text-one, text-never, no-text-one}
 use Rattle.written_models.proofs.Longer.{longer-opens}
 use Rattle.written_models.proofs.LongerModels.{models-longer, text-longer}

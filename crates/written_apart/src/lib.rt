@@ -1,0 +1,1 @@
+// What `written` says of header files, shown: read or refused, never both, and refused in one way, number and place. No code.

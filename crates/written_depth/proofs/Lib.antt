@@ -1,0 +1,3 @@
+pub mod Pigeonhole
+pub mod Deepest
+pub mod Paths
