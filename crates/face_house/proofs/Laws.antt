@@ -32,16 +32,11 @@ use Rattle.house_voice.proofs.Laws.{fits-judged}
 use Rattle.face_record.specs.declared.Said.{Said}
 use Rattle.face_open.specs.Answers.{openSaid, openWords}
 use Rattle.face_shared.specs.Answers.{heldAt, sideAt, standing}
-use Rattle.face_house.specs.declared.House.{House}
-use Rattle.face_house.specs.Answers.{house, refusedAs, After, untouched, ruledBy, saidBy, boundsNumbers, heldBy, openedOf, openingBy, openingOf, houseOf, beforeAt, Opened, Is, Housed}
+use Rattle.face_rule.specs.declared.House.{House}
+use Rattle.face_rule.specs.Answers.{house, refusedAs, ruledBy}
+use Rattle.face_house.specs.Answers.{After, untouched, saidBy, boundsNumbers, heldBy, openedOf, openingBy, openingOf, houseOf, beforeAt, Opened, Is, Housed}
 
--- ---- the rules
-
-pub ruled-type : (n : ℕ) (b : Broken) → ¬ (n ≡ 0) → house n 0 0 0 ≡ ruledBy n b
-ruled-type n b h = sym (ap (λ (c : Bool). cond c (house (b .rule) 0 0 (b .model)) (house n 0 0 0)) (ne-eqb n 0 h))
-
-pub ruled-model : (n : ℕ) (b : Broken) → n ≡ 0 → house (b .rule) 0 0 (b .model) ≡ ruledBy n b
-ruled-model n b h = sym (ap (λ (c : Bool). cond c (house (b .rule) 0 0 (b .model)) (house n 0 0 0)) (eq-eqb n 0 h))
+-- ---- the bounds
 
 pub bounds-put : (l : Bounds) (t : List ℕ) {u : List ℕ} → u ≡ sets t 0 (l .questions ∷ l .patterns ∷ l .trees ∷ l .records ∷ []) → set u 4 (l .values) ≡ sets t 0 (boundsNumbers l)
 bounds-put l t e = ap (λ (u : List ℕ). set u 4 (l .values)) e

@@ -8,8 +8,6 @@ use lib.Dec.{leb, eqb}
 use lib.ListN.{length, getD}
 use lib.Seq.{sets}
 use Rattle.written.specs.Sharing.{Side, Held, holds}
-use Rattle.error.specs.Numbers.{numberOf, placeOf, lineOf}
-use Rattle.error.specs.declared.Refusal.{Refusal}
 use Rattle.head_record.specs.declared.Header.{Header}
 use Rattle.head_words.specs.Words.{headerAt}
 use Rattle.load_model.specs.Load.{Tables as Lent}
@@ -18,19 +16,13 @@ use Rattle.load_bounds.specs.Bounds.{standsAt}
 use Rattle.load_bounds.specs.declared.Held.{Held as Bounds}
 use Rattle.house_types.specs.Types.{typesRule}
 use Rattle.house_voice.specs.Voice.{After as VoiceAfter, voiceOf}
-use Rattle.house_voice.specs.declared.Broken.{Broken}
 use Rattle.house_voice.specs.declared.VoiceJudged.{VoiceJudged}
 use Rattle.house_voice.specs.declared.VoiceJudged.the-variants as voice
 use Rattle.face_record.specs.declared.Said.{Said}
 use Rattle.face_open.specs.Answers.{openSaid, openWords}
 use Rattle.face_shared.specs.Answers.{heldAt, sideAt, standing}
-use Rattle.face_house.specs.declared.House.{House}
-
-abbrev pub house : ℕ → ℕ → ℕ → ℕ → House
-house n p l m = record { number = n; place = p; line = l; model = m }
-
-abbrev pub refusedAs : Refusal → ℕ → House
-refusedAs z m = house (numberOf z) (placeOf z) (lineOf z) m
+use Rattle.face_rule.specs.declared.House.{House}
+use Rattle.face_rule.specs.Answers.{house, refusedAs, ruledBy}
 
 -- the answer, and what was lent after the call
 pub record After : Type 0 where
@@ -43,10 +35,6 @@ abbrev pub untouched : House → List ℕ → List ℕ → Lent → After
 untouched n w held T = record { said = n; words = w; held = held; tables = T }
 
 -- ---- a file that opened, with words w
-
--- 30 or 31, then what the models broke
-abbrev pub ruledBy : ℕ → Broken → House
-ruledBy n b = cond (eqb n 0) (house (b .rule) 0 0 (b .model)) (house n 0 0 0)
 
 abbrev pub saidBy : List ℕ → Header → VoiceJudged → House
 saidBy s h (voice.Judged b l) = ruledBy (typesRule s h) b

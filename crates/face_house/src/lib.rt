@@ -1,12 +1,13 @@
 // A voice judged by the house's rules, the call in numbers (02, Wish 11; host/larsavim.h). Order: 20 for slices that are too short; 29; 24; opening as `larsavim_open`
 // has it; the loads of all models; 30, 31; the first rule that a model breaks. On 0 and 30 to 36 the last model stays loaded, and the task's bounds are its rows.
 // Any file, any words, any bounds, any tables, any numbers.
-use error::Refusal;
 use face_open::open_words;
+use face_rule::House;
+use face_rule::refused_as;
+use face_rule::ruled;
+use face_rule::told;
 use face_shared::bounds;
 use face_shared::standing;
-use house_types::judge_types;
-use house_voice::Broken;
 use house_voice::VoiceJudged;
 use house_voice::judge_voice;
 use load_bounds::Held;
@@ -17,12 +18,10 @@ ghost use mathlib.Core.List.{[], _∷_};
 ghost use Prim.Native.Nat.{_≤_};
 ghost use lib.ListN.{length};
 ghost use lib.Seq.{sets};
-ghost use Rattle.head_words.specs.Words.{wordAt, headerAt};
 ghost use Rattle.load_model.specs.Load.{lent};
 ghost use Rattle.load_bounds.specs.Bounds.{sideOf, heldOf, standsAt};
-ghost use Rattle.house_types.specs.Types.{typesRule};
 ghost use Rattle.face_shared.specs.Answers.{heldAt};
-ghost use Rattle.face_house.specs.Answers.{house, refusedAs, ruledBy, boundsNumbers, beforeAt, Opened, Housed, HouseTells};
+ghost use Rattle.face_house.specs.Answers.{boundsNumbers, beforeAt, Opened, Housed, HouseTells};
 
 const TOP: u64 = 1;
 
@@ -38,49 +37,6 @@ const HOLDING: u64 = 29;
 const BOUNDS: usize = 5;
 
 const HOUSE_OUT: usize = 4;
-
-// 01's number, its place and line, and the number of the model that was refused or that breaks a rule.
-#[repr(C)]
-pub struct House {
-    pub number: u64,
-    pub place: u64,
-    pub line: u64,
-    pub model: u64,
-}
-
-fn told(number: u64, place: u64, line: u64, model: u64) -> House
-    ensures { λ r. ⌜ r ≡ house number place line model ⌝ }
-{
-    House {
-        number,
-        place,
-        line,
-        model,
-    }
-}
-
-fn refused_as(refusal: Refusal, model: u64) -> House
-    ensures { λ r. ⌜ r ≡ refusedAs refusal model ⌝ }
-{
-    told(
-        refusal.number(),
-        refusal.place() as u64,
-        refusal.line() as u64,
-        model,
-    )
-}
-
-// The rules on the whole voice, then what its models broke.
-fn ruled(file: &[u8], words: &[u64], first: Broken) -> House
-    requires { ⌜ (647 ≤ length (now words)) × (wordAt (now words) 22 ≤ 8) ⌝ }
-    ensures { λ r. ⌜ r ≡ ruledBy (typesRule (now (file .entry)) (headerAt (now (words .entry)))) first ⌝ }
-{
-    let number = judge_types(file, words);
-    if number == 0 {
-        return told(first.rule, 0, 0, first.model);
-    }
-    told(number, 0, 0, 0)
-}
 
 // A task's bounds to the front.
 fn put_bounds(held: &mut [u64], rows: Held)

@@ -12,7 +12,8 @@ use Rattle.written.specs.Sharing.{Side, own}
 use Rattle.tree_question.specs.Questions.{questionsAt}
 use Rattle.load_questions.specs.Words.{patternWords}
 use Rattle.load_plan.specs.declared.Plan.{Plan}
-use Rattle.load_bounds.proofs.Laws.{Cut, cut-own, cut-length}
+use Rattle.load_bounds.specs.Bounds.{Cut}
+use Rattle.load_bounds.proofs.Laws.{cut-own, cut-length}
 use Rattle.house_model.specs.Model.{ruleOf, Loaded}
 use Rattle.house_own.specs.Own.{ruleIn, LoadedIn}
 
@@ -26,7 +27,7 @@ put-self : (a m : ℕ) (t : List ℕ) → putMid a m t (take m (drop a t)) ≡ t
 put-self a m t = ap (λ (r : List ℕ). take a t ++ r) (take-append-drop m (drop a t)) ∙ take-append-drop a t
 
 module _ (x : Side) (d : List ℕ) (p : Plan) (q a t v : List ℕ) (h : LoadedIn x d p (length q) a (length t) (length v)) {j j′ k k′ : ℕ}
-    (ca : Cut x 2 a (p .patterns) j j′) (ct : Cut x 6 t (p .trees) k k′) where
+    (ca : Cut x 2 (length a) (p .patterns) j j′) (ct : Cut x 6 (length t) (p .trees) k k′) where
   pub own-loaded : Loaded d p (take (j′ - j) (drop j a)) (length (take (k′ - k) (drop k t)))
   own-loaded =
       record {
@@ -36,7 +37,7 @@ module _ (x : Side) (d : List ℕ) (p : Plan) (q a t v : List ℕ) (h : LoadedIn
         rows = omega (arith, cut-length x 6 t (p .trees) k k′ ct);
       }
 
-  module _ {i i′ m m′ : ℕ} (cq : Cut x 4 q (p .questions) i i′) (cv : Cut x 1 v (p .entries * p .width) m m′) where
+  module _ {i i′ m m′ : ℕ} (cq : Cut x 4 (length q) (p .questions) i i′) (cv : Cut x 1 (length v) (p .entries * p .width) m m′) where
     pub own-rule : {r : ℕ} → r ≡ ruleOf d p (take (i′ - i) (drop i q)) (take (k′ - k) (drop k t)) (take (m′ - m) (drop m v)) → r ≡ ruleIn x d p q t v
     unfolding ruleIn
     own-rule e =

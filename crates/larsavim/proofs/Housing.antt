@@ -6,7 +6,7 @@ use Prim.Native.Nat.{ℕ, _≤_, _<_}
 use native.Mathlib.Omega.{arith}
 use lib.Seq.{sets}
 use Rattle.load_model.specs.Load.{Tables}
-use Rattle.face_house.specs.declared.House.{House}
+use Rattle.face_rule.specs.declared.House.{House}
 use Rattle.face_house.specs.Answers.{houseNumbers, HouseTells}
 
 -- slices that are long enough are not too short

@@ -16,7 +16,7 @@ use Rattle.load_plan.specs.declared.Plan.{Plan}
 use Rattle.load_apart.proofs.Rows.{within, length-own}
 use Rattle.load_apart.proofs.Tests.{stands-is}
 use Rattle.load_bounds.specs.declared.Held.{Held as Bounds}
-use Rattle.load_bounds.specs.Bounds.{needOf, heldOf, tablesOf, standsAt}
+use Rattle.load_bounds.specs.Bounds.{needOf, heldOf, tablesOf, standsAt, Cut}
 
 -- ---- tests
 
@@ -63,18 +63,19 @@ stood-rows x y q a t c v e h = stands-is (tablesOf q a t c v) x y (stood x y q a
 
 -- ---- a part that is cut out
 
--- from a up to e are the n rows of a task
-pub record Cut (x : Side) (w : ℕ) (t : List ℕ) (n a e : ℕ) : Type 0 where
-  pub start : a ≡ startOf x w (length t) n
-  pub end : e ≡ a + w * n
-  pub room : n ≤ length t / w
+-- the rows of a task from the first on, in numbers
+pub own-within : (x : Side) (w l n : ℕ) {r : ℕ} → r ≡ firstRow x (l / w) n → n ≤ l / w → w * r + w * n ≤ l
+own-within x w l n e h = subst (λ (r : ℕ). w * r + w * n ≤ l) (sym e) (within x w l n h)
 
-module _ (x : Side) (w : ℕ) (t : List ℕ) (n a e : ℕ) (c : Cut x w t n a e) where
+pub own-cut : (x : Side) (w l n : ℕ) {r : ℕ} → r ≡ firstRow x (l / w) n → n ≤ l / w → Cut x w l n (w * r) (w * r + w * n)
+own-cut x w l n e h = record { start = ap (λ (r : ℕ). w * r) e; end = refl; room = h; within = own-within x w l n e h }
+
+module _ (x : Side) (w : ℕ) (t : List ℕ) (n a e : ℕ) (c : Cut x w (length t) n a e) where
   pub cut-long : e - a ≡ w * n
   cut-long = omega (arith, c .end)
 
   pub cut-within : a + w * n ≤ length t
-  cut-within = subst (λ (b : ℕ). b + w * n ≤ length t) (sym (c .start)) (within x w (length t) n (c .room))
+  cut-within = subst (λ (b : ℕ). b ≤ length t) (c .end) (c .within)
 
   pub cut-own : take (e - a) (drop a t) ≡ own x w t n
   cut-own = ap (λ (m : ℕ). take m (drop a t)) cut-long ∙ ap (λ (b : ℕ). take (w * n) (drop b t)) (c .start)
@@ -86,15 +87,3 @@ module _ (x : Side) (w : ℕ) (t : List ℕ) (n a e : ℕ) (c : Cut x w t n a e)
   cut-back ys l =
       ap (λ (m : ℕ). putMid a m t ys) cut-long ∙ part-put t a (w * n) ys (l ∙ cut-length) cut-within
       ∙ ap (λ (b : ℕ). sets t b ys) (c .start)
-
--- the rows of a task from the first on, in numbers
-pub cut-rows : (x : Side) (w : ℕ) (t : List ℕ) (n : ℕ) {r : ℕ} → r ≡ firstRow x (length t / w) n → n ≤ length t / w → Cut x w t n (w * r) (w * r + w * n)
-cut-rows x w t n e h = record { start = ap (λ (r : ℕ). w * r) e; end = refl; room = h }
-
-pub cut-ones : (x : Side) (t : List ℕ) (n : ℕ) {r : ℕ} → r ≡ firstRow x (length t) n → n ≤ length t → Cut x 1 t n r (r + n)
-cut-ones x t n {r} e h =
-    record {
-      start = e ∙ ap (λ (l : ℕ). firstRow x l n) (sym (div-one (length t))) ∙ sym (one-mul (firstRow x (length t / 1) n));
-      end = ap (λ (m : ℕ). r + m) (sym (one-mul n));
-      room = omega arith;
-    }

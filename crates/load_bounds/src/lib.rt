@@ -1,14 +1,14 @@
-// A task's bounds in tables that two share (02, Wish 9): five counts. Where its rows begin, what a plan needs, whether two tasks' rows stand beside each other. Any numbers.
+// A task's bounds in tables that two share (02, Wish 9): five counts. Where its rows stand, what a plan needs, whether two tasks' rows stand beside each other. Any numbers.
 use load_plan::Plan;
 use table_rows::PATTERN_ROW;
 use table_rows::QUESTION_ROW;
 use table_rows::RECORD_ROW;
 use table_rows::TREE_ROW;
 ghost use mathlib.Core.Path.{_≡_};
-ghost use Prim.Native.Nat.{_+_, _*_, _≤_, _<_, _^_};
+ghost use Prim.Native.Nat.{_+_, _*_, _/_, _≤_, _<_, _^_};
 ghost use lib.Dec.{leb};
 ghost use Rattle.written.specs.Sharing.{nothing, firstRow, holds};
-ghost use Rattle.load_bounds.specs.Bounds.{sideOf, heldOf, needOf, standsAt};
+ghost use Rattle.load_bounds.specs.Bounds.{sideOf, heldOf, needOf, standsAt, Cut};
 
 // A task's bounds: the rows that it holds of each table, and the values. All 0: it holds nothing.
 pub struct Held {
@@ -33,11 +33,27 @@ pub fn nobody() -> Held
 }
 
 // The first of a task's n rows in a table of so many.
-pub fn first_row(top: bool, rows: usize, n: usize) -> usize
+fn first_row(top: bool, rows: usize, n: usize) -> usize
     requires { ⌜ n ≤ rows ⌝ }
     ensures { λ r. ⌜ (r ≡ firstRow (sideOf top) rows n) × (r + n ≤ rows) ⌝ }
 {
     if top { rows - n } else { 0 }
+}
+
+// A part of a table: from one number up to another.
+pub struct Part {
+    pub from: usize,
+    pub to: usize,
+}
+
+// A task's n rows in a table of `len` numbers, `width` to a row.
+pub fn own_part(top: bool, len: usize, width: usize, n: usize) -> Part
+    requires { ⌜ (1 ≤ width) × (n ≤ len / width) ⌝ }
+    ensures { λ r. ⌜ Cut (sideOf top) width len n (r .from) (r .to) ⌝ }
+{
+    let from = width * first_row(top, len / width, n);
+    let to = from + width * n;
+    Part { from, to }
 }
 
 // Whether a table of so many rows has a and b of them, one beside the other.

@@ -26,8 +26,8 @@ use Rattle.load_model.proofs.Laws.{same-lent}
 use Rattle.load_apart.proofs.Tests.{stands-is}
 use Rattle.load_bounds.specs.declared.Held.{Held as Bounds}
 use Rattle.load_shared.specs.Beside.{rowsOf, withWork, Fits, putBack, placedIn, roomBy, besideFor, besideOf, FillsOwn, PlacesBeside, LoadsBeside}
-use Rattle.load_bounds.proofs.Laws.{Cut, cut-own, cut-length, cut-back, stands-at}
-use Rattle.load_bounds.specs.Bounds.{needOf, heldOf, tablesOf, standsAt}
+use Rattle.load_bounds.proofs.Laws.{cut-own, cut-length, cut-back, stands-at}
+use Rattle.load_bounds.specs.Bounds.{needOf, heldOf, tablesOf, standsAt, Cut}
 
 -- ---- a plan filled into the parts
 
@@ -35,8 +35,8 @@ pub room-true : (p : Plan) (q a t c v w : ℕ) → p .questions ≤ q / 4 → p 
 unfolding roomFor
 room-true p q a t c v w h i j k l m = rw (le-leb _ _ h, le-leb _ _ i, le-leb _ _ j, le-leb _ _ k, le-leb _ _ l, le-leb _ _ m) refl
 
-module _ (x : Side) (d : List ℕ) (p : Plan) (q a t c v : List ℕ) (w : List ℤ) {i i′ j j′ k k′ l l′ m m′ : ℕ} (cq : Cut x 4 q (p .questions) i i′) (ca : Cut x 2 a (p .patterns) j j′)
-    (ct : Cut x 6 t (p .trees) k k′) (cc′ : Cut x 4 c (p .records) l l′) (cv : Cut x 1 v (p .entries * p .width) m m′) where
+module _ (x : Side) (d : List ℕ) (p : Plan) (q a t c v : List ℕ) (w : List ℤ) {i i′ j j′ k k′ l l′ m m′ : ℕ} (cq : Cut x 4 (length q) (p .questions) i i′) (ca : Cut x 2 (length a) (p .patterns) j j′)
+    (ct : Cut x 6 (length t) (p .trees) k k′) (cc′ : Cut x 4 (length c) (p .records) l l′) (cv : Cut x 1 (length v) (p .entries * p .width) m m′) where
   pub parts-room : p .lines ≤ length w / 6 → roomFor p (length (take (i′ - i) (drop i q))) (length (take (j′ - j) (drop j a))) (length (take (k′ - k) (drop k t))) (length (take (l′ - l) (drop l c))) (length (take (m′ - m) (drop m v))) (length w) ≡ true
   parts-room h =
       room-true p _ _ _ _ _ _ (omega (arith, cut-length x 4 q (p .questions) i i′ cq)) (omega (arith, cut-length x 2 a (p .patterns) j j′ ca)) (omega (arith, cut-length x 6 t (p .trees) k k′ ct))

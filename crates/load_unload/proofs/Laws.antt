@@ -14,8 +14,8 @@ use Rattle.load_apart.specs.Loads.{Done as Done′, Overlap, After, untouched, 
 use Rattle.load_apart.proofs.Rows.{length-part}
 use Rattle.load_apart.proofs.Tests.{stands-is}
 use Rattle.load_apart.proofs.Apart.{unload-is}
-use Rattle.load_bounds.specs.Bounds.{tablesOf}
-use Rattle.load_bounds.proofs.Laws.{Cut, cut-long}
+use Rattle.load_bounds.specs.Bounds.{tablesOf, Cut}
+use Rattle.load_bounds.proofs.Laws.{cut-long}
 use Rattle.load_unload.specs.Unloads.{Tabled, Unloads}
 
 -- ---- unloading
@@ -26,7 +26,7 @@ cleared-part t a e h g {ys} f =
     let z : ys ≡ replicate (e - a) 0 = f ∙ ap (λ (m : ℕ). replicate m 0) l in
     ap (putMid a (e - a) t) z ∙ part-put t a (e - a) (replicate (e - a) 0) (length-replicate (e - a) 0) (omega arith)
 
-pub cleared-is : (x : Side) (w : ℕ) (t : List ℕ) (n a e : ℕ) → Cut x w t n a e → {t₁ : List ℕ} → t₁ ≡ sets t a (replicate (e - a) 0) → t₁ ≡ putRows x w t n (replicate (w * n) 0)
+pub cleared-is : (x : Side) (w : ℕ) (t : List ℕ) (n a e : ℕ) → Cut x w (length t) n a e → {t₁ : List ℕ} → t₁ ≡ sets t a (replicate (e - a) 0) → t₁ ≡ putRows x w t n (replicate (w * n) 0)
 cleared-is x w t n a e c f = f ∙ ap (λ (m : ℕ). sets t a (replicate m 0)) (cut-long x w t n a e c) ∙ ap (λ (b : ℕ). sets t b (replicate (w * n) 0)) (c .start)
 
 module _ (x : Side) (mine other : Held) (q a t c v : List ℕ) where

@@ -1,6 +1,6 @@
 // Unloading (02, Wish 9): zeros in one task's rows, and nothing else. Any bounds, tables of any length.
 use load_bounds::Held;
-use load_bounds::first_row;
+use load_bounds::own_part;
 use load_bounds::stand;
 use table_put::zero;
 use table_rows::PATTERN_ROW;
@@ -46,20 +46,15 @@ pub fn unload(
     ) {
         return false;
     }
-    let q = QUESTION_ROW * first_row(top, questions.len() / QUESTION_ROW, mine.questions);
-    let q_end = q + QUESTION_ROW * mine.questions;
-    let a = PATTERN_ROW * first_row(top, patterns.len() / PATTERN_ROW, mine.patterns);
-    let a_end = a + PATTERN_ROW * mine.patterns;
-    let t = TREE_ROW * first_row(top, trees.len() / TREE_ROW, mine.trees);
-    let t_end = t + TREE_ROW * mine.trees;
-    let r = RECORD_ROW * first_row(top, records.len() / RECORD_ROW, mine.records);
-    let r_end = r + RECORD_ROW * mine.records;
-    let v = first_row(top, values.len(), mine.values);
-    let v_end = v + mine.values;
-    clear(questions, q, q_end);
-    clear(patterns, a, a_end);
-    clear(trees, t, t_end);
-    clear(records, r, r_end);
-    clear(values, v, v_end);
+    let q = own_part(top, questions.len(), QUESTION_ROW, mine.questions);
+    let a = own_part(top, patterns.len(), PATTERN_ROW, mine.patterns);
+    let t = own_part(top, trees.len(), TREE_ROW, mine.trees);
+    let r = own_part(top, records.len(), RECORD_ROW, mine.records);
+    let v = own_part(top, values.len(), 1, mine.values);
+    clear(questions, q.from, q.to);
+    clear(patterns, a.from, a.to);
+    clear(trees, t.from, t.to);
+    clear(records, r.from, r.to);
+    clear(values, v.from, v.to);
     true
 }

@@ -32,8 +32,9 @@ use Rattle.house_voice.specs.declared.VoiceJudged.{VoiceJudged}
 use Rattle.face_open.specs.Answers.{openSaidBy, openSaid, openWordsBy, openWords}
 use Rattle.face_record.specs.Answers.{said}
 use Rattle.face_shared.specs.Answers.{heldAt, sideAt, standing}
-use Rattle.face_house.specs.Answers.{After, house, untouched, ruledBy, saidBy, heldBy, openedOf, openingBy, openingOf, houseOf, houseNumbers, HouseTells}
-use Rattle.face_house.specs.declared.House.{House}
+use Rattle.face_rule.specs.Answers.{house, ruledBy}
+use Rattle.face_house.specs.Answers.{After, untouched, saidBy, heldBy, openedOf, openingBy, openingOf, houseOf, houseNumbers, HouseTells}
+use Rattle.face_rule.specs.declared.House.{House}
 use Rattle.face_trail.proofs.Above.{above-zero}
 use Rattle.shown_open.proofs.Opened.{OpenAnswer, open-sound}
 use Rattle.shown_open.proofs.Opened as answer

@@ -3,8 +3,8 @@
 // Any bytes, any record, any bounds and tables of any length.
 use error::Refusal;
 use load_bounds::Held;
-use load_bounds::first_row;
 use load_bounds::need;
+use load_bounds::own_part;
 use load_bounds::stand;
 use load_choose::Which;
 use load_model::Loaded;
@@ -100,25 +100,30 @@ fn fill_own(
     ensures { λ r. ⌜ FillsOwnTree (sideOf top) (now (d .entry)) k p (lent (now (questions .entry)) (now (patterns .entry)) (now (trees .entry)) (now (records .entry)) (now (values .entry)) (now (work .entry))) r (lent (now (questions .exit)) (now (patterns .exit)) (now (trees .exit)) (now (records .exit)) (now (values .exit)) (now (work .exit))) ⌝ }
 {
     let n = (p.entries * p.width) as usize;
-    let q = QUESTION_ROW * first_row(top, questions.len() / QUESTION_ROW, p.questions);
-    let q_end = q + QUESTION_ROW * p.questions;
-    let a = PATTERN_ROW * first_row(top, patterns.len() / PATTERN_ROW, p.patterns);
-    let a_end = a + PATTERN_ROW * p.patterns;
-    let t = TREE_ROW * first_row(top, trees.len() / TREE_ROW, p.trees);
-    let t_end = t + TREE_ROW * p.trees;
-    let r = RECORD_ROW * first_row(top, records.len() / RECORD_ROW, p.records);
-    let r_end = r + RECORD_ROW * p.records;
-    let v = first_row(top, values.len(), n);
-    let v_end = v + n;
+    let q = own_part(top, questions.len(), QUESTION_ROW, p.questions);
+    let q_from = q.from;
+    let q_to = q.to;
+    let a = own_part(top, patterns.len(), PATTERN_ROW, p.patterns);
+    let a_from = a.from;
+    let a_to = a.to;
+    let t = own_part(top, trees.len(), TREE_ROW, p.trees);
+    let t_from = t.from;
+    let t_to = t.to;
+    let r = own_part(top, records.len(), RECORD_ROW, p.records);
+    let r_from = r.from;
+    let r_to = r.to;
+    let v = own_part(top, values.len(), 1, n);
+    let v_from = v.from;
+    let v_to = v.to;
     fill_tree(
         d,
         k,
         p,
-        &mut questions[q..q_end],
-        &mut patterns[a..a_end],
-        &mut trees[t..t_end],
-        &mut records[r..r_end],
-        &mut values[v..v_end],
+        &mut questions[q_from..q_to],
+        &mut patterns[a_from..a_to],
+        &mut trees[t_from..t_to],
+        &mut records[r_from..r_to],
+        &mut values[v_from..v_to],
         work,
     )
 }

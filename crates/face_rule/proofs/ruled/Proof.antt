@@ -1,11 +1,11 @@
--- `face_house::ruled`: 30 or 31, else what a model broke.
+-- `face_rule::ruled`: 30 or 31, else what a model broke.
 use mathlib.Core.Path.{ap, _∙_}
 use Prim.Native.Nat.{ℕ}
-use Rattle.face_house.specs.Answers.{ruledBy}
-use Rattle.face_house.proofs.Laws.{ruled-type, ruled-model}
+use Rattle.face_rule.specs.Answers.{ruledBy}
+use Rattle.face_rule.proofs.Laws.{ruled-type, ruled-model}
 use borrow.Author.Needs.{needs}
-use Rattle.face_house.proofs.ruled.Statement.{statement}
-use Rattle.face_house.proofs.ruled.Tie as tie
+use Rattle.face_rule.proofs.ruled.Statement.{statement}
+use Rattle.face_rule.proofs.ruled.Tie as tie
 
 judge-types-requires : tie.Need-judge-types-requires
 judge-types-requires c κs = search needs

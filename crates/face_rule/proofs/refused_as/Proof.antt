@@ -1,10 +1,10 @@
--- `face_house::refused_as`: number, place and line of a refusal.
+-- `face_rule::refused_as`: number, place and line of a refusal.
 use mathlib.Core.Path.{_≡_, ap, _∙_}
 use Prim.Native.Nat.{ℕ}
-use Rattle.face_house.specs.Answers.{house}
+use Rattle.face_rule.specs.Answers.{house}
 use borrow.Author.Needs.{needs}
-use Rattle.face_house.proofs.refused_as.Statement.{statement}
-use Rattle.face_house.proofs.refused_as.Tie as tie
+use Rattle.face_rule.proofs.refused_as.Statement.{statement}
+use Rattle.face_rule.proofs.refused_as.Tie as tie
 
 number-requires : tie.Need-number-requires
 number-requires c κs = search needs
