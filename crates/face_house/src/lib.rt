@@ -14,13 +14,11 @@ use load_bounds::Held;
 use load_bounds::holding;
 use table_put::put4;
 ghost use mathlib.Core.Path.{_≡_};
-ghost use mathlib.Core.List.{[], _∷_};
 ghost use Prim.Native.Nat.{_≤_};
 ghost use lib.ListN.{length};
 ghost use lib.Seq.{sets};
 ghost use Rattle.load_model.specs.Load.{lent};
-ghost use Rattle.load_bounds.specs.Bounds.{sideOf, heldOf, standsAt};
-ghost use Rattle.face_shared.specs.Answers.{heldAt};
+ghost use Rattle.load_bounds.specs.Bounds.{sideOf, heldOf};
 ghost use Rattle.face_house.specs.Answers.{boundsNumbers, beforeAt, Opened, Housed, HouseTells};
 
 const TOP: u64 = 1;

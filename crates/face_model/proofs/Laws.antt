@@ -1,11 +1,11 @@
 -- Each way through the calls on a model and on loaded tables.
-use mathlib.Core.Path.{_≡_, refl, sym, ap, _∙_}
-use mathlib.Core.Bool.{Bool, true, false, cond}
+use mathlib.Core.Path.{_≡_, sym, ap, _∙_}
+use mathlib.Core.Bool.{Bool, cond}
 use mathlib.Core.List.{List}
-use Prim.Native.Nat.{ℕ, _-_, _*_, _/_, _%_, _^_, _≤_, _<_}
+use Prim.Native.Nat.{ℕ, _-_, _*_, _/_, _%_, _≤_, _<_}
 use native.Mathlib.Omega.{arith}
 use borrow.Author.Tests.{lt-ltb, le-ltb, eq-eqb, ne-eqb}
-use lib.Dec.{ltb, eqb}
+use lib.Dec.{eqb}
 use lib.ListN.{length}
 use Rattle.error.specs.Numbers.{numberOf, placeOf, lineOf}
 use Rattle.error.specs.declared.Refusal.{Refusal}
@@ -22,7 +22,7 @@ use Rattle.load_plan.specs.declared.Planned.the-variants as planned
 use Rattle.load_plan.proofs.Laws.{needs-sound}
 use Rattle.load_model.proofs.Laws.{part-short, small-values}
 use Rattle.face_model.specs.declared.Needed.{Needed}
-use Rattle.face_model.specs.Answers.{whichOf, workFor, notNeeded, neededFor, neededBy, neededIn, neededOf}
+use Rattle.face_model.specs.Answers.{whichOf, workFor, notNeeded, neededFor, neededBy, neededOf}
 
 -- ---- which model
 

@@ -1,9 +1,8 @@
 -- What the calls on a model and on loaded tables answer in numbers (host/larsavim.h): which model a number names, what a model needs, a load, a walk.
-use mathlib.Core.Bool.{Bool, cond}
+use mathlib.Core.Bool.{cond}
 use mathlib.Core.List.{List}
 use Prim.Native.Nat.{ℕ, _-_, _*_, _/_, _%_}
 use lib.Dec.{ltb, eqb}
-use lib.IntN.{ℤ}
 use Rattle.error.specs.Numbers.{numberOf, placeOf, lineOf}
 use Rattle.head_words.specs.Words.{headerAt}
 use Rattle.face_record.specs.Answers.{judgedOf}

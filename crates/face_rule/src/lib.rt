@@ -1,4 +1,4 @@
-// What is told of a voice that is judged by the house's rules (02, Wish 11): why it is refused, or the first rule that it breaks. Any file, any numbers.
+// What is told of a voice that is judged by the house's rules (02, Wish 11): why it is refused, or the first rule that it breaks.
 use error::Refusal;
 use house_types::judge_types;
 use house_voice::Broken;
@@ -18,6 +18,7 @@ pub struct House {
     pub model: u64,
 }
 
+// These four.
 pub fn told(number: u64, place: u64, line: u64, model: u64) -> House
     ensures { λ r. ⌜ r ≡ house number place line model ⌝ }
 {
@@ -29,6 +30,7 @@ pub fn told(number: u64, place: u64, line: u64, model: u64) -> House
     }
 }
 
+// Why a load of a model is refused.
 pub fn refused_as(refusal: Refusal, model: u64) -> House
     ensures { λ r. ⌜ r ≡ refusedAs refusal model ⌝ }
 {

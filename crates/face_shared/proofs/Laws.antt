@@ -1,23 +1,22 @@
 -- Each way through a shared load and an unload.
 use mathlib.Core.Path.{_≡_, refl, sym, ap, ap₂, _∙_, subst, fun-ext}
-use mathlib.Core.Bool.{Bool, true, false, not, cond, _&&_}
+use mathlib.Core.Bool.{Bool, true, false, cond, _&&_}
 use mathlib.Core.List.{List}
 use Prim.Native.Nat.{ℕ, _≤_, _<_}
-use native.Mathlib.Omega.{arith}
-use lib.Dec.{leb, eqb}
+use lib.Dec.{leb}
 use lib.ListN.{length, getD}
-use borrow.Author.Tests.{lt-leb, le-leb, not-true, not-false}
-use Rattle.written.specs.Sharing.{Side, Table, questions, patterns, trees, records, values, Tables, Held, holds, stands, cleared}
+use borrow.Author.Tests.{lt-leb, le-leb}
+use Rattle.written.specs.Sharing.{Table, questions, patterns, trees, records, values, Tables, Held, holds, stands, cleared}
 use Rattle.error.specs.declared.Refusal.{Refusal}
 use Rattle.load_model.specs.Load.{Tables as Lent}
-use Rattle.load_apart.specs.Loads.{Done, Overlap, After, untouched as asItWas, unloadOf}
+use Rattle.load_apart.specs.Loads.{Done, Overlap, untouched as asItWas, unloadOf}
 use Rattle.load_shared.specs.Beside.{rowsOf}
-use Rattle.load_bounds.specs.Bounds.{sideOf, heldOf, tablesOf, standsAt}
+use Rattle.load_bounds.specs.Bounds.{heldOf, tablesOf, standsAt}
 use Rattle.load_unload.specs.Unloads.{Tabled, Unloads}
 use Rattle.load_bounds.specs.declared.Held.{Held as Bounds}
 use Rattle.load_bounds.proofs.Laws.{stands-at}
 use Rattle.face_model.specs.declared.Rows.{Rows}
-use Rattle.face_load.specs.Answers.{Filled, untouched, filledOf, Is, LoadSaid}
+use Rattle.face_load.specs.Answers.{Filled, untouched, filledOf, LoadSaid}
 use Rattle.face_shared.specs.Answers.{heldAt, sideAt, standing, sharedOf, SharedSaid, unloadedOf, UnloadSaid}
 
 -- five numbers, one by one

@@ -5,7 +5,7 @@ use mathlib.Core.List.{List}
 use Prim.Native.Nat.{ℕ}
 use lib.Dec.{leb, eqb}
 use lib.ListN.{getD}
-use Rattle.written.specs.Sharing.{Side, Table, questions, patterns, trees, records, values, Tables, Held, holds, stands, cleared}
+use Rattle.written.specs.Sharing.{Side, questions, patterns, trees, records, values, Tables, Held, holds, stands, cleared}
 use Rattle.load_model.specs.Load.{Tables as Lent}
 use Rattle.load_shared.specs.Beside.{rowsOf}
 use Rattle.load_bounds.specs.Bounds.{sideOf, tablesOf}

@@ -1,6 +1,5 @@
 // The calls on a voice's trailer, their answers in numbers (02, Wish 7; host/larsavim.h): writing one into a lent buffer, and reading the one that a file ends in.
 // Both open the file themselves, with the record into the words as `larsavim_open` has it. Any file, any words, any buffer.
-use error::Refusal;
 use face_open::open_words;
 use load_plan::data_of;
 use pdf_blocks::word;

@@ -12,7 +12,6 @@ use load_bounds::Held;
 use load_bounds::holding;
 use load_model::Loaded;
 use trail_load::load_tree;
-ghost use mathlib.Core.Path.{_≡_};
 ghost use Prim.Native.Nat.{_≤_};
 ghost use lib.ListN.{length};
 ghost use Rattle.load_model.specs.Load.{lent};

@@ -1,21 +1,20 @@
 -- How far a step moves the cursor: a value never back, and a delimiter that is passed by one.
-use mathlib.Core.Path.{_≡_, refl, sym, ap, _∙_}
+use mathlib.Core.Path.{_≡_, refl, sym, ap}
 use mathlib.Core.Bool.{Bool, true, false, cond}
 use mathlib.Core.List.{List, [], _∷_}
 use Prim.Native.Nat.{ℕ, _+_, _-_, _^_, _≤_, _<_}
 use native.Mathlib.Omega.{arith}
 use native.Mathlib.Decide.{decLt}
-use borrow.Author.Tests.{eqb-true, eqb-false}
+use borrow.Author.Tests.{eqb-false}
 use lib.Dec.{eqb, ltb}
 use lib.ListN.{length, drop}
 use Rattle.written.specs.Bytes.{quote, dash, digit, oneOf, noneOf, byteAt, decimal}
-use Rattle.written.specs.HeaderText.{Range}
 use Rattle.laws.specs.Runs.{run, stop}
 use Rattle.laws.proofs.Runs.{stop-from, byte-out}
 use Rattle.text_numbers.specs.Answers.{unsignedOf, unsignedFrom, unsignedAt}
 use Rattle.text_numbers.specs.declared.Unsigned.{Unsigned}
 use Rattle.text_numbers.specs.declared.Unsigned.the-variants as unsigned
-use Rattle.head_de.specs.Values.{cursor, quotedTo, bareTo, textAt, numberOf, numberAt, flagAt, delimiterAt, elementOf, elementAt, secondOf, firstOf, pairAt}
+use Rattle.head_de.specs.Values.{cursor, textAt, numberOf, numberAt, flagAt, delimiterAt, elementOf, elementAt, secondOf, firstOf, pairAt}
 use Rattle.head_de.specs.Readings.{Reading, read, refused, ofText, ofNumber, ofFlag, ofPair}
 use Rattle.error.specs.declared.Refusal.{Refusal}
 use Rattle.error.specs.declared.Refusal.the-variants as refusal

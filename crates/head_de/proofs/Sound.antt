@@ -1,7 +1,7 @@
 -- The readers of single values answer as `written` says: what is read is what the text says, and each refusal has the number and the place of what is wrong.
 -- (That `written` allows no other answer is proved there.)
-use mathlib.Core.Path.{_≡_, refl, sym, ap, _∙_, subst}
-use mathlib.Core.Bool.{Bool, true, false, not, cond, _||_}
+use mathlib.Core.Path.{_≡_, refl, sym, ap, _∙_}
+use mathlib.Core.Bool.{Bool, true, false, cond}
 use mathlib.Core.List.{List, [], _∷_}
 use Prim.Native.Nat.{ℕ, _+_, _-_, _^_, _≤_, _<_}
 use native.Mathlib.Omega.{arith}
@@ -9,8 +9,8 @@ use native.Mathlib.Decide.{decLt}
 use borrow.Author.Tests.{eqb-true, eqb-false, ltb-true, ltb-false}
 use lib.Dec.{eqb, ltb}
 use lib.ListN.{length, getD, drop}
-use Rattle.written.specs.Bytes.{quote, dash, digit, oneOf, noneOf, byteAt, At, Ends, over, met, part, between, Span, decimal}
-use Rattle.written.specs.HeaderText.{Text, Number, Flag, Led, swallowed, plain, Range, Pair}
+use Rattle.written.specs.Bytes.{quote, dash, digit, oneOf, noneOf, byteAt, At, Ends, over, met, part, between, decimal}
+use Rattle.written.specs.HeaderText.{Text, Number, Flag, Led, swallowed, plain, Pair}
 use Rattle.written.specs.HeaderText as says
 use Rattle.written.specs.Faults.{NoText, NoNumber, no-digit, too-large, NoFlag, NoSecond, single, second, NoPair}
 use Rattle.written.proofs.Tests.{differ}
@@ -22,7 +22,6 @@ use Rattle.error.specs.Numbers as error
 use Rattle.error.specs.declared.Refusal.{Refusal}
 use Rattle.error.specs.declared.Refusal.the-variants as refusal
 use Rattle.text_numbers.specs.Answers.{unsignedOf, unsignedFrom, unsignedAt}
-use Rattle.text_numbers.specs.declared.Unsigned.{Unsigned}
 use Rattle.text_numbers.specs.declared.Unsigned.the-variants as unsigned
 use Rattle.head_de.specs.Values.{cursor, endsAt, textAt, numberOf, numberAt, flagAt, delimiterAt, elementOf, elementAt, secondOf, firstOf, pairAt}
 use Rattle.head_de.specs.Readings.{Reading, read, refused, ofText, ofNumber, ofFlag, ofPair}

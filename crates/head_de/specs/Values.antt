@@ -6,7 +6,6 @@ use lib.Dec.{ltb, eqb}
 use lib.ListN.{length}
 use Rattle.written.specs.Bytes.{newline, quote, comma, dash, colon, bracket, oneOf, noneOf, byteAt}
 use Rattle.laws.specs.Runs.{stop}
-use Rattle.error.specs.declared.Refusal.{Refusal}
 use Rattle.error.specs.declared.Refusal.the-variants as refusal
 use Rattle.text_numbers.specs.Answers.{unsignedAt}
 use Rattle.text_numbers.specs.declared.Unsigned.{Unsigned}

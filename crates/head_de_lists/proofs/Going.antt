@@ -1,26 +1,25 @@
 -- A list while it is read, over any reader of its items: what is left answers as the whole does. One law for each way out of a turn.
-use mathlib.Core.Path.{_≡_, refl, sym, ap, _∙_}
-use mathlib.Core.List.{List, [], _∷_, _++_, map}
-use Prim.Native.Nat.{ℕ, zero, suc, _+_, _-_, _≤_, _<_}
+use mathlib.Core.Path.{_≡_, refl, ap, _∙_}
+use mathlib.Core.List.{List, [], _∷_, _++_}
+use Prim.Native.Nat.{ℕ, suc, _+_, _-_, _≤_, _<_}
 use native.Mathlib.Omega.{arith}
 use native.Mathlib.Decide.{decLt}
-use mathlib.Core.Bool.{cond}
 use borrow.Author.Tests.{lt-ltb, le-ltb}
-use lib.ListN.{length, length-append, set}
+use lib.ListN.{length, length-append}
 use Rattle.written.specs.Bytes as written
 use Rattle.written.specs.Bytes.{comma}
 use Rattle.written.specs.HeaderText as says
 use Rattle.error.specs.declared.Refusal.{Refusal}
 use Rattle.error.specs.declared.Refusal.the-variants as refusal
 use Rattle.head_record.specs.Empty.{noSpan, noRange}
-use Rattle.head_record.specs.Lists.{spanOf, rangeOf, filled}
+use Rattle.head_record.specs.Lists.{spanOf, rangeOf}
 use Rattle.head_record.proofs.Filled.{filled-with, filled-past}
 use Rattle.head_de.specs.Values.{delimiterAt}
 use Rattle.head_de.specs.Readings.{Reading, read, refused}
 use Rattle.head_de.specs.declared.Cursor.{Cursor}
 use Rattle.head_de.specs.declared.Delimiter.{Delimiter}
 use Rattle.head_de.specs.declared.Delimiter.the-variants as delimiter
-use Rattle.head_de.proofs.Moves.{Onward, read-moves, delimiter-moves}
+use Rattle.head_de.proofs.Moves.{delimiter-moves}
 use Rattle.head_de_lists.specs.Lists.{afterItem, itemOf, itemsFrom, itemsAt, spansOf, rangesOf, spansWith, rangesWith}
 
 pub length-one-more : {A : Type 0} (l : List A) (a : A) → length (l ++ (a ∷ [])) ≡ length l + 1

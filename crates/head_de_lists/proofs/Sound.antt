@@ -1,11 +1,11 @@
 -- A list answers as `written` says, where its items do.
-use mathlib.Core.Path.{_≡_, refl, sym, ap, _∙_}
+use mathlib.Core.Path.{_≡_, refl}
 use mathlib.Core.Bool.{false}
 use mathlib.Core.List.{List, [], _∷_, _++_}
 use Prim.Native.Nat.{ℕ, zero, suc, _+_, _≤_, _<_}
 use native.Mathlib.Omega.{arith}
 use lib.ListN.{length}
-use Rattle.written.specs.Bytes.{comma, oneOf, At, Ends}
+use Rattle.written.specs.Bytes.{comma, oneOf, Ends}
 use Rattle.written.specs.HeaderText.{Led, swallowed, plain, Many, none, Passed, Listed, empty, full}
 use Rattle.written.specs.Faults.{NoList, item}
 use Rattle.written_total.proofs.Total.{snoc}

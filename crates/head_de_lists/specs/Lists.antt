@@ -1,5 +1,5 @@
 -- What reading a comma list answers, over any reader of its items; and how a list of strings or pairs stands in an array.
-use mathlib.Core.Bool.{Bool, cond}
+use mathlib.Core.Bool.{cond}
 use mathlib.Core.List.{List, [], _∷_, _++_, map}
 use Prim.Native.Nat.{ℕ, zero, suc, _+_}
 use lib.Dec.{ltb}
@@ -17,7 +17,6 @@ use Rattle.head_de.specs.declared.Delimiter.{Delimiter}
 use Rattle.head_de.specs.declared.Delimiter.the-variants as delimiter
 use Rattle.head_de_lists.specs.declared.Spans.{Spans}
 use Rattle.head_de_lists.specs.declared.Ranges.{Ranges}
-use Rattle.head_de_lists.specs.declared.Outcome.{Outcome}
 use Rattle.head_de_lists.specs.declared.Outcome.the-variants as outcome
 use Rattle.head_de_lists.specs.declared.StringList.{StringList}
 use Rattle.head_de_lists.specs.declared.PairList.{PairList}

@@ -11,7 +11,7 @@ use text_parts::Span;
 ghost use mathlib.Core.Path.{_≡_};
 ghost use Prim.Native.Nat.{_+_, _<_, _^_};
 ghost use mathlib.Core.List.{[]};
-ghost use Rattle.head_de.specs.Values.{cursor, delimitersOf, textAt, pairAt};
+ghost use Rattle.head_de.specs.Values.{delimitersOf, textAt, pairAt};
 ghost use Rattle.head_de.specs.Readings.{ofText, ofPair};
 ghost use Rattle.head_de_lists.specs.Lists.{spansOf, rangesOf, spansWith, rangesWith, stringsIn, pairsIn, itemsAt, listAt};
 

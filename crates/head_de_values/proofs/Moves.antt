@@ -5,7 +5,7 @@ use mathlib.Core.Option.{some, none}
 use Prim.Native.Nat.{ℕ, _≤_}
 use native.Mathlib.Omega.{arith}
 use Rattle.written.specs.Bytes.{newline, comma, noneOf}
-use Rattle.written.specs.HeaderText.{Kind, a-string, a-number, a-bool, strings, a-pair, pairs, perhaps-a-pair, anything, Value, Range, text, number, flag, texts, range, ranges, perhaps}
+use Rattle.written.specs.HeaderText.{Kind, a-string, a-number, a-bool, strings, a-pair, pairs, perhaps-a-pair, anything, Range, text, number, flag, texts, range, ranges, perhaps}
 use Rattle.laws.proofs.Runs.{stop-from}
 use Rattle.head_de.specs.Values.{endsAt, textAt, numberAt, flagAt, pairAt}
 use Rattle.head_de.specs.Readings.{Reading, read, refused, mapped, ofText, ofNumber, ofFlag, ofPair}

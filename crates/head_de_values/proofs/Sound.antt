@@ -1,14 +1,14 @@
 -- A value of any kind answers as `written` says.
-use mathlib.Core.Path.{_≡_, refl, sym, ap, _∙_}
+use mathlib.Core.Path.{_≡_, refl, sym, _∙_}
 use mathlib.Core.Bool.{Bool, true, false, cond, _||_}
 use mathlib.Core.List.{List, [], _∷_}
 use mathlib.Core.Option.{some, none}
-use Prim.Native.Nat.{ℕ, _+_, _-_, _≤_, _<_}
+use Prim.Native.Nat.{ℕ, _≤_}
 use native.Mathlib.Omega.{arith}
 use lib.Dec.{eqb}
 use lib.ListN.{length, getD}
 use Rattle.written.specs.Bytes.{newline, comma, dash, isNewline, oneOf, noneOf, Ends, over, met}
-use Rattle.written.specs.HeaderText.{Text, Pair, Range, Kind, a-string, a-number, a-bool, strings, a-pair, pairs, perhaps-a-pair, anything, Value, text, number, flag, texts, range, ranges, perhaps, unread, Reads, is-string, is-number, is-bool, are-strings, is-pair, are-pairs, is-absent, is-present, is-unknown}
+use Rattle.written.specs.HeaderText.{Text, Pair, Range, Kind, a-string, a-number, a-bool, strings, a-pair, pairs, perhaps-a-pair, anything, text, number, flag, texts, range, ranges, perhaps, Reads, is-string, is-number, is-bool, are-strings, is-pair, are-pairs, is-absent, is-present, is-unknown}
 use Rattle.written.specs.Faults.{NoText, NoPair, Unreadable, no-string, no-number, no-bool, no-strings, no-pair, no-pairs, no-present}
 use Rattle.laws.specs.Runs.{stop}
 use Rattle.laws.proofs.Cursor.{stop-each, unknown-value}

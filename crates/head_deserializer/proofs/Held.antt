@@ -15,15 +15,13 @@ use types.Kit.{Given, ‵, raw, _⊛_, ⋆, given, _$_, _∵_, !, qed, move, dro
 use denote.RattleType.{RattleType, owns}
 use denote.Laws.{Is}
 use denote.Builtin.{u8}
-use denote.Ref.{RefT}
 use denote.Signature.{namedLft}
 use denote.Slice.{sliceVal, ShrSlice}
-use denote.Steps.{owned, nothing}
+use denote.Steps.{owned}
 use denote.Enum.Laws as EL
 use denote.Struct.Declared.{Declared}
 use denote.Struct.Laws as LL
 use denote.Struct.Rest.{all-own, ownAt, rest, own-open, own-out}
-use denote.Struct.Values.{Values}
 use Rattle.head_de.proofs.Cursor as C
 use Rattle.head_de.proofs.Cursor.Laws as C′
 use Rattle.head_de.proofs.Delimiters as D

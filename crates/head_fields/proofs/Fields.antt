@@ -1,12 +1,12 @@
 -- The laws of the tables: past the last field, the kind of a key by its field's number, and what was not seen.
-use mathlib.Core.Path.{_≡_, refl, sym, ap, _∙_}
+use mathlib.Core.Path.{_≡_, refl}
 use mathlib.Core.Bool.{Bool, true, false, cond}
 use mathlib.Core.List.{List, [], _∷_}
 use Prim.Native.Nat.{ℕ, zero, suc, _-_, _≤_, _<_}
 use native.Mathlib.Omega.{arith}
 use lib.ListN.{length, getD}
 use Rattle.written.specs.Bytes.{same}
-use Rattle.written.specs.HeaderText.{Kind, anything, Field, kindOf}
+use Rattle.written.specs.HeaderText.{anything, Field, kindOf}
 use Rattle.head_fields.specs.Fields.{fieldIndex, kindAt, anyMissing}
 
 pub kind-past : (T : List Field) (k : ℕ) → length T ≤ k → kindAt T k ≡ anything

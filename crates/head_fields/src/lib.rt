@@ -3,7 +3,7 @@
 use head_de_values::Kind;
 ghost use mathlib.Core.Path.{_≡_};
 ghost use Prim.Native.Nat.{_≤_};
-ghost use Rattle.written.specs.Record.{global-fields, stream-fields, stream-group, position-fields, position-group};
+ghost use Rattle.written.specs.Record.{global-fields, stream-group, position-fields, position-group};
 ghost use Rattle.head_de_values.specs.Values.{kindFrom};
 ghost use Rattle.head_fields.specs.Names.{nameIndex};
 ghost use Rattle.head_fields.specs.Fields.{fieldsOf, fieldIndex, kindAt, anyMissing};

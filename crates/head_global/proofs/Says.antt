@@ -1,11 +1,10 @@
 -- What the lines of [GLOBAL] make of `Global` is the record that `written` says.
-use mathlib.Core.Path.{_≡_, refl, sym, ap, _∙_, subst}
-use mathlib.Core.Bool.{Bool, true, false, cond}
+use mathlib.Core.Path.{_≡_, refl, ap, _∙_, subst}
+use mathlib.Core.Bool.{true}
 use mathlib.Core.List.{List, [], _∷_, map, List·Memᴰ}
 use mathlib.Core.Option.{Option, some, none}
 use Prim.Native.Nat.{ℕ, _<_}
 use native.Mathlib.Omega.{arith}
-use lib.Dec.{eqb}
 use lib.ListN.{length, getD}
 use Rattle.written.specs.Bytes.{bytes, same, Span}
 use Rattle.written.specs.HeaderText.{Kind, a-string, a-number, strings, Value, text, number, texts, Field, kindOf, Entry, valuesOf, Distinct}
@@ -26,7 +25,7 @@ use Rattle.head_de_values.specs.Values.{valueOf}
 use Rattle.head_de_values.specs.declared.Value as values
 use Rattle.head_fields.specs.Fields.{fieldIndex}
 use Rattle.head_lines.specs.Lines.{kept}
-use Rattle.head_lines.proofs.Kept.{OfKind, Kinded, value-kind, Stands, nowhere, once, one-or-none, kept-none, kept-one, no-field, mem-at, needed, as-text, as-number, as-texts, Leads, leads, first?, only?}
+use Rattle.head_lines.proofs.Kept.{OfKind, Kinded, value-kind, Stands, nowhere, once, one-or-none, kept-none, kept-one, no-field, mem-at, needed, as-text, as-number, as-texts, Leads, leads, first?}
 use Rattle.head_global.specs.Global.{stored, withLine}
 
 abbrev in-value : Value → values.Value

@@ -3,15 +3,14 @@
 use mathlib.Core.Path.{_≡_, refl, sym, ap, _∙_, subst}
 use mathlib.Core.Bool.{Bool}
 use mathlib.Core.List.{List, [], _∷_, _++_}
-use Prim.Native.Nat.{ℕ, zero, suc, _+_, _-_, _≤_, _<_}
+use Prim.Native.Nat.{ℕ, zero, suc, _-_, _≤_, _<_}
 use native.Mathlib.Omega.{arith}
 use lib.ListN.{length}
 use Rattle.written.specs.HeaderText.{Field, Entry}
 use Rattle.error.specs.declared.Refusal.{Refusal}
-use Rattle.head_de.specs.Values.{cursor}
 use Rattle.head_de.specs.declared.Cursor.{Cursor}
 use Rattle.head_fields.specs.Fields.{fieldIndex}
-use Rattle.head_lines.specs.Lines.{Next, entry, end, wrong, lineAt, lineIn, marked, Lines, whole, faulty, onward, linesFrom, unseen, linesAt, onwardRead, readFrom, linesRead, kept}
+use Rattle.head_lines.specs.Lines.{Next, entry, end, wrong, lineAt, lineIn, marked, whole, faulty, onward, linesFrom, unseen, linesAt, onwardRead, readFrom, linesRead, kept}
 use Rattle.head_de_lists.specs.declared.Outcome.the-variants as outcome
 use Rattle.head_de_values.specs.Values.{valueOf}
 use Rattle.head_lines.specs.declared.Line.{Line}

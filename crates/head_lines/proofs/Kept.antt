@@ -2,10 +2,10 @@
 -- missing.
 use mathlib.Core.Path.{_≡_, refl, sym, ap, _∙_, subst}
 use mathlib.Core.Bool.{Bool, true, false, cond, _&&_}
-use mathlib.Core.List.{List, [], _∷_, _++_, List·Memᴰ, List·Memᴰ·head, List·Memᴰ·tail, List·Memᴰ·cases-cons}
-use mathlib.Core.Logic.{_⊎_, ⊎-elim}
+use mathlib.Core.List.{List, [], _∷_, List·Memᴰ, List·Memᴰ·head, List·Memᴰ·tail, List·Memᴰ·cases-cons}
+use mathlib.Core.Logic.{⊎-elim}
 use mathlib.Core.Option.{Option, some, none as nothing}
-use Prim.Native.Nat.{ℕ, zero, suc, _+_, _≤_, _<_}
+use Prim.Native.Nat.{ℕ, zero, suc, _≤_, _<_}
 use native.Mathlib.Omega.{arith}
 use native.Mathlib.Decide.{decLt}
 use borrow.Author.Tests.{eq-eqb, ne-eqb, eqb-true, ltb-true, ltb-false}
@@ -19,7 +19,7 @@ use Rattle.laws.proofs.Ranges.{all, at}
 use Rattle.written_apart.proofs.ApartFile.{same-same}
 use Rattle.written_total.proofs.Total.{same-true}
 use Rattle.head_fields.specs.Fields.{fieldIndex, anyMissing}
-use Rattle.head_fields.proofs.Names.{index-named, named-index, index-one}
+use Rattle.head_fields.proofs.Names.{index-named, index-one}
 use Rattle.head_lines.specs.Lines.{kept}
 use Rattle.head_lines.proofs.Moves.{no as never}
 use Rattle.head_lines.proofs.Marks.{Marks}

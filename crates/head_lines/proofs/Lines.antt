@@ -1,23 +1,22 @@
 -- The laws of a line: what follows its value, and how a line stands in `Line`.
-use mathlib.Core.Path.{_≡_, refl, sym, ap, ap₂, _∙_}
-use mathlib.Core.Bool.{Bool, true, false, cond}
+use mathlib.Core.Path.{_≡_, sym, ap, _∙_}
+use mathlib.Core.Bool.{Bool, true, false}
 use mathlib.Core.List.{List, [], _∷_}
-use Prim.Native.Nat.{ℕ, _+_}
+use Prim.Native.Nat.{ℕ}
 use Rattle.written.specs.Bytes.{newline}
 use Rattle.written.specs.HeaderText as says
-use Rattle.written.specs.HeaderText.{Field, kindOf}
+use Rattle.written.specs.HeaderText.{Field}
 use Rattle.error.specs.declared.Refusal.{Refusal}
 use Rattle.error.specs.declared.Refusal.the-variants as refusal
-use Rattle.head_de.specs.Values.{cursor, endsAt}
-use Rattle.head_de.specs.Readings.{Reading, read, refused}
+use Rattle.head_de.specs.Values.{endsAt}
+use Rattle.head_de.specs.Readings.{Reading}
 use Rattle.head_de.specs.declared.Cursor.{Cursor}
-use Rattle.head_de_lists.specs.declared.Outcome.{Outcome}
 use Rattle.head_de_lists.specs.declared.Outcome.the-variants as outcome
 use Rattle.head_de_values.specs.declared.Value.{Value}
-use Rattle.head_de_values.specs.Values.{valueIn, valueOf, blankOf}
-use Rattle.head_de_values.proofs.Stands.{IsRead, read-of, refused-of}
+use Rattle.head_de_values.specs.Values.{valueIn, blankOf}
+use Rattle.head_de_values.proofs.Stands.{read-of, refused-of}
 use Rattle.head_fields.specs.Fields.{fieldIndex}
-use Rattle.head_lines.specs.Lines.{endedOf, lineValueAt, stoodAt, entryOf, keyedAt, lineIn}
+use Rattle.head_lines.specs.Lines.{endedOf, stoodAt, keyedAt, lineIn}
 use Rattle.head_lines.specs.declared.Step.{Step}
 use Rattle.head_lines.specs.declared.Step.the-variants as step
 use Rattle.head_lines.specs.declared.Line.{Line}

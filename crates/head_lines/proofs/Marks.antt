@@ -1,8 +1,8 @@
 -- The marks of the fields that stood are those of the fields that the lines so far have.
-use mathlib.Core.Path.{_≡_, refl, sym, ap, _∙_, subst}
+use mathlib.Core.Path.{_≡_, refl, sym, ap, _∙_}
 use mathlib.Core.Bool.{Bool, true, false, cond}
 use mathlib.Core.List.{List, [], _∷_, _++_}
-use Prim.Native.Nat.{ℕ, zero, suc, _+_, _≤_, _<_}
+use Prim.Native.Nat.{ℕ, zero, suc, _≤_, _<_}
 use native.Mathlib.Omega.{arith}
 use native.Mathlib.Decide.{decLt, ℕ-discrete}
 use borrow.Author.Tests.{lt-ltb, le-ltb, ltb-true}
@@ -10,7 +10,7 @@ use lib.Dec.{ltb}
 use lib.ListN.{length, getD, set, length-set}
 use lib.Seq.{getD-set-same, getD-set-other}
 use Rattle.written.specs.Bytes.{same}
-use Rattle.written.specs.HeaderText.{Field, Entry, Value, valuesOf}
+use Rattle.written.specs.HeaderText.{Field, Entry, valuesOf}
 use Rattle.written.specs.Faults.{Repeats}
 use Rattle.written.proofs.Tests.{differ}
 use Rattle.written_apart.proofs.ApartFile.{values-append, same-same}

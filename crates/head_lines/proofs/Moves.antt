@@ -1,10 +1,10 @@
 -- A line that is read starts inside, and moves the cursor on.
-use mathlib.Core.Path.{_≡_, refl, sym, ap, _∙_}
+use mathlib.Core.Path.{_≡_, refl}
 use mathlib.Core.Bool.{Bool, true, false, cond}
 use mathlib.Core.List.{List, [], _∷_}
 use Prim.Native.Nat.{ℕ, _+_, _≤_, _<_}
 use native.Mathlib.Omega.{arith}
-use borrow.Author.Tests.{eqb-true, eqb-false}
+use borrow.Author.Tests.{eqb-true}
 use lib.Dec.{eqb}
 use lib.ListN.{length}
 use Rattle.written.specs.Bytes.{newline, colon, isNewline, byteAt, part}
@@ -17,11 +17,11 @@ use Rattle.head_de.specs.Readings.{Reading, read, refused, ofText}
 use Rattle.head_de.specs.declared.Cursor.{Cursor}
 use Rattle.head_de.specs.declared.Text.{Text}
 use Rattle.head_de.specs.declared.Text.the-variants as text
-use Rattle.head_de.proofs.Moves.{behind, Onward, read-moves, text-moves, inside}
+use Rattle.head_de.proofs.Moves.{behind, read-moves, text-moves}
 use Rattle.head_de_values.specs.Values.{readAt}
 use Rattle.head_de_values.proofs.Moves.{value-moves}
 use Rattle.head_fields.specs.Fields.{fieldIndex}
-use Rattle.head_lines.specs.Lines.{keyOf, keyFrom, keyAt, endedOf, lineValueAt, stoodAt, Next, entry, end, wrong, entryOf, keyedAt, lineOf, lineAt}
+use Rattle.head_lines.specs.Lines.{keyOf, keyAt, endedOf, lineValueAt, stoodAt, entry, wrong, entryOf, keyedAt, lineOf, lineAt}
 use Rattle.head_lines.specs.declared.Key.{Key}
 use Rattle.head_lines.specs.declared.Key.the-variants as key
 

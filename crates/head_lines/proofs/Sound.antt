@@ -1,6 +1,6 @@
 -- The lines of a section answer as `written` says: whole lines are a section, and a refusal is what is wrong with it, with its number and place.
 --
-use mathlib.Core.Path.{_≡_, refl, sym, ap, _∙_, subst}
+use mathlib.Core.Path.{_≡_, refl, ap, subst}
 use mathlib.Core.Bool.{Bool, true, false, not, cond}
 use mathlib.Core.List.{List, [], _∷_, _++_}
 use Prim.Native.Nat.{ℕ, zero, suc, _+_, _≤_, _<_}
@@ -8,8 +8,8 @@ use native.Mathlib.Omega.{arith}
 use borrow.Author.Tests.{not-true}
 use lib.Dec.{eqb}
 use lib.ListN.{length, getD}
-use Rattle.written.specs.Bytes.{newline, colon, isNewline, oneOf, byteAt, At, Each, Ends, over, met, part, Span}
-use Rattle.written.specs.HeaderText.{Text, Value, Reads, Field, kindOf, Entry, valuesOf, Distinct, Key, Line, NextLine, Many, none, Section}
+use Rattle.written.specs.Bytes.{newline, colon, isNewline, byteAt, At, Each, Ends, over, met, part}
+use Rattle.written.specs.HeaderText.{Text, Value, Reads, Field, kindOf, Entry, valuesOf, Distinct, Key, NextLine, Many, none, Section}
 use Rattle.written.specs.Faults.{NoText, Unreadable, Repeats, NoValue, NoLine, NoSection}
 use Rattle.written.proofs.Tests.{differ}
 use Rattle.laws.specs.Runs.{stop}
@@ -26,7 +26,7 @@ use Rattle.head_de.proofs.Sound.{Answers, right, wrong as fault, Bytes, at-byte
 use Rattle.head_de_values.specs.Values.{readAt}
 use Rattle.head_de_values.proofs.Sound.{around-newline, newline-ends, ends-newline, value-sound}
 use Rattle.head_fields.specs.Fields.{fieldIndex}
-use Rattle.head_lines.specs.Lines.{keyOf, keyFrom, keyAt, endedOf, lineValueAt, stoodAt, Next, entry, end, wrong, entryOf, keyedAt, lineOf, lineAt, marked, Lines, whole, faulty, onward, linesFrom, unseen, linesAt}
+use Rattle.head_lines.specs.Lines.{keyOf, keyAt, endedOf, lineValueAt, stoodAt, Next, entry, end, wrong, entryOf, keyedAt, lineOf, lineAt, marked, Lines, whole, faulty, onward, linesFrom, linesAt}
 use Rattle.head_lines.specs.declared.Key.the-variants as key
 use Rattle.head_lines.proofs.Marks.{Marks, marks-none, stood-repeats, new-repeats, marks-more}
 

@@ -18,7 +18,6 @@ use Rattle.head_de_values.specs.Values.{readAt, blankOf, valueOf}
 use Rattle.head_fields.specs.Fields.{fieldIndex}
 use Rattle.head_lines.specs.declared.Key.{Key}
 use Rattle.head_lines.specs.declared.Key.the-variants as key
-use Rattle.head_lines.specs.declared.Step.{Step}
 use Rattle.head_lines.specs.declared.Step.the-variants as step
 use Rattle.head_lines.specs.declared.Line.{Line}
 

@@ -16,7 +16,6 @@ use text_base::byte_at;
 use text_base::newline_end;
 use text_parts::part_of;
 ghost use mathlib.Core.Path.{_≡_};
-ghost use lib.ListN.{length};
 ghost use Prim.Native.Nat.{_≤_};
 ghost use Rattle.head_de_values.specs.Values.{kindFrom, valueIn};
 ghost use Rattle.head_fields.specs.Fields.{fieldsOf};

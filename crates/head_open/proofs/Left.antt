@@ -1,5 +1,5 @@
 -- The words behind the sections: those that are 0 and stay so, and of a file that opens the whole record.
-use mathlib.Core.Path.{_≡_, refl, sym, ap, ap₂, _∙_}
+use mathlib.Core.Path.{_≡_, refl, sym, ap, _∙_}
 use mathlib.Core.Bool.{Bool, true, false, cond}
 use mathlib.Core.List.{List, [], _∷_, _++_, append-nil}
 use Prim.Native.Nat.{ℕ, _+_, _≤_}
@@ -13,7 +13,6 @@ use Rattle.laws.proofs.Tables.{sets-front}
 use Rattle.head_record.specs.Empty.{emptyGlobal}
 use Rattle.text_parts.specs.declared.Span.{Span}
 use Rattle.head_record.specs.declared.Global.{Global}
-use Rattle.head_record.specs.declared.Header.{Header}
 use Rattle.head_fields.specs.Fields.{anyMissing}
 use Rattle.head_lines.specs.Lines.{Lines, whole, faulty, linesAt, linesRead, kept}
 use Rattle.head_lines.specs.declared.Verdict.{Verdict}
@@ -23,8 +22,8 @@ use Rattle.head_lines.proofs.Going.{whole-read}
 use Rattle.head_global.specs.Global as global
 use Rattle.head_global.specs.declared.GlobalRead.{GlobalRead}
 use Rattle.head_words.specs.Words.{Zeros, globalWords, streamsWords, positionsWords, headerWords}
-use Rattle.head_words.proofs.Items.{zeros-before, zeros-behind}
-use Rattle.head_words.proofs.Lengths.{length-global, length-streams, length-positions, length-header}
+use Rattle.head_words.proofs.Items.{zeros-behind}
+use Rattle.head_words.proofs.Lengths.{length-global, length-streams, length-header}
 use Rattle.head_put.proofs.Laid.{header-laid}
 use Rattle.head_brackets.specs.Rows.{rowsAt, Going, on, stop-with, over, lastOf}
 use Rattle.error.specs.declared.Refusal.the-variants as refusal
@@ -40,10 +39,9 @@ use Rattle.head_sections.specs.Split.{splitOf}
 use Rattle.head_sections.specs.declared.Parts.{Parts}
 use Rattle.head_sections.specs.declared.Sections.{Sections}
 use Rattle.head_sections.specs.declared.Sections.the-variants as sections
-use Rattle.head_open.specs.Open.{utf8Of, upTo, globalFor, globalOf, groupsFor, streamsFor, streamsOf, positionGroups, groupsRead, afterDurations, positionsFor, noPositionsFor, positionsOf, made, refusedWith, headerOf, withPositions, withStreams, withGlobal, partsOf, splitInto, openOf}
+use Rattle.head_open.specs.Open.{utf8Of, upTo, globalFor, globalOf, groupsFor, streamsFor, streamsOf, positionGroups, afterDurations, positionsFor, noPositionsFor, positionsOf, made, refusedWith, headerOf, withPositions, withStreams, withGlobal, partsOf, splitInto, openOf}
 use Rattle.head_open.specs.Left as left
 use Rattle.head_open.specs.Left.{globalLeft, streamsLeft, durationsLaid, positionsLeft, behindPositions, behindStreams, behindGlobal, partsLeft, splitLeft, openLeft}
-use Rattle.head_open.specs.declared.Opened.{Opened}
 use Rattle.head_open.specs.declared.PositionRead.{PositionRead}
 
 -- ---- words that stay 0

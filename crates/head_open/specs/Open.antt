@@ -1,5 +1,5 @@
 -- What opening a file answers, and which text COMMENT is.
-use mathlib.Core.Bool.{Bool, true, false, cond}
+use mathlib.Core.Bool.{Bool, cond}
 use mathlib.Core.List.{List}
 use Prim.Native.Nat.{ℕ, _+_, _-_, _≤_}
 use lib.Dec.{ltb}
@@ -11,7 +11,7 @@ use Rattle.error.specs.declared.Refusal.the-variants as refusal
 use Rattle.text_utf8.specs.Check.{checkOf}
 use Rattle.text_utf8.specs.declared.Answer.{Answer}
 use Rattle.text_utf8.specs.declared.Answer.the-variants as answer
-use Rattle.head_record.specs.Empty.{emptyGlobal, emptyHeader}
+use Rattle.head_record.specs.Empty.{emptyHeader}
 use Rattle.text_parts.specs.declared.Span.{Span}
 use Rattle.head_record.specs.declared.Global.{Global}
 use Rattle.head_record.specs.declared.Header.{Header}
@@ -29,7 +29,6 @@ use Rattle.head_positions.specs.declared.Positions.{Positions}
 use Rattle.head_positions.specs.declared.GroupsRead as positions-read
 use Rattle.head_ungrouped.specs.Ungrouped.{noDurations, durationsIn, verdictIn}
 use Rattle.head_ungrouped.specs.declared.Durations.{Durations}
-use Rattle.head_ungrouped.specs.declared.DurationsRead.{DurationsRead}
 use Rattle.head_sections.specs.Split.{splitOf}
 use Rattle.head_sections.specs.declared.Parts.{Parts}
 use Rattle.head_sections.specs.declared.Sections.{Sections}

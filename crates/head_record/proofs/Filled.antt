@@ -1,9 +1,9 @@
 -- The laws of a list in an array of n places: one more item, while there is room and past it; and the first places of a longer array.
-use mathlib.Core.Path.{_≡_, refl, sym, ap, _∙_}
+use mathlib.Core.Path.{_≡_, refl, ap}
 use mathlib.Core.List.{List, [], _∷_, _++_, map}
-use Prim.Native.Nat.{ℕ, zero, suc, _+_, _≤_, _<_}
+use Prim.Native.Nat.{ℕ, zero, suc, _≤_, _<_}
 use native.Mathlib.Omega.{arith}
-use lib.ListN.{length, set, getD}
+use lib.ListN.{length, set}
 use Rattle.head_record.specs.Lists.{filled}
 
 module _ {A B : Type 0} (d : B) (f : A → B) where

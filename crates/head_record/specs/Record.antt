@@ -1,7 +1,7 @@
 -- How the record that a file says (`written`) stands in the structs: lists in arrays as long as their limits, what is absent as zero and a mark.
 --
 use mathlib.Core.Bool.{Bool, true, false}
-use mathlib.Core.List.{List, map}
+use mathlib.Core.List.{map}
 use mathlib.Core.Option.{Option, some, none}
 use lib.ListN.{length}
 use Rattle.written.specs.Bytes as written

@@ -1,23 +1,23 @@
 -- A file splits as the answer says, and where the answer is that it does not split, it splits in no way.
 use mathlib.Core.Path.{_≡_, refl, sym, ap, ap₂, _∙_, subst}
 use mathlib.Core.Bool.{Bool, true, false, cond, _&&_}
-use mathlib.Core.List.{List, [], _∷_, _++_, append-assoc}
+use mathlib.Core.List.{List, [], _∷_, _++_}
 use Prim.Native.Nat.{ℕ, zero, suc, _+_, _-_, _≤_, _<_}
 use native.Mathlib.Omega.{arith}
 use borrow.Author.Tests.{eqb-true, lt-ltb, ltb-true}
 use lib.Dec.{eqb, ltb}
-use lib.ListN.{length, getD, take, drop, length-append, length-take, length-drop, take-append-drop}
+use lib.ListN.{length, take, drop, length-append, length-drop, take-append-drop}
 use lib.Seq.{take-append-seam, drop-append-seam, drop-drop, length-take-le}
 use Rattle.written.specs.Bytes.{bytes, newline, bracket, isNewline, same, byteAt, part}
 use Rattle.written.specs.Bytes as written
-use Rattle.written.specs.Sections.{UpToNext, newlines, Part, Sections}
+use Rattle.written.specs.Sections.{UpToNext, newlines, Sections}
 use Rattle.written.specs.Sections as says
-use Rattle.written.proofs.Tests.{differ, both}
-use Rattle.written.proofs.OneFile.{heads, tails, one-newline}
+use Rattle.written.proofs.Tests.{both}
+use Rattle.written.proofs.OneFile.{one-newline}
 use Rattle.written_apart.proofs.ApartFile.{same-same}
 use Rattle.written_total.proofs.Total.{same-true}
 use Rattle.laws.specs.Runs.{run, stop}
-use Rattle.laws.proofs.Runs.{byte-is, byte-in}
+use Rattle.laws.proofs.Runs.{byte-is}
 use Rattle.head_record.specs.Empty.{span}
 use Rattle.text_parts.specs.declared.Span.{Span}
 use Rattle.head_lines.proofs.Moves.{no as never}

@@ -1,5 +1,5 @@
 -- Where the sections of a file stand, by going from one to the next.
-use mathlib.Core.Bool.{Bool, true, false, cond, _&&_}
+use mathlib.Core.Bool.{Bool, cond, _&&_}
 use mathlib.Core.List.{List, [], _∷_}
 use Prim.Native.Nat.{ℕ, suc, _+_, _-_}
 use lib.Dec.{eqb, ltb}
@@ -7,7 +7,6 @@ use lib.ListN.{length, drop}
 use Rattle.written.specs.Bytes.{bytes, newline, bracket, isNewline, same, byteAt, part}
 use Rattle.laws.specs.Runs.{stop}
 use Rattle.head_record.specs.Empty.{span}
-use Rattle.head_sections.specs.declared.Parts.{Parts}
 use Rattle.head_sections.specs.declared.Sections.{Sections}
 use Rattle.head_sections.specs.declared.Sections.the-variants as sections
 use Rattle.head_sections.specs.declared.Section.{Section}

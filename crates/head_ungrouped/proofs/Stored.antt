@@ -1,5 +1,5 @@
 -- A line's value is stored as its field has it, wherever the line ends.
-use mathlib.Core.Path.{_≡_, refl, sym, ap, _∙_}
+use mathlib.Core.Path.{_≡_, refl}
 use mathlib.Core.Option.{some, none}
 use Prim.Native.Nat.{ℕ}
 use Rattle.written.specs.HeaderText as says

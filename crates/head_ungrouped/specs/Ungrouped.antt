@@ -5,7 +5,6 @@ use Prim.Native.Nat.{ℕ}
 use lib.Dec.{eqb}
 use Rattle.written.specs.HeaderText.{Entry}
 use Rattle.written.specs.Record.{position-fields}
-use Rattle.error.specs.declared.Refusal.{Refusal}
 use Rattle.error.specs.declared.Refusal.the-variants as refusal
 use Rattle.head_record.specs.Empty.{noRange}
 use Rattle.head_de.specs.Values.{cursor}

@@ -1,16 +1,13 @@
 -- The task's rows, cut out of the tables, are what a load has left; the pattern rows come back as they were.
-use mathlib.Core.Path.{_≡_, refl, sym, ap, _∙_, subst}
+use mathlib.Core.Path.{_≡_, ap, _∙_, subst}
 use mathlib.Core.List.{List, _++_, append-nil}
-use Prim.Native.Nat.{ℕ, _+_, _-_, _*_, _/_, _≤_}
-use native.Mathlib.Nat.{one-mul}
+use Prim.Native.Nat.{ℕ, _-_, _*_, _≤_}
 use native.Mathlib.Omega.{arith}
 use lib.ListN.{length, take, drop, drop-of-length-le, take-append-drop}
 use lib.Seq.{sets}
 use borrow.Rule.Slice.PartMut.{putMid}
 use Rattle.laws.proofs.Tables.{sets-front}
 use Rattle.written.specs.Sharing.{Side, own}
-use Rattle.tree_question.specs.Questions.{questionsAt}
-use Rattle.load_questions.specs.Words.{patternWords}
 use Rattle.load_plan.specs.declared.Plan.{Plan}
 use Rattle.load_bounds.specs.Bounds.{Cut}
 use Rattle.load_bounds.proofs.Laws.{cut-own, cut-length}

@@ -1,7 +1,7 @@
 -- One model in place of what a task holds, and its first broken rule: what the step answers and leaves, by computation (02, Wish 11).
 use mathlib.Core.Path.{_≡_}
 use mathlib.Core.List.{List}
-use Prim.Native.Nat.{ℕ, _*_}
+use Prim.Native.Nat.{ℕ}
 use Rattle.written.specs.Sharing.{Side, Held}
 use Rattle.error.specs.declared.Refusal.{Refusal}
 use Rattle.head_record.specs.declared.Header.{Header}

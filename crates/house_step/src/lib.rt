@@ -11,7 +11,6 @@ use load_plan::data_of;
 use load_plan::needs;
 use load_shared::load_planned;
 use load_unload::unload;
-ghost use mathlib.Core.Path.{_≡_};
 ghost use Prim.Native.Nat.{_≤_};
 ghost use lib.ListN.{length};
 ghost use Rattle.head_words.specs.Words.{headerAt};

@@ -1,5 +1,5 @@
 -- The names of STREAM_TYPE as they stand in words, compared one with another; and each way through the two rules.
-use mathlib.Core.Path.{_≡_, refl, sym, ap, ap₂, _∙_}
+use mathlib.Core.Path.{_≡_, sym, ap, ap₂, _∙_}
 use mathlib.Core.Bool.{Bool, true, false, not, cond}
 use mathlib.Core.List.{List}
 use Prim.Native.Nat.{ℕ, _+_, _*_, _≤_, _<_}
@@ -7,8 +7,7 @@ use native.Mathlib.Omega.{arith}
 use lib.Dec.{eqb}
 use lib.ListN.{getD}
 use Rattle.written.specs.Bytes.{same}
-use Rattle.laws.specs.Every.{all}
-use Rattle.laws.proofs.Every.{Passing, passing-none, passing-on, passing-off, passing-end}
+use Rattle.laws.proofs.Every.{Passing, passing-on, passing-off, passing-end}
 use Rattle.head_record.specs.Empty.{noSpan}
 use Rattle.text_parts.specs.declared.Span.{Span}
 use Rattle.head_words.specs.Words.{wordAt, spanAt, globalAt, headerAt}

@@ -3,8 +3,7 @@
 ghost use mathlib.Core.Path.{_≡_};
 ghost use Prim.Native.Nat.{_+_, _*_, _≤_, _<_, _/_};
 ghost use lib.ListN.{length};
-ghost use Rattle.laws.specs.Every.{all};
-ghost use Rattle.house_values.specs.Values.{goodMean, goodVariance, goodValue, pairGood, pairsGood, valuesGood};
+ghost use Rattle.house_values.specs.Values.{goodMean, goodVariance, goodValue, pairsGood, valuesGood};
 
 // The bits of infinity, and the sign's.
 const INFINITY: u64 = 9218868437227405312;

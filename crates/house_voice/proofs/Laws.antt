@@ -1,8 +1,8 @@
 -- The laws of going over a voice's models: the models that are left, from the state that the loop is in, end as all of them do from the first.
-use mathlib.Core.Path.{_≡_, refl, sym, ap, ap₂, _∙_, subst}
+use mathlib.Core.Path.{_≡_, refl, sym, ap, ap₂, _∙_}
 use mathlib.Core.Bool.{Bool, true, false, cond}
 use mathlib.Core.List.{List, [], _∷_}
-use Prim.Native.Nat.{ℕ, zero, suc, _+_, _-_, _≤_, _<_}
+use Prim.Native.Nat.{ℕ, zero, suc, _-_, _≤_, _<_}
 use native.Mathlib.Omega.{arith}
 use borrow.Author.Tests.{ne-eqb, eq-eqb}
 use lib.Dec.{eqb}
@@ -28,7 +28,6 @@ use Rattle.load_voice.specs.declared.NextModel.the-variants.{Model, End}
 use Rattle.trail_voice.specs.Voice.{whichNumber}
 use Rattle.trail_voice.proofs.Laws.{At, first-at, next-at, last-one, then-ones}
 use Rattle.house_step.specs.Steps.{boundsOf, stepFor, emptied, stepOf}
-use Rattle.house_step.specs.declared.Step.{Step}
 use Rattle.house_step.specs.declared.Step.the-variants as step
 use Rattle.house_voice.specs.Voice.{After, broken, firstOf, voiceOn, voiceFrom, voiceOf, JudgesVoice}
 use Rattle.house_voice.specs.declared.Broken.{Broken}

@@ -1,26 +1,26 @@
 -- What the call promises is what `written` says of a label's answers, both ways: `answers-said`, `said-answers`.
 use mathlib.Core.Path.{_≡_, refl, sym, ap, ap₂, _∙_, subst}
-use mathlib.Core.Bool.{Bool, true, false, cond, _&&_, _||_}
+use mathlib.Core.Bool.{Bool, true, false, _&&_}
 use mathlib.Core.List.{List, [], _∷_, _++_, Forall₂, Forall₂·nil, Forall₂·cons}
 use Prim.Native.Nat.{ℕ, zero, suc, _+_, _-_, _≤_, _<_}
 use native.Mathlib.Decide.{decLt}
 use native.Mathlib.Omega.{arith}
-use borrow.Author.Tests.{lt-ltb, ltb-true, ltb-false, le-leb, leb-true, eq-eqb, ne-eqb}
-use lib.Dec.{ltb, eqb}
+use borrow.Author.Tests.{lt-ltb, ltb-true, le-leb}
+use lib.Dec.{ltb}
 use lib.ListN.{length, drop}
 use lib.Seq.{sets}
 use Rattle.written.specs.Bytes.{part}
 use Rattle.written.specs.Linking.{Nth, Row}
 use Rattle.written.specs.Matching.{PatternFits, RowFits, Yes, by, AnswerByte, yes-byte, no-byte, Answered, outside, short, filled}
 use Rattle.written.proofs.Answers.{answered-once}
-use Rattle.laws.specs.Every.{all, some}
+use Rattle.laws.specs.Every.{all}
 use Rattle.laws.proofs.Every.{both, first-of, second-of, all-each, each-all, some-at, at-some}
 use Rattle.laws.proofs.Tables.{sets-front}
 use Rattle.table_rows.specs.Rows.{questionRows, questionFirst, questionPatterns, patternRows, patternStart, patternLen, questionRow, patternRow, rowsFrom, questionTable, patternTable}
 use Rattle.table_rows.proofs.Stand.{all-there, row-of, length-from}
 use Rattle.label_match.specs.Matched.{matchOf}
 use Rattle.label_match.proofs.Matched.{match-sound, match-complete}
-use Rattle.label_answers.specs.Answering.{bytesFit, patternFits, rowFits, rowsFit, patternMatches, rowMatches, byteOf, bytesFrom, answerBytes, answersNumber, answersAfter, Answering}
+use Rattle.label_answers.specs.Answering.{bytesFit, patternFits, rowFits, rowsFit, patternMatches, rowMatches, byteOf, bytesFrom, answerBytes, Answering}
 use Rattle.label_answers.proofs.Laws.{no-bytes, by-room, inside, refused-outside, refused-short, answered-all}
 
 never : {b : Bool} → b ≡ true → b ≡ false → ⊥

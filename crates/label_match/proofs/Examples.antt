@@ -1,8 +1,7 @@
 -- Worked cases of 02's Wish 1, by computation.
 use mathlib.Core.Path.{_≡_, refl}
 use mathlib.Core.Bool.{Bool, true, false}
-use mathlib.Core.List.{List, [], _∷_}
-use Prim.Native.Nat.{ℕ}
+use mathlib.Core.List.{[], _∷_}
 use Prim.Native.String.{String}
 use Rattle.written.specs.Bytes.{bytes}
 use Rattle.label_match.specs.Matched.{passes, someEnd, matchOf}

@@ -6,11 +6,11 @@ use Prim.Native.Nat.{ℕ, zero, suc, _+_, _-_, _≤_, _<_}
 use native.Mathlib.Decide.{decLt}
 use native.Mathlib.Numerals.{add-one}
 use native.Mathlib.Omega.{arith}
-use borrow.Author.Tests.{eq-eqb, ne-eqb}
+use borrow.Author.Tests.{ne-eqb}
 use lib.Dec.{eqb}
 use lib.ListN.{length, getD, take, drop, length-drop, take-append-drop, drop-of-length-le}
 use lib.Seq.{drop-drop, drop-cons, take-all, length-take-le, getD-drop}
-use Rattle.label_match.specs.Matched.{passes, headed, someEnd, matchOf, plain, front}
+use Rattle.label_match.specs.Matched.{passes, someEnd, matchOf, plain, front}
 use Rattle.label_match.specs.Parts.{PartEnd, Finds}
 use Rattle.label_match.specs.declared.Found.{Found}
 use Rattle.label_match.specs.declared.Found.the-variants.{At, Nowhere}

@@ -4,7 +4,6 @@ use mathlib.Core.List.{List, [], _∷_}
 use Prim.Native.Nat.{ℕ}
 use native.Mathlib.Omega.{arith}
 use lib.IntN.{ℤ}
-use lib.ListN.{length}
 use lib.Seq.{sets}
 use Rattle.walk_depth.specs.declared.Depth.{Depth}
 use Rattle.walk_depth.proofs.Saying.{says-once}

@@ -1,9 +1,9 @@
 -- The laws of runs, over any test p: at a place the run goes on, or it stops there. Each loop that scans has `stop p s i ≡ stop p s at`
 -- as its invariant, and cites `stop-on` for a turn and `stop-here` or `stop-end` for its exit.
 --
-use Prim.Native.Nat.{ℕ, suc, _+_, _*_, _-_, _≤_, _<_}
-use mathlib.Core.Path.{_≡_, refl, sym, ap, _∙_}
-use mathlib.Core.Bool.{Bool, true, false, cond}
+use Prim.Native.Nat.{ℕ, _+_, _≤_, _<_}
+use mathlib.Core.Path.{_≡_, sym, ap, _∙_}
+use mathlib.Core.Bool.{Bool, true, false}
 use mathlib.Core.List.{List, [], _∷_}
 use native.Mathlib.Numerals.{add-one}
 use native.Mathlib.Omega.{arith}

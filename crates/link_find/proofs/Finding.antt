@@ -6,24 +6,21 @@ use Prim.Native.Nat.{ℕ, zero, suc, _+_, _-_, _≤_, _<_}
 use native.Mathlib.Numerals.{add-one}
 use native.Mathlib.Omega.{arith}
 use borrow.Author.Tests.{eq-eqb, ne-eqb, eqb-true}
-use lib.Dec.{eqb}
 use lib.ListN.{length}
 use Rattle.written.specs.Said.{QuestionPlace}
 use Rattle.written.specs.Linking.{Nth, here, there}
 use Rattle.laws.proofs.Nth.{nth-inside, nth-of}
 use Rattle.laws.specs.Steps.{Ending, doneAt, brokenAt, Step, next, last, broken, Reading, readOf}
 use Rattle.laws.proofs.Parted.{onward}
-use Rattle.text_spaces.specs.declared.Place.{Place}
 use Rattle.text_spaces.specs.declared.Place.the-variants as place
-use Rattle.tree_question.specs.Questions.{headAt, itemAt, afterQuestion, patternsAt, questionFollowed, questionRead, questionHeaded, questionStepAt, questionsAt}
+use Rattle.tree_question.specs.Questions.{headAt, afterQuestion, patternsAt, questionFollowed, questionRead, questionHeaded, questionStepAt}
 use Rattle.tree_question.specs.declared.QuestionHead.the-variants as head
 use Rattle.tree_question.specs.declared.Item.the-variants as item
-use Rattle.tree_question.proofs.Filling.{headed, questions-from, questions-are, begins-question, begins-tree}
+use Rattle.tree_question.proofs.Filling.{headed, questions-from, questions-are}
 use Rattle.tree_question.proofs.Joined.{question-reads}
-use Rattle.tree_line.specs.Lines.{lineStepAt, linesAt}
+use Rattle.tree_line.specs.Lines.{linesAt}
 use Rattle.tree_line.specs.declared.Line.{Line}
-use Rattle.tree_line.specs.declared.LineStep.the-variants as answer
-use Rattle.tree_body.specs.Trees.{Body, Tree, headAt as headOf, afterTree, treeFollowed, treeRead, treeHeaded, treeStepAt, treesAt}
+use Rattle.tree_body.specs.Trees.{Tree, headAt as headOf, afterTree, treeFollowed, treeRead, treeHeaded, treeStepAt, treesAt}
 use Rattle.tree_body.specs.declared.TreeHead.the-variants as tree
 use Rattle.tree_body.specs.declared.TreeStep.{TreeStep}
 use Rattle.tree_body.specs.declared.TreeStep.the-variants as after
@@ -31,16 +28,15 @@ use Rattle.tree_body.proofs.Filling.{trees-are}
 use Rattle.tree_survey_questions.specs.Counts.{patternsCounted, patternsEnded}
 use Rattle.tree_survey_questions.specs.declared.Patterns.the-variants as patterns
 use Rattle.tree_survey_questions.proofs.Counting.{counted-done}
-use Rattle.tree_survey_lines.proofs.Counting.{items-next, items-last, items-broken, next-in, last-in}
 use Rattle.tree_survey.specs.Survey.{treeSurveyed}
 use Rattle.tree_survey.specs.declared.TreeSurvey.the-variants as surveyed
-use Rattle.tree_survey.proofs.Counting.{seen-next, seen-last, seen-broken, more-in}
+use Rattle.tree_survey.proofs.Counting.{seen-next, seen-last, seen-broken}
 use Rattle.written.specs.Bytes.{same}
 use Rattle.link_order.specs.Keys.{idKey}
 use Rattle.text_parts.specs.Parts.{partInside}
 use Rattle.link_search.specs.declared.Found.{Found}
 use Rattle.link_search.specs.declared.Found.the-variants.{At, Nothing}
-use Rattle.link_find.specs.Find.{starOf, lastFrom, nameStep, named, asked, bears, bearer, bearingFrom, bearing, placed, ordered}
+use Rattle.link_find.specs.Find.{starOf, lastFrom, nameStep, named, bears, bearer, bearingFrom, bearing, placed, ordered}
 use Rattle.link_find.specs.declared.Borne.{Borne}
 use Rattle.link_find.specs.declared.Borne.the-variants as borne
 use Rattle.link_find.specs.declared.NameStep.the-variants as name

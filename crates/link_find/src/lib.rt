@@ -28,7 +28,6 @@ ghost use Rattle.tree_line.specs.Lines.{linesAt};
 ghost use Rattle.tree_question.specs.Questions.{questionStepAt, questionsAt};
 ghost use Rattle.tree_body.specs.Trees.{treesAt};
 ghost use Rattle.link_search.specs.declared.Found.the-variants.{At};
-ghost use Rattle.link_find.specs.declared.Borne.the-variants as borne;
 ghost use Rattle.link_find.specs.Find.{starOf, nameStep, asked, bears, bearer, bearing, placed, ordered, Lines};
 
 // A question's name, and where the next question stands; or the last one's; or no question.

@@ -9,7 +9,7 @@ use text_parts::part_inside;
 use tree_question::Item;
 use tree_question::first_item;
 ghost use mathlib.Core.Path.{_≡_};
-ghost use mathlib.Core.Bool.{Bool, cond, _||_};
+ghost use mathlib.Core.Bool.{cond};
 ghost use Prim.Native.Nat.{ℕ, _<_, _≤_};
 ghost use lib.ListN.{length, getD};
 ghost use Rattle.written.specs.Bytes.{same};

@@ -1,6 +1,6 @@
 -- In a list that ascends, where the test 'below T' parts it, stands the first T, if there is one.
 use mathlib.Core.Path.{_≡_, refl, sym, ap, _∙_, subst}
-use mathlib.Core.Bool.{Bool, true, false, cond}
+use mathlib.Core.Bool.{Bool, true, false}
 use mathlib.Core.List.{List, [], _∷_}
 use Prim.Native.Nat.{ℕ, zero, suc, _+_, _^_, _≤_, _<_}
 use native.Mathlib.Decide.{decLt}
@@ -10,7 +10,6 @@ use lib.Dec.{ltb, eqb}
 use lib.ListN.{length, getD}
 use Rattle.link_order.specs.Keys.{keyOf}
 use Rattle.link_order.proofs.Keys.{then-le}
-use Rattle.link_sort.specs.Sorted.{sorted}
 use Rattle.link_sort.proofs.Index.{length-sorted, sorted-rises}
 use Rattle.link_search.specs.Found.{firstFrom}
 use Rattle.link_search.specs.Index.{Ascends}

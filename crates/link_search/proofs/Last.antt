@@ -2,21 +2,19 @@
 use mathlib.Core.Path.{_≡_, refl, sym, ap, _∙_, subst}
 use mathlib.Core.Bool.{Bool, true, false, cond}
 use mathlib.Core.Logic.{_⊎_, inl, inr}
-use mathlib.Core.List.{List, [], _∷_}
+use mathlib.Core.List.{List}
 use Prim.Native.Nat.{ℕ, zero, suc, _+_, _-_, _^_, _≤_, _<_}
 use native.Mathlib.Decide.{decLt}
 use native.Mathlib.Omega.{arith}
-use borrow.Author.Tests.{le-leb, lt-leb, leb-true, leb-false, lt-ltb, le-ltb, ltb-true, ltb-false, eq-eqb, ne-eqb, eqb-true, eqb-false}
-use lib.Dec.{leb, ltb, eqb}
+use borrow.Author.Tests.{le-leb, leb-true, leb-false, eq-eqb, ne-eqb}
+use lib.Dec.{leb, eqb}
 use lib.ListN.{length, getD}
-use Rattle.written.specs.Linking.{times}
 use Rattle.link_order.specs.Keys.{keyOf}
-use Rattle.link_order.proofs.Keys.{apart, first-le, then-le}
-use Rattle.link_sort.specs.Sorted.{sorted}
+use Rattle.link_order.proofs.Keys.{first-le, then-le}
 use Rattle.link_sort.proofs.Order.{le-or-lt}
-use Rattle.link_sort.proofs.Index.{length-sorted, sorted-has, sorted-from, sorted-rises, counted, stands, times-sorted}
-use Rattle.link_search.specs.Found.{lastBelow, firstFrom, countFrom}
-use Rattle.link_search.specs.Index.{Index, Ascends}
+use Rattle.link_sort.proofs.Index.{sorted-has, sorted-from, sorted-rises}
+use Rattle.link_search.specs.Found.{lastBelow, countFrom}
+use Rattle.link_search.specs.Index.{Index}
 use Rattle.link_search.specs.Parted.{Falls, Parted}
 use Rattle.link_search.specs.declared.Found.the-variants.{At, Nothing}
 

@@ -6,7 +6,7 @@ use link_order::id_key;
 use link_order::id_of;
 use link_order::name_of;
 ghost use mathlib.Core.Path.{_≡_};
-ghost use Prim.Native.Nat.{_≤_, _<_, _*_, _/_};
+ghost use Prim.Native.Nat.{_<_, _/_};
 ghost use lib.Dec.{leb, ltb, eqb};
 ghost use lib.ListN.{length};
 ghost use Rattle.written.specs.Bytes.{same};

@@ -11,7 +11,6 @@ use Rattle.tree_line.specs.declared.Line.{Line}
 use Rattle.tree_line.specs.declared.LineStep.{LineStep}
 use Rattle.tree_line.specs.declared.LineStep.the-variants as step
 use Rattle.tree_survey_lines.proofs.Counting.{items-next, items-last, items-broken, next-in}
-use Rattle.link_search.specs.declared.Found.{Found}
 use Rattle.link_search.specs.declared.Found.the-variants.{At, Nothing}
 use Rattle.link_stray.specs.Stray.{firstFrom, strays, strayOf}
 use Rattle.link_stray.specs.declared.Stray.{Stray}

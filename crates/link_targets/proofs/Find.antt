@@ -1,17 +1,17 @@
 -- Lines and leaves found: the answer of each way.
-use mathlib.Core.Path.{_≡_, refl, sym, ap, _∙_, subst}
+use mathlib.Core.Path.{_≡_, sym, ap, _∙_}
 use mathlib.Core.Bool.{Bool, true, false, cond}
 use mathlib.Core.List.{List, [], _∷_}
-use Prim.Native.Nat.{ℕ, zero, suc, _+_, _-_, _*_, _≤_, _<_}
+use Prim.Native.Nat.{ℕ, suc, _+_, _-_, _≤_, _<_}
 use native.Mathlib.Omega.{arith}
 use borrow.Author.Tests.{eq-eqb, ne-eqb}
 use lib.Dec.{eqb}
 use lib.IntN.{ℤ}
-use lib.ListN.{length, take, drop}
+use lib.ListN.{length}
 use Rattle.written.specs.Said.{Ref, node, pdf}
 use Rattle.link_order.specs.Keys.{idKey, idAt}
 use Rattle.link_search.specs.Found.{lastBelow, firstFrom}
-use Rattle.link_search.specs.Index.{Index, Ascends}
+use Rattle.link_search.specs.Index.{Index}
 use Rattle.link_search.specs.declared.Found.{Found}
 use Rattle.link_search.specs.declared.Found.the-variants.{At, Nothing}
 use Rattle.link_search.proofs.Last.{last-is, last-none}

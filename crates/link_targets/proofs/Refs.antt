@@ -1,7 +1,7 @@
 -- References as the work has them, leaves gathered, lines numbered, ids in order.
 use mathlib.Core.Path.{_≡_, refl, sym, ap, _∙_, subst}
 use mathlib.Core.Bool.{Bool, true, false, cond}
-use mathlib.Core.List.{List, [], _∷_, _++_, append-nil, append-assoc}
+use mathlib.Core.List.{List, [], _++_, append-nil, append-assoc}
 use Prim.Native.Nat.{ℕ, zero, suc, _+_, _-_, _*_, _≤_, _<_}
 use native.Mathlib.Decide.{decLt}
 use native.Mathlib.Nat.{add-zero}
@@ -9,7 +9,7 @@ use native.Mathlib.Numerals.{add-one}
 use native.Mathlib.Omega.{arith}
 use borrow.Author.Tests.{eq-eqb, ne-eqb, eqb-true}
 use lib.Dec.{eqb}
-use lib.IntN.{ℤ, pos}
+use lib.IntN.{ℤ}
 use lib.ListN.{length, set, length-set, length-append}
 use lib.Seq.{sets, length-sets}
 use Rattle.written.specs.Said.{Ref, node, pdf}
@@ -17,7 +17,7 @@ use Rattle.laws.proofs.Tables.{sets-append}
 use Rattle.link_order.specs.Keys.{idKey, idAt}
 use Rattle.link_search.specs.Found.{countFrom}
 use Rattle.written.specs.Linking.{pdfOf}
-use Rattle.link_targets.specs.Lines.{refOf, refAt, WorkLine, lineIn, linesFrom, pdfsOf}
+use Rattle.link_targets.specs.Lines.{refOf, refAt, linesFrom, pdfsOf}
 use Rattle.text_parts.specs.Parts.{natOf}
 use Rattle.link_targets.specs.Targets.{orderFrom}
 

@@ -7,12 +7,12 @@ use Prim.Native.Nat.{ℕ, zero, suc, _+_, _-_, _*_, _/_, _^_, _≤_, _<_}
 use native.Mathlib.Omega.{arith}
 use borrow.Author.Tests.{eqb-true, eq-eqb, lt-ltb, ltb-true, ltb-false}
 use lib.Dec.{ltb, eqb}
-use lib.IntN.{ℤ, pos, negsuc}
+use lib.IntN.{ℤ, pos}
 use lib.Signed.{mag}
 use lib.ListN.{length, getD}
-use Rattle.written.specs.Said.{Ref, node, pdf, Line, Body, braces, Question}
+use Rattle.written.specs.Said.{Ref, node, pdf, Line, braces, Question}
 use Rattle.written.specs.Linking as L
-use Rattle.written.specs.Linking.{Nth, here, there, Last, First, LastLine, LastQuestion, NotSingle, pdfOf, Row, branch, leaf, LineRow, row, times, Ascending, ToFirst, to-line, to-first, Records, Declared, borne, a-pdf, Asked, asked, Fault, yes-undeclared, no-undeclared, not-asked, Refused}
+use Rattle.written.specs.Linking.{Nth, here, there, First, LastLine, LastQuestion, NotSingle, pdfOf, Row, branch, leaf, LineRow, row, times, Ascending, ToFirst, to-line, to-first, Records, Declared, borne, a-pdf, Asked, asked, Fault, yes-undeclared, no-undeclared, not-asked, Refused}
 use Rattle.laws.specs.Wholes.{eqZ}
 use Rattle.laws.proofs.Nth.{nth-inside, flatten-append}
 use Rattle.laws.proofs.Wholes.{eqZ-true}
@@ -21,7 +21,6 @@ use Rattle.error.specs.declared.LinkFault.{LinkFault}
 use Rattle.error.specs.declared.LinkFault.the-variants.{NodeRef, QuestionRef, LoneNode}
 use Rattle.link_order.specs.Keys.{idKey, idAt, keyOf}
 use Rattle.link_sort.specs.Sorted.{sorted}
-use Rattle.link_sort.proofs.Order.{le-or-lt}
 use Rattle.link_sort.proofs.Index as I
 use Rattle.link_sort.proofs.Index.{Rises, rises-sorted, times-sorted}
 use Rattle.link_search.specs.Found.{lastBelow, firstFrom}
@@ -34,9 +33,8 @@ use Rattle.text_parts.specs.Parts.{natOf}
 use Rattle.link_targets.specs.Targets.{moved, targetOf}
 use Rattle.link_rows.specs.Rows.{leafRows}
 use Rattle.link_tree.proofs.Whole.{length-lines}
-use Rattle.link_tree.specs.Steps.{stepQuestion, stepNo, stepYes, stepOf, first, outcome, goalsOf, goals}
+use Rattle.link_tree.specs.Steps.{stepQuestion, stepYes, first, outcome, goalsOf, goals}
 use Rattle.link_tree.specs.Linked.{leavesOf, stepIn, recordRows, linkOutcome, linkedRows}
-use Rattle.link_tree.specs.declared.Link.{Link}
 use Rattle.link_tree.specs.declared.Link.the-variants.{Done}
 use Rattle.link_tree.specs.declared.Link.the-variants as link
 use Rattle.link_tree.specs.declared.Step.{Step}

@@ -1,13 +1,13 @@
 -- Lines resolved one after the other: what is left, stored, gives the rows with all of them.
 use mathlib.Core.Path.{_≡_, refl, sym, ap, ap₂, _∙_, subst}
-use mathlib.Core.Bool.{Bool, true, false, cond}
+use mathlib.Core.Bool.{Bool}
 use mathlib.Core.List.{List, [], _∷_}
-use Prim.Native.Nat.{ℕ, zero, suc, _+_, _-_, _*_, _≤_, _<_}
+use Prim.Native.Nat.{ℕ, suc, _+_, _-_, _*_, _≤_, _<_}
 use native.Mathlib.Numerals.{add-one}
 use native.Mathlib.Omega.{arith}
 use borrow.Author.Tests.{eq-eqb, ne-eqb}
 use lib.IntN.{ℤ}
-use lib.ListN.{length, take, drop, set, length-set}
+use lib.ListN.{length, take, drop, set}
 use lib.Seq.{sets, length-sets, take-set-le, drop-set-lt}
 use Rattle.written.specs.Said.{Ref}
 use Rattle.link_search.specs.Index.{Ascends}
@@ -15,12 +15,11 @@ use Rattle.link_search.specs.declared.Found.{Found}
 use Rattle.link_search.specs.declared.Found.the-variants.{At, Nothing}
 use Rattle.link_targets.specs.Lines.{WorkLine, lineIn, linesFrom}
 use Rattle.link_targets.specs.Targets.{targetOf, Ready, Rows}
-use Rattle.link_tree.specs.Steps.{stepQuestion, stepNo, stepYes, stepOf, first, outcome, goalsOf, goals}
+use Rattle.link_tree.specs.Steps.{stepQuestion, stepYes, stepOf, first, outcome, goalsOf, goals}
 use Rattle.error.specs.declared.LinkFault.{LinkFault}
 use Rattle.error.specs.declared.LinkFault.the-variants.{NodeRef, QuestionRef}
 use Rattle.link_tree.specs.declared.Step.{Step}
 use Rattle.link_tree.specs.declared.Step.the-variants.{Goes, Fails}
-use Rattle.link_tree.specs.declared.Link.{Link}
 use Rattle.link_tree.specs.declared.Link.the-variants.{Done, Refused}
 
 -- ---- one line

@@ -1,27 +1,22 @@
 -- Linking a tree of n lines looks at the first 6n words of the work alone.
-use mathlib.Core.Path.{_≡_, refl, sym, ap, ap₂, _∙_, subst}
-use mathlib.Core.Bool.{Bool, true, false, cond}
+use mathlib.Core.Path.{_≡_, refl, ap, ap₂, _∙_}
 use mathlib.Core.List.{List, [], _∷_, _++_}
 use Prim.Native.Nat.{ℕ, zero, suc, _+_, _*_, _/_, _≤_, _<_}
-use native.Mathlib.Numerals.{add-one}
 use native.Mathlib.Omega.{arith}
 use borrow.Author.Tests.{lt-ltb}
-use lib.Dec.{eqb, ltb}
+use lib.Dec.{eqb}
 use lib.IntN.{ℤ, pos}
 use lib.ListN.{length, getD}
 use Rattle.written.specs.Said.{Ref, node, pdf}
 use Rattle.link_order.specs.Keys.{keyOf, idKey, idAt}
 use Rattle.link_sort.specs.Sorted.{sorted}
-use Rattle.link_search.specs.Found.{lastBelow}
 use Rattle.link_search.proofs.Last.{last-ext-below}
-use Rattle.link_targets.specs.Lines.{WorkLine, refAt, lineIn, linesFrom, pdfsOf}
-use Rattle.text_parts.specs.Parts.{natOf}
+use Rattle.link_targets.specs.Lines.{WorkLine, lineIn, linesFrom, pdfsOf}
 use Rattle.link_targets.specs.Targets.{targetOf}
 use Rattle.link_rows.specs.Rows.{leafRows}
 use Rattle.link_tree.specs.Steps.{stepYes, stepOf, first, outcome, goalsOf, goals}
 use Rattle.link_tree.specs.Linked.{leavesOf, stepIn, recordRows, linkOutcome, linkedRows}
 use Rattle.link_tree.specs.declared.Step.{Step}
-use Rattle.link_tree.specs.declared.Link.{Link}
 
 -- ---- what depends on a step depends on its values
 

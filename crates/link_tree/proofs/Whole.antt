@@ -1,20 +1,18 @@
 -- The stages of linking a tree, put together.
 use mathlib.Core.Path.{_≡_, refl, sym, ap, ap₂, _∙_, subst}
 use mathlib.Core.Bool.{Bool, true, false, cond}
-use mathlib.Core.List.{List, [], _∷_, _++_}
+use mathlib.Core.List.{List, [], _∷_}
 use Prim.Native.Nat.{ℕ, zero, suc, _+_, _-_, _*_, _≤_, _<_}
-use native.Mathlib.Numerals.{add-one}
 use native.Mathlib.Omega.{arith}
 use borrow.Rule.Slice.PartMut.{putMid}
 use lib.IntN.{ℤ}
 use lib.ListN.{length, getD, take, drop, length-append}
 use lib.Seq.{sets, length-sets}
-use Rattle.laws.proofs.Tables.{part-sets, part-back, sets-whole, sets-under, sets-at, take-sets, drop-sets}
+use Rattle.laws.proofs.Tables.{part-sets, part-back, sets-whole, sets-under, sets-at, drop-sets}
 use Rattle.link_order.specs.Keys.{keyOf, idKey, idAt}
 use Rattle.link_sort.specs.Sorted.{sorted}
 use Rattle.link_sort.proofs.Index.{length-sorted}
 use Rattle.link_search.specs.Found.{countFrom}
-use Rattle.link_search.specs.Index.{Index, Ascends}
 use Rattle.link_search.proofs.Last.{length-count}
 use Rattle.link_targets.specs.Lines.{WorkLine, lineIn, linesFrom, pdfsOf}
 use Rattle.link_targets.specs.Targets.{targetOf, orderFrom, Ready, in-order, by-index, Rows}

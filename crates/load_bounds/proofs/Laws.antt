@@ -3,7 +3,6 @@ use mathlib.Core.Path.{_≡_, refl, sym, ap, _∙_, subst, fun-ext}
 use mathlib.Core.Bool.{Bool, true, false, not}
 use mathlib.Core.List.{List}
 use Prim.Native.Nat.{ℕ, _+_, _-_, _*_, _/_, _≤_, _<_}
-use native.Mathlib.Nat.{one-mul, div-one}
 use native.Mathlib.Omega.{arith}
 use lib.Dec.{leb}
 use lib.ListN.{length, take, drop}
@@ -11,11 +10,10 @@ use lib.Seq.{sets}
 use borrow.Author.Tests.{leb-true, leb-false, le-leb, lt-leb, not-true, not-false}
 use borrow.Rule.Slice.PartMut.{putMid}
 use Rattle.laws.proofs.Tables.{part-put}
-use Rattle.written.specs.Sharing.{Side, Table, questions, patterns, trees, records, values, width, Held, nothing, startOf, firstRow, own, putRows, Stand, stands}
+use Rattle.written.specs.Sharing.{Side, Table, questions, patterns, trees, records, values, width, Held, nothing, firstRow, own, putRows, Stand, stands}
 use Rattle.load_plan.specs.declared.Plan.{Plan}
 use Rattle.load_apart.proofs.Rows.{within, length-own}
 use Rattle.load_apart.proofs.Tests.{stands-is}
-use Rattle.load_bounds.specs.declared.Held.{Held as Bounds}
 use Rattle.load_bounds.specs.Bounds.{needOf, heldOf, tablesOf, standsAt, Cut}
 
 -- ---- tests

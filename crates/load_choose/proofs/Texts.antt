@@ -4,7 +4,7 @@ use mathlib.Core.Bool.{true}
 use mathlib.Core.List.{List}
 use Prim.Native.Nat.{ℕ}
 use Rattle.head_record.specs.declared.Header.{Header}
-use Rattle.load_choose.specs.Chosen.{streamModel, gvModel, streamBy, gvBy, askedBy, chosenBy, chosenOf}
+use Rattle.load_choose.specs.Chosen.{streamModel, gvModel, streamBy, gvBy, chosenBy, chosenOf}
 use Rattle.load_choose.specs.declared.Which.{Which}
 use Rattle.load_choose.specs.declared.Which.the-variants.{Duration, Stream, Gv}
 

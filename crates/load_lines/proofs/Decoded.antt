@@ -1,12 +1,10 @@
 -- The words of lines read back: what linking finds in the work is what was read of the text.
-use mathlib.Core.Path.{_≡_, refl, sym, ap, ap₂, _∙_, subst}
+use mathlib.Core.Path.{_≡_, refl, sym, ap, ap₂, _∙_}
 use mathlib.Core.List.{List, [], _∷_, _++_, map}
-use Prim.Native.Nat.{ℕ, zero, suc, _+_, _*_, _≤_, _<_}
-use native.Mathlib.Numerals.{add-one}
+use Prim.Native.Nat.{ℕ, suc, _+_, _*_, _<_}
 use native.Mathlib.Omega.{arith}
 use lib.IntN.{ℤ, pos}
 use lib.ListN.{length, getD, length-append}
-use lib.Seq.{getD-append-add}
 use Rattle.written.specs.Said.{Ref, node, pdf}
 use Rattle.laws.specs.Totals.{total}
 use Rattle.tree_reference.specs.References.{pdfCount}
@@ -15,9 +13,9 @@ use Rattle.tree_reference.specs.declared.TreeIndex.the-variants.{Node, Pdf}
 use Rattle.tree_line.specs.declared.Line.{Line}
 use Rattle.tree_survey_lines.specs.Counts.{linePdfs}
 use Rattle.written.specs.Linking.{pdfOf}
-use Rattle.link_targets.specs.Lines.{WorkLine, refOf, refAt, lineIn, linesFrom, pdfsOf}
+use Rattle.link_targets.specs.Lines.{WorkLine, refOf, linesFrom, pdfsOf}
 use Rattle.text_parts.specs.Parts.{natOf}
-use Rattle.load_lines.specs.Words.{kindOf, numberOf, askedAt, wordsOf, lineWords}
+use Rattle.load_lines.specs.Words.{kindOf, numberOf, askedAt, lineWords}
 
 -- a reference of the text as linking has it
 abbrev pub refIndex : TreeIndex → Ref

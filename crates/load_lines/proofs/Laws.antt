@@ -1,7 +1,7 @@
 -- Lines stored one after the other: what is left, stored, gives the work with all of them.
-use mathlib.Core.Path.{_≡_, refl, sym, ap, ap₂, _∙_, subst}
-use mathlib.Core.List.{List, [], _∷_, _++_, append-nil}
-use Prim.Native.Nat.{ℕ, zero, suc, _+_, _-_, _*_, _≤_, _<_}
+use mathlib.Core.Path.{_≡_, refl, sym, ap, _∙_}
+use mathlib.Core.List.{List, append-nil}
+use Prim.Native.Nat.{ℕ, _+_, _*_, _≤_}
 use native.Mathlib.Omega.{arith}
 use lib.IntN.{ℤ}
 use lib.ListN.{length}
@@ -9,7 +9,6 @@ use lib.Seq.{sets, length-sets}
 use Rattle.laws.proofs.Tables.{sets-append}
 use Rattle.tree_line.specs.Lines.{lineStepAt, linesAt}
 use Rattle.tree_line.specs.declared.Line.{Line}
-use Rattle.tree_line.specs.declared.LineStep.{LineStep}
 use Rattle.tree_line.specs.declared.LineStep.the-variants as answer
 use Rattle.tree_survey_lines.proofs.Counting.{items-next, items-last, items-broken}
 use Rattle.load_lines.specs.Words.{askedAt, wordsOf, lineWords}

@@ -18,7 +18,6 @@ ghost use mathlib.Core.Path.{_≡_};
 ghost use Prim.Native.Nat.{_+_, _*_, _≤_, _<_, _^_};
 ghost use lib.ListN.{length};
 ghost use lib.Seq.{sets};
-ghost use Rattle.laws.specs.Steps.{doneAt};
 ghost use Rattle.link_order.specs.Keys.{nameKey, nameAt};
 ghost use Rattle.link_search.specs.Index.{Index};
 ghost use Rattle.tree_line.specs.Lines.{linesAt};

@@ -1,18 +1,17 @@
 -- What a plan and the room for it give each stage that writes; and each way through filling.
 use mathlib.Core.Path.{_≡_, refl, sym, ap, ap₂, _∙_, subst}
 use mathlib.Core.Bool.{Bool, true, false, cond, _&&_}
-use mathlib.Core.List.{List, [], _∷_, _++_}
+use mathlib.Core.List.{List, [], _∷_}
 use Prim.Native.Nat.{ℕ, zero, suc, _+_, _-_, _*_, _/_, _%_, _≤_, _<_}
 use native.Mathlib.Omega.{arith}
 use lib.Dec.{leb, eqb}
-use lib.IntN.{ℤ, pos}
+use lib.IntN.{ℤ}
 use lib.ListN.{length, take, drop, replicate, length-append}
 use lib.Seq.{sets}
 use borrow.Author.Tests.{leb-true, eqb-true}
 use Rattle.written.specs.Bytes.{part}
 use Rattle.written.specs.Blocks.{total}
 use Rattle.pdf_blocks.specs.Values.{wordsAt, blockAt, entryAt, valuesAt}
-use Rattle.pdf_blocks.specs.declared.Block.{Block}
 use Rattle.pdf_blocks.specs.declared.Block.the-variants as block
 use Rattle.pdf_values.specs.Folded.{withBlocks}
 use Rattle.pdf_values.proofs.Laws.{entry-width}

@@ -14,7 +14,7 @@ use Rattle.error.specs.declared.Refusal.the-variants as refusal
 use Rattle.tree_question.specs.Questions.{questionsAt}
 use Rattle.tree_survey_questions.specs.Counts.{patternCount, questionsCounted}
 use Rattle.tree_survey_questions.specs.declared.Questions.the-variants as questions
-use Rattle.tree_body.specs.Trees.{Tree, treesAt}
+use Rattle.tree_body.specs.Trees.{treesAt}
 use Rattle.written.specs.Said.{QuestionPlace}
 use Rattle.tree_survey.specs.Survey as tree-survey
 use Rattle.tree_survey.specs.Survey.{textRead, textAt, treeNegative, treeRecords, treeLines, surveyEnded, surveyOf, surveyAt}

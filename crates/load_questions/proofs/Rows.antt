@@ -6,7 +6,6 @@ use native.Mathlib.Omega.{arith}
 use lib.ListN.{length, length-append}
 use Rattle.written.specs.Bytes.{Span}
 use Rattle.written.specs.Said.{QuestionPlace}
-use Rattle.written.specs.Linking.{Row}
 use Rattle.written.specs.Tables.{patternRow, patternRows, questionRows}
 use Rattle.laws.specs.Totals.{total}
 use Rattle.laws.proofs.Nth.{flatten-append}

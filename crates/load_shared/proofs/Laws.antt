@@ -10,7 +10,7 @@ use lib.IntN.{ℤ}
 use lib.ListN.{length, take, drop}
 use borrow.Author.Tests.{le-leb, lt-leb, not-true, not-false}
 use borrow.Rule.Slice.PartMut.{putMid}
-use Rattle.written.specs.Sharing.{Side, questions, patterns, trees, records, values, width, Held, own, putRows, seen, Stand, stands}
+use Rattle.written.specs.Sharing.{Side, questions, patterns, trees, records, values, width, Held, putRows, seen, Stand, stands}
 use Rattle.error.specs.declared.Refusal.{Refusal}
 use Rattle.error.specs.declared.Refusal.the-variants as refusal
 use Rattle.head_record.specs.declared.Header.{Header}

@@ -1,6 +1,5 @@
 -- What a load into one task's rows answers and leaves, by the file's bytes, the record, the other task's bounds and the slices before it (01, 'Linking and tables'; 02,
 -- Wish 9). Refusals up to 20 leave the slices as they were; 21 to 23 leave the rows needed zero, and all of the work.
-use mathlib.Core.Path.{_≡_}
 use mathlib.Core.Bool.{Bool, cond, _&&_}
 use mathlib.Core.List.{List}
 use Prim.Native.Nat.{ℕ, _*_, _/_, _≤_}
@@ -8,7 +7,6 @@ use lib.Dec.{leb}
 use lib.IntN.{ℤ}
 use lib.ListN.{length}
 use Rattle.written.specs.Sharing.{Side, questions, patterns, trees, records, values, Tables, Held, seen, placed, stands}
-use Rattle.error.specs.declared.Refusal.{Refusal}
 use Rattle.error.specs.declared.Refusal.the-variants as refusal
 use Rattle.head_record.specs.declared.Header.{Header}
 use Rattle.load_choose.specs.declared.Which.{Which}

@@ -1,8 +1,8 @@
 -- A whole text: the question words and the index of names as parts of their tables; what each way through leaves in a table.
-use mathlib.Core.Path.{_≡_, refl, sym, ap, ap₂, _∙_}
+use mathlib.Core.Path.{_≡_, sym, ap, ap₂, _∙_}
 use mathlib.Core.Bool.{Bool, true, false, cond}
-use mathlib.Core.List.{List, []}
-use Prim.Native.Nat.{ℕ, _+_, _-_, _*_, _≤_, _<_}
+use mathlib.Core.List.{List}
+use Prim.Native.Nat.{ℕ, _-_, _*_, _≤_}
 use native.Mathlib.Omega.{arith}
 use lib.IntN.{ℤ, pos}
 use lib.ListN.{length, take, drop, replicate}
@@ -19,7 +19,7 @@ use Rattle.tree_question.specs.Questions.{questionsAt}
 use Rattle.tree_survey_questions.specs.Counts.{patternCount}
 use Rattle.tree_survey_questions.proofs.Counting.{each-asked}
 use Rattle.tree_body.specs.Trees.{treesAt}
-use Rattle.load_questions.specs.Words.{patternWords, questionWords}
+use Rattle.load_questions.specs.Words.{patternWords}
 use Rattle.load_questions.proofs.Rows.{patterns-length, questions-length}
 use Rattle.load_trees.specs.Trees.{allLinked, treesEnd, treeWords, recordWords, workAfter}
 use Rattle.load_trees.specs.declared.Linked.{Linked}

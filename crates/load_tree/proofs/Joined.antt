@@ -1,17 +1,15 @@
 -- What is done with one tree is what `written` says of it: with records exactly `Records`, refused exactly `Refused`, with that number and line.
-use mathlib.Core.Path.{_≡_, refl, sym, ap, ap₂, _∙_, subst}
-use mathlib.Core.Bool.{Bool, true, false, cond}
-use mathlib.Core.List.{List, [], _∷_, _++_, map, zipWith, Forall₂, Forall₂·nil, Forall₂·cons}
-use Prim.Native.Nat.{ℕ, zero, suc, _+_, _*_, _^_, _≤_, _<_}
+use mathlib.Core.Path.{_≡_, refl, sym, ap, _∙_, subst}
+use mathlib.Core.Bool.{Bool, true, false}
+use mathlib.Core.List.{List, [], _∷_, map, zipWith, Forall₂, Forall₂·nil, Forall₂·cons}
+use Prim.Native.Nat.{ℕ, suc, _+_, _*_}
 use native.Mathlib.Omega.{arith}
 use lib.IntN.{ℤ, pos}
-use lib.Signed.{mag}
 use lib.ListN.{length, getD}
 use Rattle.written.specs.Bytes.{Span, same}
 use Rattle.written.specs.Said as said
 use Rattle.written.specs.Said.{Ref, node, pdf, Question}
-use Rattle.written.specs.Linking as L
-use Rattle.written.specs.Linking.{Nth, here, there, Last, LastQuestion, Single, alone, alike, NotSingle, Row, leaf, Records, Refused, Asked, asked}
+use Rattle.written.specs.Linking.{Nth, Asked, asked}
 use Rattle.laws.proofs.Nth.{nth-inside, nth-of}
 use Rattle.link_order.specs.Keys.{nameAt}
 use Rattle.text_parts.specs.Parts.{partInside}
@@ -19,16 +17,15 @@ use Rattle.link_search.specs.Found.{lastBelow}
 use Rattle.link_search.specs.declared.Found.{Found}
 use Rattle.link_search.specs.declared.Found.the-variants.{At, Nothing}
 use Rattle.link_search.proofs.Ids.{same-true, true-same}
-use Rattle.tree_reference.specs.References.{indexOf, sameIndex}
-use Rattle.tree_reference.proofs.Same.{same-index, index-same}
+use Rattle.tree_reference.specs.References.{indexOf}
 use Rattle.tree_line.specs.Lines.{lineOf}
 use Rattle.tree_line.specs.declared.Line.{Line}
-use Rattle.link_targets.specs.Lines.{WorkLine, linesFrom}
+use Rattle.link_targets.specs.Lines.{linesFrom}
 use Rattle.text_parts.specs.Parts.{natOf}
 use Rattle.link_tree.proofs.Joined.{AskedAs, some, none, Says}
 use Rattle.link_search.proofs.Last.{last-found, last-missing}
 use Rattle.load_lines.specs.Words.{askedOf, askedAt, lineWords}
-use Rattle.load_lines.proofs.Decoded.{refIndex, workLine, words-length, decode}
+use Rattle.load_lines.proofs.Decoded.{refIndex, workLine, decode}
 
 -- ---- lines of the text, as linking has them
 

@@ -1,8 +1,8 @@
 -- One tree: a bare leaf, or its lines linked.
-use mathlib.Core.Path.{_≡_, refl, sym, ap, ap₂, _∙_, subst}
+use mathlib.Core.Path.{_≡_, refl, sym, ap, ap₂, _∙_}
 use mathlib.Core.Bool.{Bool, true, false, cond}
-use mathlib.Core.List.{List, [], _∷_, _++_, map}
-use Prim.Native.Nat.{ℕ, zero, suc, _+_, _-_, _*_, _≤_, _<_}
+use mathlib.Core.List.{List, [], _∷_}
+use Prim.Native.Nat.{ℕ, _+_, _-_, _*_, _≤_, _<_}
 use native.Mathlib.Omega.{arith}
 use borrow.Rule.Slice.PartMut.{putMid}
 use lib.IntN.{ℤ, pos}
@@ -27,10 +27,9 @@ use Rattle.link_tree.specs.declared.Link.the-variants as link
 use Rattle.link_tree.proofs.Whole.{length-linked}
 use Rattle.link_tree.proofs.Local.{Agree, outcome-same, rows-same, pdfs-same}
 use Rattle.load_lines.specs.Words.{askedAt, lineWords}
-use Rattle.load_lines.proofs.Decoded.{workLine, words-length, decode, pdfs-count}
+use Rattle.load_lines.proofs.Decoded.{words-length, decode, pdfs-count}
 use Rattle.tree_body.specs.Trees.{lone}
-use Rattle.load_tree.specs.Bodies.{Result, leafResult, linkEnds, linkResult, linesResult, bodyResult, placeOf, linesEnd, singleOf}
-use Rattle.load_tree.specs.declared.Filled.{Filled}
+use Rattle.load_tree.specs.Bodies.{leafResult, linkEnds, linkResult, linesResult, bodyResult, placeOf, linesEnd, singleOf}
 use Rattle.load_tree.specs.declared.Filled.the-variants as filled
 use Rattle.load_tree.specs.declared.Single.{Single}
 use Rattle.load_tree.specs.declared.Single.the-variants.{One, Several}

@@ -1,23 +1,19 @@
 -- One tree, by its head.
-use mathlib.Core.Path.{_≡_, refl, sym, ap, ap₂, _∙_, subst}
-use mathlib.Core.List.{List, [], _∷_, _++_, append-nil}
-use Prim.Native.Nat.{ℕ, suc, _+_, _*_, _≤_, _<_}
+use mathlib.Core.Path.{_≡_, refl, sym, subst}
+use mathlib.Core.List.{List}
+use Prim.Native.Nat.{ℕ, _+_, _*_, _≤_}
 use native.Mathlib.Omega.{arith}
 use lib.IntN.{ℤ}
-use lib.ListN.{length}
-use lib.Seq.{sets, length-sets}
-use Rattle.tree_reference.specs.declared.TreeIndex.{TreeIndex}
 use Rattle.tree_line.specs.Lines.{linesAt}
 use Rattle.laws.specs.Steps.{doneAt}
 use Rattle.tree_body.specs.declared.TreeHead.{TreeHead}
-use Rattle.tree_body.specs.declared.TreeHead.the-variants.{Lone, Empty, Lines, NoTree}
+use Rattle.tree_body.specs.declared.TreeHead.the-variants.{Empty, Lines, NoTree}
 use Rattle.load_lines.specs.Words.{lineWords}
 use Rattle.tree_survey.specs.Survey.{bodyRecords, bodyLines}
-use Rattle.load_tree.specs.Bodies.{bodyResult, linesEnd}
-use Rattle.load_tree.specs.declared.Filled.{Filled}
+use Rattle.load_tree.specs.Bodies.{linesEnd}
 use Rattle.load_tree.specs.declared.Filled.the-variants.{Done}
 use Rattle.load_tree.specs.declared.TreeFill.{TreeFill}
-use Rattle.load_trees.specs.Trees.{headState, headBody, headEnd, Whole, leaf, empty, lines, BodyFilled}
+use Rattle.load_trees.specs.Trees.{headBody, Whole, leaf, empty, lines, BodyFilled}
 
 module _ (s : List ℕ) where
   -- ---- a tree whose lines can be read, by its head

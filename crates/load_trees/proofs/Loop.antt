@@ -9,7 +9,7 @@ use lib.Dec.{ltb}
 use lib.IntN.{ℤ}
 use lib.ListN.{length}
 use lib.Seq.{sets, length-sets}
-use Rattle.laws.specs.Steps.{Ending, doneAt, brokenAt, Step, next, last, broken, Reading, readOf}
+use Rattle.laws.specs.Steps.{Ending, doneAt, brokenAt, next, broken, Reading, readOf}
 use Rattle.laws.specs.Totals.{total, larger, largest}
 use Rattle.laws.proofs.Tables.{sets-append}
 use Rattle.tree_line.specs.Lines.{linesAt}

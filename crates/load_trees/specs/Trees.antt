@@ -5,7 +5,6 @@ use mathlib.Core.Bool.{Bool, true, false}
 use mathlib.Core.List.{List, [], _∷_, _++_}
 use Prim.Native.Nat.{ℕ, suc, _+_, _*_}
 use lib.IntN.{ℤ}
-use lib.ListN.{length}
 use lib.Seq.{sets}
 use Rattle.laws.specs.Steps.{doneAt}
 use Rattle.tree_reference.specs.declared.TreeIndex.{TreeIndex}

@@ -1,5 +1,5 @@
 -- The text of a model, stage by stage; the model behind a stream, by whether it uses a GV.
-use mathlib.Core.Path.{_≡_, sym, ap, ap₂, _∙_}
+use mathlib.Core.Path.{_≡_, sym, ap, _∙_}
 use mathlib.Core.Bool.{true, false, cond, Bool}
 use mathlib.Core.List.{List}
 use Prim.Native.Nat.{ℕ, _+_}
@@ -17,7 +17,6 @@ use Rattle.load_plan.specs.Plans.{textOf, dataOf}
 use Rattle.load_plan.specs.declared.Text.{Text}
 use Rattle.load_voice.specs.Voice.{nextStream, nextModel, textBy, textWithin, textIn, textFor, voiceText}
 use Rattle.load_voice.specs.declared.NextModel.the-variants.{Model}
-use Rattle.load_voice.specs.declared.NextModel.{NextModel}
 use Rattle.load_voice.specs.declared.VoiceText.{VoiceText}
 use Rattle.load_voice.specs.declared.VoiceText.the-variants.{Refused}
 

@@ -17,7 +17,7 @@ ghost use mathlib.Core.Bool.{true};
 ghost use Prim.Native.Nat.{_≤_, _<_};
 ghost use lib.ListN.{length};
 ghost use Rattle.head_record_fits.specs.Fits.{recordFits};
-ghost use Rattle.head_words.specs.Words.{wordAt, headerAt};
+ghost use Rattle.head_words.specs.Words.{headerAt};
 ghost use Rattle.load_voice.specs.Voice.{nextStream, nextModel, textBy, textIn, voiceText, InTypes};
 
 pub enum NextModel {

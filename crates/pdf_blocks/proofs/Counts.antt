@@ -1,7 +1,7 @@
 -- The counts of a block and whether it is used up.
-use mathlib.Core.Path.{_≡_, refl, sym, ap, ap₂, _∙_, subst}
+use mathlib.Core.Path.{_≡_, refl, sym, ap, _∙_}
 use mathlib.Core.Bool.{Bool, true, false, cond, _&&_}
-use mathlib.Core.List.{List, [], _∷_}
+use mathlib.Core.List.{List}
 use Prim.Native.Nat.{ℕ, zero, suc, _+_, _-_, _*_, _/_, _%_, _≤_, _<_}
 use native.Mathlib.Nat.{div-add-mod', mul-zero, mul-mod-left, mul-div-cancel, le-mul-of-pos-right, div-le-self}
 use native.Mathlib.Omega.{arith}
@@ -10,7 +10,6 @@ use lib.Dec.{leb, eqb}
 use lib.ListN.{length}
 use Rattle.written.specs.Blocks.{total}
 use Rattle.pdf_blocks.specs.Values.{wordAt, wordsAt, blockAt}
-use Rattle.pdf_blocks.specs.declared.Block.{Block}
 use Rattle.pdf_blocks.specs.declared.Block.the-variants.{Fits, Wrong}
 
 pub total-on : (s : List ℕ) (i n : ℕ) → 0 < n → total (wordsAt s i n) ≡ wordAt s i + total (wordsAt s (i + 4) (n - 1))

@@ -6,7 +6,6 @@ use table_put::put_block;
 use table_put::put2;
 ghost use mathlib.Core.Path.{_≡_};
 ghost use Prim.Native.Nat.{_+_, _*_, _/_, _%_, _≤_, _<_};
-ghost use lib.Dec.{eqb};
 ghost use lib.ListN.{length};
 ghost use lib.Seq.{sets};
 ghost use Rattle.written.specs.Blocks.{total, rowsFrom};

@@ -1,7 +1,6 @@
 -- The cases of `widenFields`, over the sizes of the fields.
 use mathlib.Core.Path.{_≡_}
-use Prim.Native.Nat.{ℕ, _+_, _-_, _*_, _^_, _<_}
-use native.Mathlib.Omega.{arith}
+use Prim.Native.Nat.{ℕ, _+_, _-_, _*_, _^_}
 use borrow.Author.Tests.{eq-eqb, ne-eqb}
 use lib.Count.{leadingZeros}
 use Rattle.written.specs.Interchange.{bias, join, quiet}

@@ -1,17 +1,13 @@
 -- Widening keeps the value, for every pair of formats of which the second is `Wider`.
 use mathlib.Core.Path.{_≡_, refl, sym, ap, _∙_, subst}
-use mathlib.Core.Bool.{Bool, true, false, cond}
-use mathlib.Core.Logic.{_⊎_, inl, inr}
-use Prim.Native.Nat.{ℕ, zero, suc, _+_, _-_, _*_, _/_, _%_, _^_, _≤_, _<_}
-use native.Mathlib.Nat.{mod-lt, add-mul, mul-add, mul-assoc, mul-comm, mul-lt-mul-of-pos-right, pow-suc}
-use native.Mathlib.Numerals.{add-one}
+use Prim.Native.Nat.{ℕ, zero, suc, _+_, _-_, _*_, _/_, _^_, _≤_, _<_}
+use native.Mathlib.Nat.{mod-lt, add-mul, mul-assoc, mul-lt-mul-of-pos-right, pow-suc}
 use native.Mathlib.Omega.{arith}
-use borrow.Author.Tests.{eq-eqb, ne-eqb, eqb-true, eqb-false}
-use lib.Dec.{eqb}
-use lib.Pow.{pow-pos, pow-add, pow-mono, high, low}
+use borrow.Author.Tests.{eq-eqb, ne-eqb}
+use lib.Pow.{pow-pos, pow-add, high, low}
 use lib.Count.{leadingZeros}
 use Rattle.written.specs.Interchange.{Value, finite, infinite, nan, bias, join, signOf, exponentOf, fractionOf, decode, decodeFields, quiet, Wider, Kept}
-use Rattle.pdf_widen.specs.Widening.{normalised, widenFields, widenOf}
+use Rattle.pdf_widen.specs.Widening.{widenFields, widenOf}
 use native.Mathlib.Decide.{ℕ-discrete}
 use Rattle.pdf_widen.proofs.Leading.{Normal, normal}
 use Rattle.pdf_widen.proofs.Cases.{wide-infinite, wide-nan, wide-zero, wide-subnormal, wide-normal}

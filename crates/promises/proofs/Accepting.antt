@@ -1,17 +1,16 @@
 -- `larsavim_accepts` keeps its promise, which allows one outcome; accepted rows walk as the text does; our own rows are accepted, and either choice among equal leaves is.
-use mathlib.Core.Path.{_≡_, refl, sym, ap, ap₂, _∙_, subst}
+use mathlib.Core.Path.{_≡_, refl, sym, ap, subst}
 use mathlib.Core.Bool.{Bool}
 use mathlib.Core.List.{List, [], _∷_, _++_, map, Forall₂, Forall₂·nil, Forall₂·cons}
-use Prim.Native.Nat.{ℕ, zero, suc, _+_, _-_, _≤_, _<_}
+use Prim.Native.Nat.{ℕ, suc, _≤_, _<_}
 use native.Mathlib.Decide.{decLt}
 use native.Mathlib.Omega.{arith}
 use lib.ListN.{length}
 use lib.Seq.{sets}
-use Rattle.written.specs.Said.{Ref, node, pdf, Line, Body, braces, Tree, Question, Text, Layout}
+use Rattle.written.specs.Said.{Ref, Line, Body, braces, Tree, Question, Text, Layout}
 use Rattle.written.specs.TreeText.{Says}
-use Rattle.written.specs.Breaks.{Breaks}
 use Rattle.written.specs.Linking as L
-use Rattle.written.specs.Linking.{Nth, here, there, NotSingle, Row, branch, leaf, LineRow, row, ToLeaf, Linked, Records, Refused, Fault}
+use Rattle.written.specs.Linking.{Nth, here, there, NotSingle, Row, leaf, LineRow, row, ToLeaf, Linked, Records, Refused}
 use Rattle.written.specs.Tables.{Negative}
 use Rattle.written.specs.Walks.{Ending, Written, Answers}
 use Rattle.written.specs.Suppliers.{Accepts, AcceptsIn, breaks, says}
@@ -20,12 +19,12 @@ use Rattle.written.proofs.Walk.{nth-once}
 use Rattle.written.proofs.Link.{refused-no-records, refused-once}
 use Rattle.written_total.proofs.Broken.{breaks-silent, breaks-once}
 use Rattle.written_alone.proofs.Accepting.{own-accepted}
-use Rattle.table_rows.specs.Rows.{recordTable, HasTree}
+use Rattle.table_rows.specs.Rows.{HasTree}
 use Rattle.walk.specs.Walking.{walkOf}
 use Rattle.walk.specs.Answer.{answerOf, endingAnswer}
 use Rattle.walk.specs.declared.Walked.{Walked}
 use Rattle.walk.proofs.Demand.{walk-demand₃}
-use Rattle.larsavim.specs.Accepts.{acceptsSaid, AcceptTells, no-room, told}
+use Rattle.larsavim.specs.Accepts.{AcceptTells, no-room, told}
 use Rattle.shown_accepts.proofs.Accepts.{accepts-said}
 use Rattle.written_models.proofs.Numbers.{refused-number}
 use Rattle.promises.proofs.Moved.{moved₂}

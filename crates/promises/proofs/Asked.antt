@@ -1,6 +1,6 @@
 -- What a caller hands to the calls on models: the number of a model names that model, and words that an opening wrote are the record.
-use mathlib.Core.Path.{_≡_, refl, sym, ap, ap₂, _∙_}
-use mathlib.Core.Bool.{Bool, true, false, cond}
+use mathlib.Core.Path.{_≡_, refl, sym, ap, _∙_}
+use mathlib.Core.Bool.{Bool, cond}
 use mathlib.Core.List.{List}
 use Prim.Native.Nat.{ℕ, _+_, _*_, _-_, _/_, _%_, _≤_}
 use native.Mathlib.Omega.{arith}
@@ -14,7 +14,6 @@ use Rattle.shown_words.proofs.Back.{written-flags}
 use Rattle.face_record.specs.Answers.{judgedOf}
 use Rattle.face_record.proofs.Laws.{judged-fit}
 use Rattle.face_model.specs.Answers as face
-use Rattle.load_choose.specs.declared.Which.{Which}
 use Rattle.load_choose.specs.declared.Which.the-variants.{Duration, Stream, Gv}
 use Rattle.written.specs.Models as models
 use Rattle.written.specs.Models.{Model, modelNumber}

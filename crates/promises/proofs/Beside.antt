@@ -1,6 +1,6 @@
 -- How a load into one task's rows ends, of words that an opening of the file wrote: as the same load into tables of just the rows that the model needs, put where the task has them.
 use mathlib.Core.Path.{_≡_, refl, sym, ap, ap₂, _∙_, subst, fun-ext}
-use mathlib.Core.Bool.{Bool, true, false, cond, _&&_, true≢false}
+use mathlib.Core.Bool.{Bool, true, false, cond, true≢false}
 use mathlib.Core.List.{List, [], _∷_, flatten}
 use Prim.Native.Nat.{ℕ, _*_, _/_, _^_, _≤_, _<_}
 use native.Mathlib.Nat.{one-mul}
@@ -31,20 +31,18 @@ use Rattle.error.specs.declared.Refusal.the-variants as refusal
 use Rattle.head_record.specs.Record.{headerRecord}
 use Rattle.head_record.specs.declared.Header.{Header}
 use Rattle.head_de.proofs.Sound.{Bytes}
-use Rattle.tree_question.specs.Questions.{questionsAt}
 use Rattle.pdf_widen.specs.Widening.{widenOf}
 use Rattle.load_choose.specs.declared.Which.{Which}
-use Rattle.load_questions.specs.Words.{patternWords}
 use Rattle.load_trees.specs.declared.Linked.{Linked}
 use Rattle.load_trees.specs.declared.Linked.the-variants as linked
-use Rattle.load_text.specs.Text.{wordsAt, endAt}
+use Rattle.load_text.specs.Text.{endAt}
 use Rattle.load_plan.specs.Plans.{planned}
 use Rattle.load_plan.specs.Plans as plans
 use Rattle.load_plan.specs.declared.Plan.{Plan}
 use Rattle.load_plan.specs.declared.Planned.{Planned}
 use Rattle.load_plan.specs.declared.Planned.the-variants.{Model, Refused}
 use Rattle.load_plan.proofs.Laws.{was, needs-sound}
-use Rattle.load_model.specs.Load.{Tables as Lent, lent, After, roomIn, answerFor, filled, untouched, loadFor, loadOf}
+use Rattle.load_model.specs.Load.{Tables as Lent, After, roomIn, answerFor, filled, untouched, loadFor, loadOf}
 use Rattle.load_model.specs.declared.Loaded.{Loaded}
 use Rattle.load_model.specs.declared.Loaded.the-variants as ending
 use Rattle.load_apart.proofs.Tests.{both, stands-is, is-stands}
@@ -63,7 +61,7 @@ use Rattle.shown_load.proofs.Numbers.{fault-between, demand₁}
 use Rattle.shown_models.proofs.Chosen.{whichOf}
 use Rattle.shown_apart.proofs.Fills.{sets-all, question-words, pattern-words}
 use Rattle.promises.specs.Opening.{recordWords}
-use Rattle.promises.specs.Loading.{widening, linesOf, doneNumbers, refusedNumbers}
+use Rattle.promises.specs.Loading.{widening, doneNumbers}
 use Rattle.promises.specs.Sharing.{needed, modelRows, RoomBeside, zeroWork, BesideEnds, loaded, no-room, unlinked}
 use Rattle.promises.proofs.Moved.{moved₂}
 use Rattle.promises.proofs.Asked.{which-number, record-judged}

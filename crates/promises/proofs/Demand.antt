@@ -10,9 +10,6 @@ use borrow.Author.Tests.{ne-eqb}
 use lib.ListN.{getD, drop}
 use lib.Seq.{sets}
 use Rattle.written.specs.Record.{Header}
-use Rattle.written.specs.Said.{Line, Body, Question, Tree}
-use Rattle.written.specs.Linking.{Refused, Fault}
-use Rattle.written.specs.Tables.{ModelRefused}
 use Rattle.written.specs.Models.{Model}
 use Rattle.written.specs.Loading.{ModelSaid}
 use Rattle.written.specs.Sharing as sharing

@@ -1,12 +1,11 @@
 -- Demand 3's last sentence, of a whole model: linking is refused exactly where some tree is `Broken`.
-use mathlib.Core.List.{List, [], _∷_}
+use mathlib.Core.List.{List, _∷_}
 use mathlib.Core.Logic.{_⊎_, inl, inr}
-use Prim.Native.Nat.{ℕ, zero, suc}
+use Prim.Native.Nat.{ℕ, suc}
 use Rattle.written.specs.Said.{Tree, Question}
 use Rattle.written.specs.Linking.{Nth, here, there, Row, Records, Refused, Broken}
 use Rattle.written.specs.Tables.{ModelRefused}
 use Rattle.written.proofs.Links.{links, refused-broken, broken-refused}
-use Rattle.written.proofs.Link.{refused-no-records}
 
 -- some tree is broken
 pub record SomeBroken (qs : List Question) (ts : List Tree) : Type 0 where

@@ -2,12 +2,12 @@
 use mathlib.Core.Path.{_≡_, refl, sym, ap, ap₂, _∙_, subst}
 use mathlib.Core.Bool.{Bool, true, false, cond}
 use mathlib.Core.List.{List, [], _∷_}
-use Prim.Native.Nat.{ℕ, _*_, _/_, _≤_, _<_}
+use Prim.Native.Nat.{ℕ, _*_, _≤_}
 use native.Mathlib.Nat.{one-mul}
 use native.Mathlib.Omega.{arith}
 use borrow.Author.Tests.{ltb-true, ltb-false}
 use lib.Dec.{ltb}
-use lib.IntN.{ℤ, pos}
+use lib.IntN.{pos}
 use lib.ListN.{length, replicate}
 use lib.Seq.{sets}
 use Rattle.written.specs.Record as record-of
@@ -19,7 +19,6 @@ use Rattle.head_record.specs.declared.Header.{Header}
 use Rattle.load_choose.specs.declared.Which.{Which}
 use Rattle.head_de.proofs.Sound.{Bytes}
 use Rattle.load_plan.specs.Plans.{planned}
-use Rattle.load_plan.specs.declared.Plan.{Plan}
 use Rattle.load_plan.specs.declared.Planned.{Planned}
 use Rattle.load_plan.specs.declared.Planned.the-variants.{Model, Refused}
 use Rattle.load_model.specs.Load.{Tables, lent, After}

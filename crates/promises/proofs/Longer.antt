@@ -1,8 +1,8 @@
 -- Bytes behind a file, as a trailer is: it opens as before, and every load that isn't refused with 16 answers and leaves what it did before (02, Wish 7). And what a load
 -- promises allows one outcome.
-use mathlib.Core.Path.{_≡_, refl, sym, ap, ap₂, _∙_, subst, subst₂}
-use mathlib.Core.List.{List, [], _∷_, _++_}
-use Prim.Native.Nat.{ℕ, _+_, _≤_, _<_}
+use mathlib.Core.Path.{_≡_, refl, sym, ap, ap₂, subst, subst₂}
+use mathlib.Core.List.{List, _++_}
+use Prim.Native.Nat.{ℕ, _+_, _≤_}
 use native.Mathlib.Omega.{arith}
 use lib.ListN.{length, getD, take, drop}
 use lib.Seq.{sets}
@@ -12,9 +12,8 @@ use Rattle.written.specs.Blocks as block
 use Rattle.written.specs.Said.{Text, Layout}
 use Rattle.written.specs.TreeText as tree
 use Rattle.written.specs.Breaks.{Breaks}
-use Rattle.written.specs.Linking.{Row}
 use Rattle.written.specs.Tables.{TreeRows, ModelRefused}
-use Rattle.written.specs.Models.{Model, modelNumber, dataOf, Within, Placed, Unplaced}
+use Rattle.written.specs.Models.{Model, modelNumber, dataOf}
 use Rattle.written.specs.Loading.{ModelSaid, ReadsModel, Unloaded, Unread, NoModel}
 use Rattle.written.specs.Trailer.{longer}
 use Rattle.written.proofs.Once.{says-once}
@@ -28,7 +27,6 @@ use Rattle.written_models.proofs.Longer.{longer-opens}
 use Rattle.written_models.proofs.LongerModels.{placed-longer, unplaced-longer, inside-longer, front-longer, block-longer}
 use Rattle.written_house.proofs.HouseFile.{no-model-one}
 use Rattle.load_model.specs.Load.{Tables}
-use Rattle.head_de.proofs.Sound.{Bytes}
 use Rattle.larsavim.specs.Face.{Opens, Loads}
 use Rattle.promises.specs.Opening.{recordWords, AfterOpen}
 use Rattle.promises.specs.Loading.{widening, stored, zeroed, doneNumbers, refusedNumbers, Room, LoadEnds, AfterLoad}

@@ -1,16 +1,16 @@
 -- `larsavim_bare_walk` keeps its promise, which allows one outcome; a refusal counts 0; the count is exact and bounded; and for every text whose model loads, every tree number, all answers and
 -- every limit it says the number, the PDF number and the questions asked that `larsavim_walk` says over the loaded tables.
-use mathlib.Core.Path.{_≡_, refl, sym, ap, ap₂, _∙_, subst}
+use mathlib.Core.Path.{_≡_, refl, sym, ap, _∙_, subst}
 use mathlib.Core.List.{List, [], _∷_, flatten}
-use Prim.Native.Nat.{ℕ, zero, suc, _+_, _-_, _*_, _≤_, _<_, min}
+use Prim.Native.Nat.{ℕ, _+_, _*_, _≤_, _<_, min}
 use native.Mathlib.Omega.{arith}
 use lib.ListN.{length, take, drop, length-take}
 use lib.Seq.{sets, take-all}
-use Rattle.written.specs.Said.{Body, braces, Line, Tree, Question, Text, Layout}
+use Rattle.written.specs.Said.{Body, Line, Tree, Text, Layout}
 use Rattle.written.specs.TreeText.{Says}
 use Rattle.written.specs.Linking as linking
-use Rattle.written.specs.Linking.{Nth, Row, Records, Refused}
-use Rattle.written.specs.Tables.{Negative, TreeRows, folded}
+use Rattle.written.specs.Linking.{Nth, Row, Refused}
+use Rattle.written.specs.Tables.{TreeRows, folded}
 use Rattle.written.specs.Models as models
 use Rattle.written.specs.Models.{dataOf}
 use Rattle.written.specs.Record as record-of
@@ -19,7 +19,7 @@ use Rattle.written.specs.Walks.{Outcome, refused, LoadedTree}
 use Rattle.written.specs.Meter as meter
 use Rattle.written.specs.Meter.{Metered, Meter, Over, meterOf, meterRefused, MetersText, Meters}
 use Rattle.written.proofs.Once.{says-once}
-use Rattle.written.proofs.Walk.{nth-once, no-row}
+use Rattle.written.proofs.Walk.{nth-once}
 use Rattle.written.proofs.Link.{records-linked, refused-no-records, refused-once}
 use Rattle.written.proofs.Folded.{wide-text, wide-folded, length-folded}
 use Rattle.written_total.proofs.Broken.{breaks-silent, breaks-once}
@@ -27,8 +27,8 @@ use Rattle.written_alone.proofs.Metering as metering
 use Rattle.written_alone.proofs.Metering.{linesIn, readIn, over-read, over-exact, over-once}
 use Rattle.written_alone.proofs.Shifted.{says-alone}
 use Rattle.laws.proofs.Nth.{nth-inside, nth-of}
-use Rattle.table_rows.specs.Rows.{treeTable, recordTable}
-use Rattle.table_rows.proofs.Fours.{fours-model, tree-table}
+use Rattle.table_rows.specs.Rows.{treeTable}
+use Rattle.table_rows.proofs.Fours.{tree-table}
 use Rattle.tree_survey.proofs.Rows.{rows-counted}
 use Rattle.load_model.specs.Load.{Tables}
 use Rattle.walk.specs.Walking.{walkOf}

@@ -1,9 +1,9 @@
 -- A model that can't be planned is none, in the words of the record that the file says: each refusal from 12 to 19 with what is wrong.
-use mathlib.Core.Path.{_≡_, refl, sym, ap, _∙_, subst}
+use mathlib.Core.Path.{_≡_, refl, sym, _∙_, subst}
 use mathlib.Core.List.{List, []}
-use Prim.Native.Nat.{ℕ, _+_, _^_, _≤_, _<_}
+use Prim.Native.Nat.{ℕ, _^_, _≤_, _<_}
 use native.Mathlib.Omega.{arith}
-use lib.ListN.{length, take, drop}
+use lib.ListN.{length}
 use Rattle.written.specs.HeaderText.{Range}
 use Rattle.written.specs.Record as record-of
 use Rattle.error.specs.Numbers.{numberOf, placeOf, lineOf}
@@ -17,16 +17,14 @@ use Rattle.load_choose.specs.declared.Chosen.{Chosen}
 use Rattle.load_choose.specs.declared.Chosen.the-variants as chosen
 use Rattle.load_plan.specs.Plans as plans
 use Rattle.load_plan.specs.Plans.{planned}
-use Rattle.load_plan.specs.declared.Planned.{Planned}
 use Rattle.load_plan.specs.declared.Planned.the-variants as planned
 use Rattle.written.specs.Models as models
-use Rattle.written.specs.Models.{dataOf, Within, Placed, Unplaced}
+use Rattle.written.specs.Models.{dataOf, Within, Placed}
 use Rattle.written.specs.Loading.{NoModel, Unread, Unloaded}
 use Rattle.shown_models.proofs.Chosen.{record-arrays, data-is, whichOf, Placing, at, wide, nowhere, choice-placed}
 use Rattle.load_model.specs.Load.{Tables, lent}
 use Rattle.shown_load.specs.Refused as code
 use Rattle.shown_load.specs.Refused.{NotLoaded}
-use Rattle.shown_load.specs.Stored.{Chose}
 use Rattle.shown_load.proofs.Refused.{needs-not}
 use Rattle.shown_load.proofs.Numbers.{Before, planned-before}
 use Rattle.promises.proofs.Moved.{moved₂}

@@ -1,8 +1,8 @@
 -- `larsavim_load_tree`, of words that an opening of the file wrote: in a file that ends in its trailer, the tree load of tree k is what a full load of the model has for that tree. Of any file a
 -- refusal before linking changes nothing, and 21 to 23 leave the rows needed zero.
-use mathlib.Core.Path.{_≡_, refl, sym, ap, ap₂, _∙_, subst}
+use mathlib.Core.Path.{_≡_, ap, ap₂, _∙_, subst}
 use mathlib.Core.Bool.{Bool, true, false, cond}
-use mathlib.Core.List.{List, [], _∷_}
+use mathlib.Core.List.{List}
 use mathlib.Core.Logic.{_⊎_, inl, inr}
 use Prim.Native.Nat.{ℕ, _^_, _≤_, _<_}
 use native.Mathlib.Omega.{arith}

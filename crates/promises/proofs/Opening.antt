@@ -1,5 +1,5 @@
 -- `larsavim_open` keeps its promise; the promise allows one outcome; every number but 0 leaves the words as they were.
-use mathlib.Core.Path.{_≡_, refl, sym, ap, _∙_, subst}
+use mathlib.Core.Path.{_≡_, refl, ap}
 use mathlib.Core.Bool.{Bool, true, false, cond}
 use mathlib.Core.List.{List, [], _∷_}
 use Prim.Native.Nat.{ℕ, _≤_, _<_}
@@ -8,13 +8,10 @@ use borrow.Author.Tests.{ltb-true, ltb-false}
 use lib.Dec.{ltb}
 use lib.ListN.{length}
 use lib.Seq.{sets}
-use Rattle.written.specs.Record.{Header, Says}
+use Rattle.written.specs.Record.{Header}
 use Rattle.written.specs.Faults.{Refused}
 use Rattle.written.proofs.OneFile.{says-one}
 use Rattle.written_apart.proofs.ApartFile.{refused-one, says-never}
-use Rattle.error.specs.Numbers.{numberOf}
-use Rattle.head_record.specs.Record.{headerRecord}
-use Rattle.head_words.specs.Words.{headerWords}
 use Rattle.head_de.proofs.Sound.{Bytes}
 use Rattle.head_open.specs.Open.{openOf, refusedWith}
 use Rattle.head_open.specs.declared.Opened.{Opened}

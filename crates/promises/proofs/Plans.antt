@@ -1,8 +1,8 @@
 -- What a plan says, in the words of the record that the file says: the model stands where it says, and every count is what its text and its block say. So nothing of a
 -- plan need be believed.
-use mathlib.Core.Path.{_≡_, refl, sym, ap, ap₂, _∙_, subst}
+use mathlib.Core.Path.{_≡_, refl, sym, ap, _∙_, subst}
 use mathlib.Core.List.{List}
-use Prim.Native.Nat.{ℕ, _+_, _*_, _^_, _≤_, _<_}
+use Prim.Native.Nat.{ℕ, _+_, _*_, _≤_}
 use native.Mathlib.Omega.{arith}
 use lib.ListN.{length, take, drop}
 use Rattle.written.specs.HeaderText.{Range}
@@ -24,9 +24,7 @@ use Rattle.pdf_blocks.specs.declared.Block.the-variants as fitting
 use Rattle.pdf_blocks.proofs.Joined.{Small, fits-block}
 use Rattle.load_choose.specs.Chosen.{chosenOf}
 use Rattle.load_range.specs.Ranges.{withinOf}
-use Rattle.load_choose.specs.Entries.{Arrays}
 use Rattle.load_choose.specs.declared.Chosen.{Chosen}
-use Rattle.load_choose.specs.declared.Chosen.the-variants as chosen
 use Rattle.load_range.specs.declared.Bounds.{Bounds}
 use Rattle.load_range.specs.declared.Bounds.the-variants as bounds
 use Rattle.load_choose.proofs.Joined.{chosen-so}
@@ -35,11 +33,9 @@ use Rattle.load_plan.specs.Plans.{textOf, withEntries, entriesFor, entriesOf, p
 use Rattle.load_plan.specs.declared.Text.{Text as Counted}
 use Rattle.load_plan.specs.declared.Text.the-variants as counted
 use Rattle.load_plan.specs.declared.Plan.{Plan}
-use Rattle.load_plan.specs.declared.Planned.{Planned}
 use Rattle.load_plan.specs.declared.Planned.the-variants.{Model, Refused}
 use Rattle.load_plan.proofs.Laws.{Was, was, needs-sound}
 use Rattle.load_model.proofs.Laws.{length-values}
-use Rattle.shown_words.proofs.Shaped.{record-shaped}
 use Rattle.written.specs.Models as models
 use Rattle.written.specs.Models.{dataOf, Within, Placed}
 use Rattle.shown_models.proofs.Chosen.{record-arrays, data-is, whichOf, Placing, at, wide, nowhere, choice-placed}

@@ -1,6 +1,6 @@
 -- `larsavim_comment`, `larsavim_get` and `larsavim_pair` keep their promises, of words that an opening of the file wrote; nothing but `out` is written.
-use mathlib.Core.Path.{_≡_, refl, sym, ap, ap₂, _∙_, subst}
-use mathlib.Core.Bool.{Bool, true, false, cond, not, _&&_, _||_}
+use mathlib.Core.Path.{_≡_, refl, sym, ap, _∙_, subst}
+use mathlib.Core.Bool.{Bool, true, false, cond, not}
 use mathlib.Core.List.{List, [], _∷_}
 use mathlib.Core.Option.{Option, some, none}
 use Prim.Native.Nat.{ℕ, zero, suc, _+_, _-_, _≤_, _<_}
@@ -16,7 +16,7 @@ use Rattle.laws.proofs.Every.{first-of}
 use Rattle.laws.proofs.Tables.{sets-at}
 use Rattle.head_record.specs.Record.{there, spanOr, globalRecord, headerRecord}
 use Rattle.head_record.specs.declared.Header.{Header}
-use Rattle.head_words.specs.Words.{wordAt, flagAt, isFlag, flagsFit, headerWords, headerAt, globalAt}
+use Rattle.head_words.specs.Words.{wordAt, isFlag, flagsFit, headerAt, globalAt}
 use Rattle.head_words.proofs.Lengths.{length-header}
 use Rattle.face_record.specs.declared.Part.{Part}
 use Rattle.face_record.specs.declared.Said.{Said}

@@ -1,19 +1,19 @@
 -- Wish 6, of the calls that a user makes: open, load, write, one after the other, over the tables cut to the numbers that the load answered. The write answers 0, or 20
 -- for room; its text, read at any place of any data, gives the same rows but for string starts; and a voice that has it as a model's text loads to the same rows,
 -- walks the same, and is written to the same text.
-use mathlib.Core.Path.{_≡_, refl, sym, ap, ap₂, _∙_, subst}
+use mathlib.Core.Path.{_≡_, refl, sym, ap, _∙_, subst}
 use mathlib.Core.List.{List, [], _∷_, _++_, map, flatten}
-use Prim.Native.Nat.{ℕ, _+_, _*_, _/_, _^_, _≤_, _<_}
+use Prim.Native.Nat.{ℕ, _+_, _*_, _^_, _≤_, _<_}
 use native.Mathlib.Decide.{decLe}
 use native.Mathlib.Omega.{arith}
-use lib.ListN.{length, getD, take, drop}
+use lib.ListN.{length, take, drop}
 use lib.Seq.{sets}
 use Rattle.written.specs.Record as record-of
 use Rattle.written.specs.Said.{Text, Layout, Tree, Question}
 use Rattle.written.specs.TreeText.{Says}
-use Rattle.written.specs.Linking.{Nth, Row}
+use Rattle.written.specs.Linking.{Row}
 use Rattle.written.specs.Blocks as block
-use Rattle.written.specs.Tables.{TreeRows, questionRows, patternRows, folded, treeRow}
+use Rattle.written.specs.Tables.{TreeRows, questionRows, patternRows, folded}
 use Rattle.written.specs.Models as models
 use Rattle.written.specs.Models.{dataOf}
 use Rattle.written.specs.Loading.{ModelSaid, ReadsModel}
@@ -28,7 +28,6 @@ use Rattle.written_back.proofs.Never.{wrote-once}
 use Rattle.table_rows.specs.Rows.{treeTable, recordTable}
 use Rattle.table_rows.proofs.Stand.{length-flat}
 use Rattle.table_rows.proofs.Fours.{fours-model, record-table, tree-table}
-use Rattle.tree_survey.proofs.Rows.{rows-counted}
 use Rattle.load_model.specs.Load.{Tables}
 use Rattle.larsavim.specs.Face.{Opens, Loads, Walks}
 use Rattle.larsavim.specs.Write.{Writes}

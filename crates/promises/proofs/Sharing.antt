@@ -1,7 +1,7 @@
 -- `larsavim_load_shared`, of words that an opening of the file wrote, and `larsavim_unload` keep their promises. That neither changes what the other task sees, of any words, bounds
 -- and tables, is said in Apart.
 use mathlib.Core.Path.{_≡_, refl, sym, ap, _∙_, subst, fun-ext}
-use mathlib.Core.Bool.{Bool, true, false, cond, _&&_, true≢false}
+use mathlib.Core.Bool.{Bool, true, false, cond, true≢false}
 use mathlib.Core.List.{List, [], _∷_}
 use Prim.Native.Nat.{ℕ, _≤_}
 use borrow.Author.Tests.{leb-true, le-leb}

@@ -2,15 +2,15 @@
 -- (a job is done in one way), `answered-once`, `depth-once`.
 use mathlib.Core.Path.{_≡_, refl, sym, ap, _∙_, subst}
 use mathlib.Core.Bool.{Bool, true, false, cond, true≢false}
-use mathlib.Core.List.{List, [], _∷_, map, Forall₂, Forall₂·nil, Forall₂·cons}
-use Prim.Native.Nat.{ℕ, _≤_, _<_}
+use mathlib.Core.List.{List, [], _∷_, Forall₂, Forall₂·nil, Forall₂·cons}
+use Prim.Native.Nat.{ℕ}
 use native.Mathlib.Omega.{arith}
 use borrow.Author.Tests.{ltb-true, ltb-false, eqb-true, eqb-false}
 use lib.Dec.{ltb, eqb}
 use lib.IntN.{ℤ, pos}
 use lib.ListN.{length, drop, replicate}
 use lib.Seq.{sets}
-use Rattle.written.specs.Depths.{DepthSaid, TreeDepth}
+use Rattle.written.specs.Depths.{DepthSaid}
 use Rattle.written_depth.proofs.Paths.{tree-depth-once}
 use Rattle.table_rows.specs.Rows.{treeTable, recordTable}
 use Rattle.head_words.specs.Words.{flagWord}
@@ -18,23 +18,20 @@ use Rattle.walk.specs.Walking.{walkOf}
 use Rattle.walk.specs.Answer.{outcomeOf}
 use Rattle.walk.specs.declared.Walked.{Walked}
 use Rattle.walk.specs.declared.Walked.the-variants as walked
-use Rattle.walk.proofs.Loaded.{walk-loaded, loaded-walk}
-use Rattle.written.specs.Walks.{Outcome, LoadedTree}
-use Rattle.walk_leaves.specs.Conditions.{LeavesFit}
+use Rattle.walk.proofs.Loaded.{walk-loaded}
+use Rattle.written.specs.Walks.{LoadedTree}
 use Rattle.walk_leaves.specs.Checks.{leavesFit}
 use Rattle.walk_leaves.proofs.Conditions.{fits-says, says-fits}
-use Rattle.walk_depth.specs.declared.Depth.{Depth}
-use Rattle.walk_depth.specs.Said.{saidAs, workAfter, DepthSays}
+use Rattle.walk_depth.specs.Said.{saidAs, workAfter}
 use Rattle.label_answers.specs.Answering.{Answering}
 use Rattle.label_answers.proofs.Joined.{answers-said, said-answers, answering-once}
 use Rattle.face_model.specs.Answers.{endedBy, endedOf}
-use Rattle.face_model.specs.declared.Ended.{Ended}
 use Rattle.face_jobs.specs.declared.Job.{Job}
 use Rattle.face_jobs.specs.Done.{refusedBy, withEnding, jobDone, jobsDone}
 use Rattle.larsavim.specs.Face.{Leaves}
 use Rattle.larsavim.specs.Depths.{DepthTells}
 use Rattle.promises.specs.Walking.{AfterLeaves, WalkSays, JobDone, AfterAnswers, depthNumbers, AfterDepth}
-use Rattle.promises.proofs.Moved.{moved₂, moved₃}
+use Rattle.promises.proofs.Moved.{moved₃}
 
 -- ---- larsavim_leaves
 

@@ -1,8 +1,8 @@
 -- `larsavim_trailer` and `larsavim_trailed` keep their promises, each of which allows one outcome; a refusal leaves the buffer as it was; what is written is read.
-use mathlib.Core.Path.{_≡_, refl, sym, ap, ap₂, _∙_, subst}
+use mathlib.Core.Path.{_≡_, refl, sym, ap, _∙_, subst}
 use mathlib.Core.Bool.{Bool, true, false, cond}
 use mathlib.Core.List.{List, [], _∷_, _++_}
-use Prim.Native.Nat.{ℕ, _+_, _*_, _≤_, _<_}
+use Prim.Native.Nat.{ℕ, _≤_, _<_}
 use native.Mathlib.Omega.{arith}
 use borrow.Author.Tests.{ltb-true, ltb-false, lt-ltb, le-ltb}
 use lib.Dec.{ltb}
@@ -10,10 +10,10 @@ use lib.ListN.{length}
 use lib.Seq.{sets}
 use Rattle.written.specs.Record.{Header, Says}
 use Rattle.written.specs.Faults.{Refused}
-use Rattle.written.specs.Trailer.{Trailer, Writes, WritesOf, Finds}
+use Rattle.written.specs.Trailer.{Trailer, Writes, Finds}
 use Rattle.written.proofs.OneFile.{says-one}
 use Rattle.written_apart.proofs.ApartFile.{refused-one, says-never}
-use Rattle.written_trailer.proofs.Trailing.{SameWriting, SameReading, writes-once, finds-once, written-read}
+use Rattle.written_trailer.proofs.Trailing.{writes-once, finds-once, written-read}
 use Rattle.written_trailer.proofs.TrailerExactly.{refused-nothing, writes-zero}
 use Rattle.head_record.specs.Record.{headerRecord}
 use Rattle.head_words.specs.Words.{headerWords}
@@ -23,7 +23,7 @@ use Rattle.head_open.specs.declared.Opened.{Opened}
 use Rattle.head_lines.specs.declared.Verdict.{Verdict}
 use Rattle.head_lines.specs.declared.Verdict.the-variants as verdict
 use Rattle.face_open.specs.Answers.{openWordsBy, openWords}
-use Rattle.face_trail.specs.Answers.{wrote, found, trailerSaid, trailerLeft, trailedSaid}
+use Rattle.face_trail.specs.Answers.{trailerSaid, trailerLeft, trailedSaid}
 use Rattle.face_trail.specs.declared.Written.{Written}
 use Rattle.face_trail.specs.declared.Found.{Found}
 use Rattle.larsavim.specs.Face.{answered as returned, written, left}

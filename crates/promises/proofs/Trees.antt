@@ -2,8 +2,7 @@
 use mathlib.Core.Path.{_≡_, refl, sym, ap, _∙_, subst}
 use mathlib.Core.Bool.{Bool, true, false, cond, true≢false}
 use mathlib.Core.List.{List}
-use mathlib.Core.Logic.{_⊎_, inl, inr}
-use Prim.Native.Nat.{ℕ, _≤_, _<_}
+use Prim.Native.Nat.{ℕ, _≤_}
 use native.Mathlib.Omega.{arith}
 use borrow.Author.Tests.{eq-eqb, ne-eqb}
 use lib.Dec.{eqb}
@@ -13,7 +12,7 @@ use Rattle.written.specs.Record as record-of
 use Rattle.written.specs.Said as said
 use Rattle.written.specs.Linking.{Nth}
 use Rattle.written.specs.Models as models
-use Rattle.written.specs.Sharing.{Side, Held, holds}
+use Rattle.written.specs.Sharing.{Held, holds}
 use Rattle.written.specs.Trailer.{Trailed}
 use Rattle.written_models.proofs.Openings.{refused-low}
 use Rattle.written_trailer.proofs.TrailerExactly.{finds-zero}
@@ -37,7 +36,7 @@ use Rattle.face_model.specs.declared.Rows.{Rows}
 use Rattle.face_model.specs.Answers.{whichOf as whichAt, noRows, rowsBy}
 use Rattle.face_load.specs.Answers.{Filled, filledBy, untouched}
 use Rattle.face_shared.specs.Answers.{heldAt, sideAt, standing}
-use Rattle.face_tree.specs.Answers.{treeFilledIn, treeFilledOf, treeSharedOf}
+use Rattle.face_tree.specs.Answers.{treeFilledOf, treeSharedOf}
 use Rattle.face_trail.proofs.Above.{above-zero}
 use Rattle.larsavim.specs.Sharing.{TreeShares}
 use Rattle.face_put.specs.Put.{heldLeft}

@@ -2,16 +2,14 @@
 -- written walk of that tree ends with, for every answers with a byte a question and every limit; and that ending is the only one.
 use mathlib.Core.Path.{_≡_, refl, sym, ap, ap₂, _∙_, subst}
 use mathlib.Core.List.{List, [], _∷_, flatten}
-use Prim.Native.Nat.{ℕ, _*_, _/_, _≤_, _<_}
+use Prim.Native.Nat.{ℕ, _*_, _≤_}
 use native.Mathlib.Omega.{arith}
 use lib.ListN.{length, getD, take}
 use lib.Seq.{sets}
 use Rattle.written.specs.Record as record-of
-use Rattle.written.specs.HeaderText.{Range}
-use Rattle.written.specs.Said as said
 use Rattle.written.specs.Said.{Layout, Question, Tree}
 use Rattle.written.specs.Linking.{Nth, here, there, Row, Records}
-use Rattle.written.specs.Tables.{TreeRows, ModelRefused, folded}
+use Rattle.written.specs.Tables.{TreeRows, folded}
 use Rattle.written.specs.Models as models
 use Rattle.written.specs.Loading.{ModelSaid, ReadsModel}
 use Rattle.written_models.proofs.Numbers.{linking-number, no-model-number}

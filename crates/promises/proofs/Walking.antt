@@ -1,14 +1,14 @@
 -- `larsavim_walk` keeps its promise, which allows one outcome; nothing but `out` is written.
-use mathlib.Core.Path.{_≡_, refl, sym, ap, _∙_}
+use mathlib.Core.Path.{_≡_, refl, sym, _∙_}
 use mathlib.Core.Bool.{Bool, true, false, cond}
 use mathlib.Core.List.{List, [], _∷_}
-use Prim.Native.Nat.{ℕ, _≤_, _<_}
+use Prim.Native.Nat.{ℕ, _≤_}
 use native.Mathlib.Omega.{arith}
 use borrow.Author.Tests.{ltb-true, ltb-false}
 use lib.Dec.{ltb}
 use lib.ListN.{length}
 use lib.Seq.{sets}
-use Rattle.written.specs.Walks.{Outcome, refused, LoadedTree}
+use Rattle.written.specs.Walks.{Outcome, LoadedTree}
 use Rattle.table_rows.specs.Rows.{treeTable, recordTable}
 use Rattle.walk.specs.Walking.{walkOf}
 use Rattle.walk.specs.Answer.{outcomeOf}

@@ -1,5 +1,5 @@
 -- `larsavim_write_needs` and `larsavim_write` keep their promises; these allow one outcome; a refusal leaves the buffer as it was.
-use mathlib.Core.Path.{_≡_, refl, ap}
+use mathlib.Core.Path.{_≡_, refl}
 use mathlib.Core.Bool.{Bool, true, false, cond}
 use mathlib.Core.List.{List, [], _∷_}
 use Prim.Native.Nat.{ℕ, _*_, _^_, _≤_, _<_}

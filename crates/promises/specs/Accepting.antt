@@ -1,5 +1,4 @@
 -- What `larsavim_accepts` promises, of any text, tree number and rows.
-use mathlib.Core.Path.{_≡_}
 use mathlib.Core.List.{List, [], _∷_}
 use Prim.Native.Nat.{ℕ, _≤_, _<_}
 use lib.ListN.{length}

@@ -2,11 +2,11 @@
 -- `larsavim_needs` tells before it.
 use mathlib.Core.List.{List, [], _∷_, flatten}
 use Prim.Native.Nat.{ℕ, _*_, _/_, _≤_, _<_}
-use lib.IntN.{ℤ, pos}
+use lib.IntN.{pos}
 use lib.ListN.{length, getD, replicate}
 use lib.Seq.{sets}
 use Rattle.written.specs.Record.{Header}
-use Rattle.written.specs.Said.{Text, Layout}
+use Rattle.written.specs.Said.{Layout}
 use Rattle.written.specs.Linking.{Row}
 use Rattle.written.specs.Tables.{TreeRows, ModelRefused, questionRows, patternRows, folded}
 use Rattle.written.specs.Models.{Model}

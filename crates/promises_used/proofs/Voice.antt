@@ -1,13 +1,13 @@
 -- The front door used on a small voice, by computation: it is opened, a field of it is read, its model is loaded and walked, and the text is written back. Two lines of its first
 -- tree bear one id, and two questions one name.
-use mathlib.Core.Path.{_≡_, refl, sym, ap, _∙_, subst}
-use mathlib.Core.Bool.{Bool, true, false, cond, _&&_}
+use mathlib.Core.Path.{_≡_, refl, sym, ap, _∙_}
+use mathlib.Core.Bool.{Bool, true, cond, _&&_}
 use mathlib.Core.List.{List, [], _∷_, flatten}
 use Prim.Native.Nat.{ℕ, zero, suc, _*_, _≤_, _<_}
 use native.Mathlib.Omega.{arith}
 use borrow.Author.Tests.{ltb-true, le-ltb}
 use lib.Dec.{ltb}
-use lib.IntN.{ℤ, pos}
+use lib.IntN.{pos}
 use lib.ListN.{length, getD, take, replicate}
 use lib.Seq.{sets}
 use Rattle.written.specs.Blocks.{littleEndian, total, rowsFrom, paired}
@@ -101,15 +101,13 @@ use Rattle.load_choose.specs.declared.Which.the-variants.{Duration}
 use Rattle.load_model.specs.Load.{Tables, lent, After}
 use Rattle.load_model.specs.declared.Loaded.{Loaded}
 use Rattle.load_model.specs.declared.Loaded.the-variants as ending
-use Rattle.walk.specs.declared.Walked.{Walked}
-use Rattle.face_model.specs.Answers.{rowsBy, endedBy, endedOf}
+use Rattle.face_model.specs.Answers.{rowsBy, endedOf}
 use Rattle.face_model.specs.declared.Ended.{Ended}
-use Rattle.face_load.specs.Answers.{Filled, filledBy}
-use Rattle.larsavim.specs.Face.{answered, written as written-out, left, endedNumbers, Opens, Gets, Loads, Walks}
+use Rattle.face_load.specs.Answers.{Filled}
+use Rattle.larsavim.specs.Face.{answered, written as written-out, left, endedNumbers, Opens, Loads, Walks}
 use Rattle.face_put.specs.Put.{rowsNumbers}
 use Rattle.shown_open.proofs.Opened.{open-says}
 use Rattle.promises.specs.Opening.{recordWords as wordsOf, AfterOpen}
-use Rattle.promises.specs.Walking.{AfterWalk}
 use Rattle.promises.proofs.Opening.{open-kept, after-open-once}
 use Rattle.promises.proofs.Loading.{said-of}
 

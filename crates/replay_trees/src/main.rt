@@ -33,7 +33,7 @@ use tree_survey_lines::LineCount;
 use tree_survey_lines::count_lines;
 use tree_survey_questions::Patterns;
 use tree_survey_questions::count_patterns;
-ghost use Prim.Native.Nat.{_≤_, _<_};
+ghost use Prim.Native.Nat.{_<_};
 ghost use lib.ListN.{length};
 
 fn reference(c: Stored, s: &[u8], index: TreeIndex) -> Stored {

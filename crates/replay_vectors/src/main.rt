@@ -26,7 +26,7 @@ use text_numbers::parse_signed;
 use text_numbers::parse_unsigned;
 use text_utf8::Answer;
 use text_utf8::check;
-ghost use Prim.Native.Nat.{_≤_, _<_};
+ghost use Prim.Native.Nat.{_<_};
 ghost use lib.ListN.{length};
 
 // 0, or 1 and where the first bad sequence starts.

@@ -1,21 +1,18 @@
 -- The verdict on somebody else's rows is the one that `written` has: number, place and line.
-use mathlib.Core.Path.{_≡_, refl, sym, ap, _∙_, subst}
-use mathlib.Core.Bool.{Bool, true, false, cond}
+use mathlib.Core.Path.{_≡_, refl, sym, _∙_, subst}
 use mathlib.Core.Logic.{_⊎_, inl, inr}
 use mathlib.Core.List.{List, [], _∷_, Forall₂}
 use Prim.Native.Nat.{ℕ, zero, suc}
 use native.Mathlib.Omega.{arith}
-use lib.ListN.{length}
 use Rattle.written.specs.Said as said
 use Rattle.written.specs.Said.{Text, Layout}
 use Rattle.written.specs.TreeText.{Says}
-use Rattle.written.specs.Linking.{Nth, here, there, Row}
+use Rattle.written.specs.Linking.{Nth, here, there}
 use Rattle.written.specs.Tables.{Negative}
 use Rattle.written.specs.Breaks.{Breaks}
 use Rattle.written.specs.Suppliers.{Accepts, AcceptsIn, breaks, says}
 use Rattle.written.proofs.Walk.{no-row}
-use Rattle.laws.specs.Steps.{Ending, doneAt, brokenAt}
-use Rattle.error.specs.declared.Told as error
+use Rattle.laws.specs.Steps.{Ending, doneAt}
 use Rattle.error.specs.declared.Refusal.the-variants as refusal
 use Rattle.table_rows.specs.Rows.{recordTable}
 use Rattle.text_spaces.specs.declared.Place.{Place}
@@ -30,11 +27,9 @@ use Rattle.tree_survey.proofs.Said.{said-negative, negative-said}
 use Rattle.link_find.specs.Find.{starOf}
 use Rattle.link_alone.specs.Alone.{judgedHead}
 use Rattle.link_alone.specs.declared.Judged.{Judged}
-use Rattle.link_alone.specs.declared.Judged.the-variants.{Told}
 use Rattle.walk_accepts.specs.Accepting.{foundTree, inText, surveyed, chosenTree, acceptedOf, acceptsAt, acceptsOf, acceptsTold}
 use Rattle.walk_accepts.specs.declared.Choice.{Choice}
 use Rattle.walk_accepts.specs.declared.Choice.the-variants as choice
-use Rattle.walk_accepts.specs.declared.Accepted.{Accepted}
 use Rattle.shown_breaks.proofs.Place.{broken-breaks}
 use Rattle.shown_text.proofs.Text.{says-begins}
 use Rattle.shown_accepts.proofs.Verdicts.{Verdict, fits, other, refused}

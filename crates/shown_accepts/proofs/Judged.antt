@@ -1,7 +1,7 @@
 -- What is judged of a tree's lines: the first fault, or whether every line's row stands in its place.
-use mathlib.Core.Path.{_≡_, refl, sym, ap, _∙_, subst}
-use mathlib.Core.Bool.{Bool, true, false, _&&_}
-use mathlib.Core.List.{List, [], _∷_, Forall₂, Forall₂·nil, Forall₂·cons}
+use mathlib.Core.Path.{_≡_, subst}
+use mathlib.Core.Bool.{Bool, true, _&&_}
+use mathlib.Core.List.{List, _∷_, Forall₂, Forall₂·nil, Forall₂·cons}
 use Prim.Native.Nat.{ℕ, zero, suc, _+_, _<_}
 use native.Mathlib.Omega.{arith}
 use Rattle.written.specs.Said as said
@@ -12,7 +12,7 @@ use Rattle.laws.proofs.Every.{both, first-of, second-of}
 use Rattle.tree_line.specs.declared.Line as code
 use Rattle.error.specs.Numbers.{faultNumber}
 use Rattle.error.specs.declared.LinkFault.{LinkFault}
-use Rattle.link_alone.specs.Alone.{linkIn, judgedLine, onward, judgedLines}
+use Rattle.link_alone.specs.Alone.{judgedLine, onward, judgedLines}
 use Rattle.link_fits.specs.Fits.{rowFits}
 use Rattle.link_alone.specs.declared.LineLink.{LineLink}
 use Rattle.link_alone.specs.declared.Judged.{Judged}

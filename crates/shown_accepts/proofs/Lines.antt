@@ -1,10 +1,10 @@
 -- Lines and questions as they are read are those that the text says; where a line's references lead and what it asks, or its fault.
 use mathlib.Core.Path.{_≡_, refl, sym, ap, ap₂, _∙_, subst}
 use mathlib.Core.Bool.{Bool, true, false, cond}
-use mathlib.Core.List.{List, [], _∷_, zipWith, Forall₂, Forall₂·nil, Forall₂·cons}
+use mathlib.Core.List.{List, zipWith, Forall₂, Forall₂·nil, Forall₂·cons}
 use Prim.Native.Nat.{ℕ, zero, suc, _+_, _^_, _≤_, _<_}
 use native.Mathlib.Omega.{arith}
-use borrow.Author.Tests.{eq-eqb, eqb-true}
+use borrow.Author.Tests.{eq-eqb}
 use lib.IntN.{ℤ, pos, negℤ}
 use lib.Signed.{mag}
 use lib.Dec.{eqb}
@@ -12,7 +12,7 @@ use Rattle.written.specs.Bytes.{Span, same}
 use Rattle.written.specs.Said as said
 use Rattle.written.specs.Said.{Ref, node, pdf, Question, QuestionPlace}
 use Rattle.written.specs.TreeText.{Parted, last, next, Number, plus, minus, Bare, number, word, Reference, bare, quoted, Parting, LineParting, LineAt, line, QuestionAt, question}
-use Rattle.written.specs.Linking.{Nth, Last, LastLine, LastQuestion, Declared, borne, a-pdf, Asked, asked, Fault, yes-undeclared, no-undeclared, not-asked}
+use Rattle.written.specs.Linking.{Nth, LastLine, LastQuestion, Declared, borne, a-pdf, Asked, asked, Fault, yes-undeclared, no-undeclared, not-asked}
 use Rattle.laws.proofs.Wholes.{eqZ-true}
 use Rattle.tree_reference.specs.References.{indexOf}
 use Rattle.tree_line.specs.Lines.{lineOf}

@@ -1,23 +1,23 @@
 -- The tests of rows are what `written` says of them.
-use mathlib.Core.Path.{_≡_, refl, sym, ap, ap₂, _∙_, subst}
-use mathlib.Core.Bool.{Bool, true, false, _&&_}
+use mathlib.Core.Path.{_≡_, refl, sym, ap, _∙_, subst}
+use mathlib.Core.Bool.{true}
 use mathlib.Core.List.{List, [], _∷_, Forall₂}
-use Prim.Native.Nat.{ℕ, zero, suc, _+_, _≤_, _<_}
+use Prim.Native.Nat.{ℕ, _<_}
 use native.Mathlib.Omega.{arith}
 use borrow.Author.Tests.{lt-ltb, ltb-true, eq-eqb, eqb-true}
 use lib.Dec.{eqb, ltb}
 use Rattle.written.specs.Said as said
-use Rattle.written.specs.Said.{Ref, node, pdf, Question, QuestionPlace}
+use Rattle.written.specs.Said.{Ref, node, Question, QuestionPlace}
 use Rattle.written.specs.Linking.{Nth, LastQuestion, Row, branch, leaf, LineRow, row, ToLeaf}
 use Rattle.written.specs.Linking as L
-use Rattle.written.proofs.Walk.{nth-once, last-once}
+use Rattle.written.proofs.Walk.{last-once}
 use Rattle.laws.proofs.Every.{both, first-of, second-of}
-use Rattle.table_rows.specs.Rows.{recordRows, recordKind, recordQuestion, recordPdf, recordYes, recordNo, recordRow, recordTable, rowsFrom}
+use Rattle.table_rows.specs.Rows.{recordRows, recordKind, recordQuestion, recordPdf, recordYes, recordNo, recordRow, recordTable}
 use Rattle.table_rows.proofs.Stand.{row-of, row-there}
 use Rattle.tree_line.specs.declared.Line as code
 use Rattle.link_fits.specs.Fits.{isLeaf, leafOf, leadsTo, rowFits}
 use Rattle.link_fits.specs.declared.Target.{Target}
-use Rattle.link_fits.specs.declared.Target.the-variants.{Line, Leaf, Nowhere}
+use Rattle.link_fits.specs.declared.Target.the-variants.{Line}
 use Rattle.shown_accepts.proofs.Lines.{LineSaid, QuestionSaid, Leads, to-line, to-leaf, to-none}
 
 module _ (R : List ℕ) where

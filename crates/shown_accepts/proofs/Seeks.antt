@@ -1,13 +1,13 @@
 -- The last of a list of which a test is true, or none: what is found in code is what `written` says of it.
 use mathlib.Core.Path.{_≡_, refl, sym, ap, _∙_, subst}
 use mathlib.Core.Bool.{Bool, true, false, cond}
-use mathlib.Core.List.{List, [], _∷_, Forall₂, Forall₂·nil, Forall₂·cons}
-use Prim.Native.Nat.{ℕ, zero, suc, _+_, _<_}
+use mathlib.Core.List.{List, _∷_, Forall₂, Forall₂·nil, Forall₂·cons}
+use Prim.Native.Nat.{ℕ, suc, _+_, _<_}
 use native.Mathlib.Omega.{arith}
 use Rattle.written.specs.Linking.{Nth, here, there, Last}
 use Rattle.written.proofs.Walk.{no-row}
 use Rattle.link_search.specs.declared.Found.{Found}
-use Rattle.link_search.specs.declared.Found.the-variants.{At, Nothing}
+use Rattle.link_search.specs.declared.Found.the-variants.{At}
 use Rattle.link_find.specs.Find.{lastFrom}
 
 module _ {A : Type 0} {P : A → Type 0} where

@@ -1,17 +1,15 @@
 -- A tree of a text by its number: where it stands, and what is judged of it.
 use mathlib.Core.Path.{_≡_, refl, sym, ap, _∙_, subst}
 use mathlib.Core.List.{List, [], _∷_, zipWith, Forall₂, Forall₂·nil}
-use mathlib.Core.Logic.{_⊎_, inl, inr}
-use Prim.Native.Nat.{ℕ, zero, suc, _<_}
+use Prim.Native.Nat.{ℕ, zero, suc}
 use native.Mathlib.Omega.{arith}
 use lib.ListN.{length}
 use Rattle.written.specs.Said as said
-use Rattle.written.specs.Said.{Question, QuestionPlace, Text, Layout}
+use Rattle.written.specs.Said.{QuestionPlace, Text, Layout}
 use Rattle.written.specs.TreeText.{Parted, last, next, Parting, LineParting, LineAt, BodyAt, TreeAt, tree as grown, trees, Says, without, with-questions}
 use Rattle.written.specs.Linking.{Nth, here, there}
-use Rattle.written.proofs.Walk.{nth-once, no-row}
-use Rattle.laws.specs.Steps.{Ending, doneAt, brokenAt, Step, broken, Reading, readOf, readFrom, read}
-use Rattle.text_spaces.specs.declared.Place.{Place}
+use Rattle.written.proofs.Walk.{no-row}
+use Rattle.laws.specs.Steps.{Ending, doneAt, brokenAt, Step, broken, readOf, readFrom, read}
 use Rattle.text_spaces.specs.declared.Place.the-variants as place
 use Rattle.tree_question.specs.Questions.{questionsAt}
 use Rattle.tree_line.specs.Lines.{lineOf, linesAt}
@@ -34,9 +32,7 @@ use Rattle.tree_survey.proofs.Joined.{says-read}
 use Rattle.link_find.specs.Find.{starOf}
 use Rattle.link_find.proofs.Finding.{star-next, star-last}
 use Rattle.link_alone.specs.Alone.{judgedSingle, singleIn, judgedEnding, judgedBraces, judgedHead}
-use Rattle.link_alone.specs.declared.Judged.{Judged}
 use Rattle.shown_text.proofs.Words.{parted-nth}
-use Rattle.shown_text.proofs.Text.{says-begins}
 use Rattle.shown_accepts.proofs.Lines.{LineSaid, lines-said, QuestionSaid, questions-said}
 use Rattle.shown_accepts.proofs.Verdicts.{Verdict, judgedBody, body-verdict}
 

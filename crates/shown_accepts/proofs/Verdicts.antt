@@ -4,22 +4,21 @@ use mathlib.Core.Bool.{Bool, true, false, cond, _&&_}
 use mathlib.Core.Logic.{_⊎_, inl, inr}
 use mathlib.Core.List.{List, [], _∷_, _++_, map, zipWith, Forall₂, Forall₂·nil, Forall₂·cons}
 use Prim.Native.Nat.{ℕ, zero, suc, _+_, _-_, _≤_, _<_}
-use native.Mathlib.Decide.{decLt}
 use native.Mathlib.Omega.{arith}
 use borrow.Author.Tests.{eq-eqb, eqb-true}
 use lib.Dec.{eqb}
-use lib.ListN.{length, length-append}
+use lib.ListN.{length}
 use Rattle.written.specs.Bytes.{Span}
 use Rattle.written.specs.Said as said
 use Rattle.written.specs.Said.{Ref, node, pdf, Body, lone, braces, Question, QuestionPlace}
 use Rattle.written.specs.TreeText.{Parted, last, next, LineParting, LineAt, BodyAt, one, none, lines}
 use Rattle.written.specs.Linking as L
 use Rattle.written.specs.Linking.{Nth, here, there, Single, alone, alike, NotSingle, Row, leaf, LineRow, ToLeaf, Linked, Records, Refused, Fault}
-use Rattle.written.proofs.Walk.{nth-once, nth-append, paired, no-row, no-single, single-once}
+use Rattle.written.proofs.Walk.{nth-append, paired, no-row, no-single, single-once}
 use Rattle.written.proofs.Links.{links}
 use Rattle.laws.proofs.Every.{both, first-of, second-of, all-each, each-all}
 use Rattle.table_rows.specs.Rows.{recordRows, recordPdf, recordRow, recordTable, rowsFrom}
-use Rattle.table_rows.proofs.Stand.{nth-below, nth-same, records-many, row-there}
+use Rattle.table_rows.proofs.Stand.{records-many, row-there}
 use Rattle.tree_reference.specs.References.{indexOf, sameIndex}
 use Rattle.tree_reference.proofs.Same.{same-index, index-same}
 use Rattle.tree_line.specs.Lines.{lineOf}

@@ -1,13 +1,13 @@
 -- The fill of this library is such as `load_apart` asks for: it keeps lengths, doesn't see what stood in tables of just the rows needed, and leaves zeros where linking refuses.
-use mathlib.Core.Path.{_≡_, refl, sym, ap, ap₂, _∙_}
+use mathlib.Core.Path.{_≡_, refl, sym, ap, _∙_}
 use mathlib.Core.Bool.{Bool, true, false, cond}
 use mathlib.Core.List.{List, [], _∷_, _++_, append-nil}
-use Prim.Native.Nat.{ℕ, zero, suc, _+_, _*_, _≤_}
+use Prim.Native.Nat.{ℕ, suc, _+_, _*_}
 use native.Mathlib.Nat.{one-mul}
 use native.Mathlib.Omega.{arith}
 use lib.Dec.{eqb}
 use lib.IntN.{ℤ}
-use lib.ListN.{length, take, drop, replicate, length-replicate, drop-of-length-le}
+use lib.ListN.{length, take, replicate, length-replicate, drop-of-length-le}
 use lib.Seq.{sets, length-sets}
 use Rattle.written.specs.Sharing.{Table, questions, patterns, trees, records, values, width, Tables, Exactly}
 use Rattle.written.specs.Blocks as written
@@ -33,8 +33,7 @@ use Rattle.load_plan.specs.declared.Planned.the-variants as plan
 use Rattle.load_plan.proofs.Laws.{Was, was, needs-sound}
 use Rattle.load_model.specs.Load.{answerFor, blocksOf, filled}
 use Rattle.load_model.proofs.Laws.{length-values}
-use Rattle.load_apart.specs.Loads.{linked, unlinked, Filled, Planned, Keeps, Whole, Zeroes, Fills, Every, none, one}
-use Rattle.load_shared.specs.Beside.{rowsOf, withWork}
+use Rattle.load_apart.specs.Loads.{unlinked, Filled, Planned, Keeps, Whole, Zeroes, Fills, Every, none, one}
 use Rattle.load_bounds.specs.Bounds.{needOf, tablesOf}
 use Rattle.shown_text.proofs.Tables.{stored-length}
 use Rattle.face_record.specs.Answers.{judgedOf}

@@ -1,14 +1,13 @@
 -- The contract of a shared load is `sharedOf` of `load_apart` at this library's plans; that of an unload is `unloadOf`.
-use mathlib.Core.Path.{_≡_, refl, sym, ap, ap₂, _∙_, subst, fun-ext}
+use mathlib.Core.Path.{_≡_, refl, sym, ap, _∙_, subst, fun-ext}
 use mathlib.Core.Bool.{Bool, true, false, cond, _&&_}
 use mathlib.Core.List.{List}
 use Prim.Native.Nat.{ℕ, _≤_, _/_}
 use native.Mathlib.Omega.{arith}
 use lib.Dec.{ltb, leb, eqb}
-use lib.IntN.{ℤ, pos}
-use lib.ListN.{length, take, replicate}
+use lib.ListN.{length, take}
 use borrow.Author.Tests.{le-leb}
-use Rattle.written.specs.Sharing.{Side, Table, questions, patterns, trees, records, values, Tables, Held, nothing, seen, placed, cleared, Stand, holds, stands, roomBeside}
+use Rattle.written.specs.Sharing.{Side, Table, questions, patterns, trees, records, values, Tables, Held, nothing, seen, placed, cleared, Stand, holds, stands}
 use Rattle.error.specs.declared.Refusal.{Refusal}
 use Rattle.error.specs.declared.Refusal.the-variants as refusal
 use Rattle.head_words.specs.Words.{headerAt, flagsFit}
@@ -19,22 +18,17 @@ use Rattle.load_plan.specs.Plans.{dataOf, planned}
 use Rattle.load_plan.specs.declared.Plan.{Plan}
 use Rattle.load_plan.specs.declared.Planned as real-plan
 use Rattle.load_plan.specs.declared.Planned.the-variants as plan
-use Rattle.load_model.specs.declared.Loaded.{Loaded}
-use Rattle.load_model.specs.declared.Loaded.the-variants as loaded
-use Rattle.load_model.specs.Load.{Tables as Lent, After as LentAfter, answerFor, filled, untouched as asLent}
-use Rattle.load_apart.specs.Loads.{Answer, Done, Refused, NoRoom, Overlap, Holding, Linked, After, Planned, refused, model, answerOf, untouched, filledIn, besideFor, sharedOf, unloadOf}
+use Rattle.load_model.specs.Load.{Tables as Lent, answerFor, filled, untouched as asLent}
+use Rattle.load_apart.specs.Loads.{Answer, Done, Refused, NoRoom, Overlap, Holding, Linked, After, Planned, refused, answerOf, untouched, filledIn, besideFor, sharedOf, unloadOf}
 use Rattle.load_apart.proofs.Tests.{stands-is, room-stands-same, holds-nothing}
-use Rattle.load_apart.proofs.Alone.{shared-held, shared-beside}
-use Rattle.load_apart.proofs.Apart.{unload-is}
-use Rattle.load_shared.specs.Beside.{rowsOf, withWork, putBack, placedIn, roomBy, besideOf}
+use Rattle.load_shared.specs.Beside.{rowsOf, withWork, placedIn, roomBy, besideOf}
 use Rattle.load_bounds.specs.Bounds.{needOf, tablesOf}
 use Rattle.load_shared.specs.Beside as beside
 use Rattle.face_record.specs.Answers.{judgedOf}
-use Rattle.face_model.specs.declared.Rows.{Rows}
 use Rattle.face_model.specs.Answers.{whichOf, noRows, rowsBy}
-use Rattle.face_load.specs.Answers.{Filled, filledBy, filledIn as filledWords, filledOf}
+use Rattle.face_load.specs.Answers.{Filled, filledBy, filledOf}
 use Rattle.face_load.specs.Answers as load
-use Rattle.face_shared.specs.Answers.{sideAt, standing, unloadedOf}
+use Rattle.face_shared.specs.Answers.{sideAt, unloadedOf}
 use Rattle.face_shared.specs.Answers as face
 use Rattle.shown_apart.specs.Real.{endingOf, modelOf, plannedBy, unfit, plannedOf, rowsFor}
 

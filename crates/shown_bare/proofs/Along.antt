@@ -1,8 +1,8 @@
 -- The walk over the lines of a tree that links is `written`'s, line by line.
 use mathlib.Core.Path.{_≡_, refl, sym, ap, ap₂, _∙_, subst}
 use mathlib.Core.Bool.{Bool, true, false, cond}
-use mathlib.Core.List.{List, [], _∷_, Forall₂}
-use Prim.Native.Nat.{ℕ, zero, suc, _+_, _≤_, _<_}
+use mathlib.Core.List.{List, Forall₂}
+use Prim.Native.Nat.{ℕ, zero, suc, _+_}
 use native.Mathlib.Omega.{arith}
 use borrow.Author.Tests.{ltb-true, ltb-false}
 use lib.Dec.{ltb}
@@ -11,11 +11,11 @@ use lib.ListN.{length, getD}
 use Rattle.written.specs.Said as said
 use Rattle.written.specs.Said.{Ref, node, pdf, Question, QuestionPlace}
 use Rattle.written.specs.Linking.{Nth, Row, LastLine, LastQuestion, LineRow, row, ToLeaf, asked}
-use Rattle.written.specs.Walks.{chosen, isYes, Outcome, afterwards}
+use Rattle.written.specs.Walks.{chosen, isYes, Outcome}
 use Rattle.written.specs.Meter.{Metered, at, refused, before, Along}
 use Rattle.written.proofs.Walk.{paired, to-node}
 use Rattle.written_alone.proofs.Metering.{outcomeOf}
-use Rattle.error.specs.declared.Refusal.the-variants.{WalkTable, Steps}
+use Rattle.error.specs.declared.Refusal.the-variants.{Steps}
 use Rattle.table_rows.proofs.Stand.{nth-at, nth-below}
 use Rattle.tree_reference.specs.References.{indexOf}
 use Rattle.tree_reference.specs.declared.TreeIndex.{TreeIndex}
@@ -25,9 +25,7 @@ use Rattle.text_parts.specs.Parts.{partInside}
 use Rattle.link_search.specs.declared.Found.{Found}
 use Rattle.link_search.specs.declared.Found.the-variants.{At, Nothing}
 use Rattle.link_find.specs.Find as find
-use Rattle.link_alone.specs.Alone.{toLine, targetIn}
-use Rattle.link_fits.specs.declared.Target.{Target}
-use Rattle.link_fits.specs.declared.Target.the-variants as target
+use Rattle.link_alone.specs.Alone.{toLine}
 use Rattle.walk.specs.Walking.{walkFrom, byMet, oneMore}
 use Rattle.walk.specs.Answer as answer
 use Rattle.walk.specs.declared.Met.{Met}
@@ -36,10 +34,9 @@ use Rattle.walk.specs.declared.Walked.{Walked}
 use Rattle.walk.specs.declared.Walked.the-variants as walked
 use Rattle.walk.proofs.Round.{walk-leaf}
 use Rattle.walk_bare.specs.Bare.{replyIn, replyFound, replyTo, lineNumber, goalIn, metReply, meetsIn}
-use Rattle.walk_bare.specs.declared.Reply.{Reply}
 use Rattle.walk_bare.specs.declared.Reply.the-variants.{Goes, Missing}
 use Rattle.walk_bare.proofs.Laws.{meets-line, meets-leaf}
-use Rattle.shown_accepts.proofs.Lines.{LineSaid, QuestionSaid, RefSmall, Leads, to-line, to-leaf, to-none, leads, Asks, of-row, of-none, asks-said}
+use Rattle.shown_accepts.proofs.Lines.{LineSaid, QuestionSaid, RefSmall, Leads, to-line, to-none, leads, Asks, of-row, of-none, asks-said}
 
 -- one question more, of either
 more : (n : ℕ) (e : Metered) (w : Walked) → outcomeOf e ≡ answer.outcomeOf w → outcomeOf (before n e) ≡ answer.outcomeOf (oneMore w)

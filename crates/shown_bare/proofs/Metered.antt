@@ -2,21 +2,20 @@
 use mathlib.Core.Path.{_≡_, refl, sym, ap, ap₂, _∙_, subst}
 use mathlib.Core.Bool.{Bool, true, false, cond}
 use mathlib.Core.List.{List, [], _∷_, Forall₂, Forall₂·nil, Forall₂·cons}
-use Prim.Native.Nat.{ℕ, zero, suc, _+_, _-_, _*_, _≤_, _<_, min}
+use Prim.Native.Nat.{ℕ, _+_, _-_, _*_, _<_, min}
 use native.Mathlib.Omega.{arith}
 use lib.ListN.{length}
 use Rattle.written.specs.Said as said
-use Rattle.written.specs.Said.{Ref, node, pdf, Body, lone, braces, Question, QuestionPlace, Text, Layout}
+use Rattle.written.specs.Said.{Ref, pdf, Body, lone, braces, Question, QuestionPlace}
 use Rattle.written.specs.Linking.{Nth, here, Single, alone, alike, NotSingle, Row, LineRow, ToLeaf, Records, Refused, Linked}
 use Rattle.written.specs.Walks.{Outcome}
 use Rattle.written.specs.Meter as meter
 use Rattle.written.specs.Meter.{Metered, at, refused, reading, Along, Over, meterOf, meterRefused, MetersText, Meters}
 use Rattle.written.proofs.Link.{records-linked}
 use Rattle.written_alone.proofs.Metering.{outcomeOf, over-exact}
-use Rattle.laws.specs.Steps.{doneAt}
 use Rattle.tree_question.specs.Questions.{questionsAt}
 use Rattle.tree_reference.specs.References.{indexOf, sameIndex}
-use Rattle.tree_reference.proofs.Same.{same-index, index-same}
+use Rattle.tree_reference.proofs.Same.{index-same}
 use Rattle.tree_line.specs.Lines.{linesAt}
 use Rattle.tree_line.specs.declared.Line as code
 use Rattle.tree_body.specs.Trees.{headAt}
@@ -24,11 +23,9 @@ use Rattle.tree_body.specs.declared.TreeHead.{TreeHead}
 use Rattle.tree_survey_lines.proofs.Counting.{lines-some}
 use Rattle.error.specs.Numbers.{faultNumber}
 use Rattle.error.specs.declared.LinkFault.{LinkFault}
-use Rattle.link_alone.specs.Alone.{judgedHead, singleIn}
+use Rattle.link_alone.specs.Alone.{singleIn}
 use Rattle.link_alone.specs.declared.Judged.{Judged}
-use Rattle.link_alone.specs.declared.Single as alone-of
 use Rattle.link_alone.specs.declared.Single.the-variants.{One, Several}
-use Rattle.link_window.specs.Windows.{faultHead}
 use Rattle.link_window.specs.declared.Linking.{Linking}
 use Rattle.link_window.specs.declared.Linking.the-variants.{Whole}
 use Rattle.link_window.specs.declared.Linking.the-variants as linking
@@ -37,7 +34,6 @@ use Rattle.walk.specs.Walking.{walkFrom}
 use Rattle.walk.specs.Answer as answer
 use Rattle.walk.specs.declared.Walked.{Walked}
 use Rattle.walk.specs.declared.Walked.the-variants as walked
-use Rattle.walk_accepts.specs.Accepting.{chosenTree}
 use Rattle.walk_accepts.specs.declared.Choice.{Choice}
 use Rattle.walk_bare.specs.Bare.{meetsIn, readCount, endedOf, aloneOf, singleOf, endingOf, bracesOf, headOf, meteredOf, linkedAs, meterAt, chosenOf, bareOf}
 use Rattle.walk_bare.specs.declared.Meter as told

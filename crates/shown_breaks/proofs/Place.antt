@@ -7,14 +7,12 @@ use Prim.Native.Nat.{ℕ, suc, _<_}
 use native.Mathlib.Omega.{arith}
 use native.Mathlib.Decide.{ℕ-discrete}
 use borrow.Author.Tests.{lt-ltb, le-ltb, ltb-true, ne-eqb}
-use lib.Dec.{ltb}
 use lib.ListN.{length}
-use Rattle.written.specs.Bytes.{blank, spaceOrTab, byteAt}
+use Rattle.written.specs.Bytes.{blank, spaceOrTab}
 use Rattle.written.specs.Said as says
 use Rattle.written.specs.TreeText.{Run, some, Blanks, Parting, QuestionAt, TreeAt, Says}
 use Rattle.written.specs.Breaks.{Asks, TreesBreak, QuestionsBreak, Breaks}
 use Rattle.written.proofs.Once.{first, parting-end, at-end}
-use Rattle.written_total.proofs.Broken.{breaks-silent}
 use Rattle.written_total.proofs.BreaksAlways.{says-or-breaks}
 use Rattle.laws.specs.Runs.{stop}
 use Rattle.laws.specs.Steps.{Ending, doneAt, brokenAt, Step, next, last, broken, Reading, readOf, read}

@@ -3,13 +3,11 @@ use mathlib.Core.Path.{_≡_, refl}
 use mathlib.Core.Bool.{true, false}
 use mathlib.Core.List.{List, [], _∷_}
 use Prim.Native.Nat.{ℕ}
-use lib.IntN.{ℤ, pos}
+use lib.IntN.{pos}
 use lib.ListN.{length, replicate}
 use Rattle.head_record.specs.Empty.{range, emptyGlobal, emptyHeader}
 use Rattle.head_record.specs.declared.Header.{Header}
-use Rattle.head_record.specs.declared.Global.{Global}
 use Rattle.load_choose.specs.declared.Which.the-variants.{Duration}
-use Rattle.load_trees.specs.declared.Linked.the-variants as linked
 use Rattle.load_model.specs.declared.Loaded.the-variants as loaded
 use Rattle.written.specs.Blocks.{littleEndian, total, rowsFrom, paired}
 use Rattle.written.specs.Bytes.{bytes, oneOf, same, letter, digit, wildcard, mark, inPattern, inWord, blank, spaceOrTab, inName, byteAt, between, decimal}

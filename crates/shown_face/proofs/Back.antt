@@ -1,18 +1,17 @@
 -- The words that an opening wrote are judged to be a record, and are the record that it opened; and the part that COMMENT's numbers name is the text that `comment`
 -- returns.
 use mathlib.Core.Path.{_≡_, refl, sym, ap, _∙_}
-use mathlib.Core.Bool.{Bool, true, false, cond, not, _&&_}
+use mathlib.Core.Bool.{Bool, true, false, cond, not}
 use mathlib.Core.List.{List}
 use Prim.Native.Nat.{ℕ, zero, suc, _-_, _≤_}
 use native.Mathlib.Omega.{arith}
-use borrow.Author.Tests.{le-ltb, leb-true, ltb-false}
-use lib.Dec.{ltb, leb, eqb}
+use borrow.Author.Tests.{le-ltb, leb-true}
+use lib.Dec.{ltb, eqb}
 use lib.ListN.{length}
 use lib.Seq.{sets, length-sets, take-all}
 use Rattle.written.specs.Bytes.{part}
 use Rattle.laws.proofs.Every.{first-of}
 use Rattle.laws.specs.Every.{all}
-use Rattle.head_record.specs.declared.Header.{Header}
 use Rattle.head_lines.specs.declared.Verdict.the-variants.{Accepted}
 use Rattle.head_words.specs.Words.{wordAt, isFlag, groupFlags, flagsFit, headerWords, globalAt, headerAt}
 use Rattle.shown_words.proofs.Back.{Shaped, read-written, written-flags}

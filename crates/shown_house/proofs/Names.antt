@@ -1,12 +1,11 @@
 -- The rule on question names (33): each row is judged the last of its name exactly where no name stands twice.
-use mathlib.Core.Path.{_≡_, refl, sym, ap, ap₂, _∙_, subst}
+use mathlib.Core.Path.{_≡_, refl, sym, ap, _∙_}
 use mathlib.Core.Bool.{Bool, true, false, true≢false}
 use mathlib.Core.List.{List}
 use mathlib.Core.Logic.{_⊎_, inl, inr}
 use Prim.Native.Nat.{ℕ, _≤_, _<_}
 use native.Mathlib.Omega.{arith}
 use borrow.Author.Tests.{eqb-true, eq-eqb}
-use lib.Dec.{eqb}
 use lib.ListN.{length}
 use Rattle.written.specs.Bytes.{same}
 use Rattle.written.specs.Said.{Question}
@@ -16,7 +15,6 @@ use Rattle.laws.proofs.Every.{all-each, each-all}
 use Rattle.laws.proofs.Nth.{nth-inside, nth-of}
 use Rattle.link_order.specs.Keys.{nameAt}
 use Rattle.link_sort.proofs.Order.{le-or-lt}
-use Rattle.link_search.specs.Found.{lastBelow}
 use Rattle.link_search.specs.declared.Found.{Found}
 use Rattle.link_search.specs.declared.Found.the-variants.{At, Nothing}
 use Rattle.link_search.proofs.Ids.{same-true, true-same}

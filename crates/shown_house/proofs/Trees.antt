@@ -7,17 +7,15 @@ use native.Mathlib.Omega.{arith}
 use borrow.Author.Tests.{eqb-true, eq-eqb, leb-true, le-leb}
 use lib.Dec.{eqb, leb}
 use lib.IntN.{ℤ, pos, negsuc, negℤ}
-use lib.ListN.{length}
 use lib.Signed.{mag}
 use Rattle.written.specs.Bytes.{Span}
 use Rattle.written.specs.Said as said
 use Rattle.written.specs.Linking.{Nth, here, there}
-use Rattle.written.specs.TreeText.{Parted, last, next, Parting, LineParting, LineAt, BodyAt, one, none, lines, TreeAt, tree}
+use Rattle.written.specs.TreeText.{Parted, last, next, Parting, BodyAt, one, none, lines, TreeAt, tree}
 use Rattle.written.specs.Writing.{Numbered}
 use Rattle.written.specs.House.{IdsRun, Leaf}
 use Rattle.laws.proofs.Every.{both, first-of, second-of}
 use Rattle.tree_reference.specs.References.{indexOf}
-use Rattle.tree_line.specs.Lines.{lineOf}
 use Rattle.tree_line.specs.declared.Line as code
 use Rattle.tree_body.specs.Trees.{Body, bodyOf, treeOf}
 use Rattle.link_order.specs.Keys.{idKey}

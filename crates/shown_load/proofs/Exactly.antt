@@ -4,10 +4,8 @@ use mathlib.Core.Path.{_≡_, refl, sym, ap, ap₂, _∙_, subst}
 use mathlib.Core.Bool.{Bool, true, false, cond, _&&_}
 use mathlib.Core.List.{List}
 use Prim.Native.Nat.{ℕ, _+_, _^_, _≤_, _<_}
-use native.Mathlib.Omega.{arith}
 use borrow.Author.Tests.{leb-true, le-leb}
 use lib.Dec.{leb}
-use lib.IntN.{ℤ}
 use lib.ListN.{length, take, drop}
 use Rattle.written.specs.Said as said
 use Rattle.written.specs.TreeText.{Says}
@@ -30,7 +28,6 @@ use Rattle.pdf_blocks.specs.Values.{blockAt}
 use Rattle.pdf_blocks.specs.declared.Block.{Block}
 use Rattle.pdf_blocks.specs.declared.Block.the-variants as block
 use Rattle.pdf_blocks.proofs.Joined.{Small, fits-block}
-use Rattle.load_choose.specs.Chosen.{chosenOf}
 use Rattle.load_range.specs.Ranges.{withinOf}
 use Rattle.load_choose.specs.Entries.{Arrays, Choice}
 use Rattle.load_choose.specs.declared.Which.{Which}
@@ -40,7 +37,6 @@ use Rattle.load_range.specs.declared.Bounds.{Bounds}
 use Rattle.load_range.specs.declared.Bounds.the-variants as bounds
 use Rattle.load_choose.proofs.Joined.{chosen-so, chosen-once}
 use Rattle.load_trees.specs.declared.Linked.{Linked}
-use Rattle.load_trees.specs.declared.Linked.the-variants as linked
 use Rattle.load_text.specs.Text.{endAt}
 use Rattle.load_plan.specs.Plans.{placed, textOf, entriesFor, entriesOf, planFor, blockIn, blockOf, planIn, planOf, dataOf, plannedFor, planned}
 use Rattle.load_plan.specs.declared.Plan.{Plan}

@@ -4,19 +4,15 @@
 use mathlib.Core.Path.{_≡_, refl, sym, ap, ap₂, _∙_, subst}
 use mathlib.Core.Bool.{Bool, true, false, cond, _&&_}
 use mathlib.Core.List.{List}
-use Prim.Native.Nat.{ℕ, _+_, _*_, _^_, _≤_, _<_}
+use Prim.Native.Nat.{ℕ, _+_, _^_, _≤_, _<_}
 use native.Mathlib.Omega.{arith}
-use borrow.Author.Tests.{leb-true, leb-false, le-leb}
+use borrow.Author.Tests.{leb-true, le-leb}
 use lib.Dec.{leb}
-use lib.IntN.{ℤ}
 use lib.ListN.{length, take, drop}
-use Rattle.written.specs.Said as said
-use Rattle.written.specs.TreeText.{Says}
 use Rattle.written.specs.Tables.{Negative}
 use Rattle.written.specs.Blocks as written-block
-use Rattle.pdf_widen.specs.Widening.{widenOf}
 use Rattle.laws.specs.Steps.{Ending, doneAt, brokenAt}
-use Rattle.laws.specs.Totals.{total, largest, anyOf}
+use Rattle.laws.specs.Totals.{total}
 use Rattle.error.specs.declared.Refusal.{Refusal}
 use Rattle.error.specs.declared.Refusal.the-variants as refusal
 use Rattle.head_record.specs.declared.Header.{Header}
@@ -37,8 +33,7 @@ use Rattle.load_choose.specs.declared.Chosen.{Chosen}
 use Rattle.load_choose.specs.declared.Chosen.the-variants as chosen
 use Rattle.load_range.specs.declared.Bounds.{Bounds}
 use Rattle.load_range.specs.declared.Bounds.the-variants as bounds
-use Rattle.load_choose.proofs.Joined.{chosen-so, chosen-once}
-use Rattle.load_trees.specs.declared.Linked.{Linked}
+use Rattle.load_choose.proofs.Joined.{chosen-so}
 use Rattle.load_text.specs.Text.{endAt}
 use Rattle.load_plan.specs.Plans.{placed, textOf, entriesFor, entriesOf, planFor, blockIn, blockOf, planIn, planOf, dataOf, plannedFor, planned}
 use Rattle.load_plan.specs.declared.Plan.{Plan}
@@ -48,9 +43,8 @@ use Rattle.load_plan.specs.declared.Planned.{Planned}
 use Rattle.load_plan.specs.declared.Planned.the-variants as planned
 use Rattle.load_plan.specs.declared.Planned.the-variants.{Model}
 use Rattle.load_plan.proofs.Laws.{Was, was}
-use Rattle.load_model.specs.Load.{After, Tables, roomIn, answerFor, filledBy, filled, untouched, loadFor, loadOf}
+use Rattle.load_model.specs.Load.{Tables, roomIn, filled, untouched, loadFor, loadOf}
 use Rattle.load_model.specs.declared.Loaded.the-variants as loaded
-use Rattle.shown_load.specs.Stored.{Chose}
 use Rattle.shown_breaks.proofs.Place.{broken-breaks}
 use Rattle.shown_load.specs.Refused.{Within, NotLoaded, not-chosen, text-outside, no-text, negative-state, block-outside, no-block, no-room, not-linked}
 use Rattle.shown_load.proofs.Texts.{small-take, small-drop, counted-whole, spoken, natural, counted}

@@ -2,23 +2,19 @@
 -- says, with that number, tree and line. Demand 3: over the tables cut to the returned counts, the walk ends as the written walk of the text.
 -- Assumes that the file is a slice: its length below 2^63, its elements bytes.
 use mathlib.Core.Path.{_≡_, refl, sym, ap, ap₂, _∙_, subst}
-use mathlib.Core.Bool.{Bool, true, false, cond}
 use mathlib.Core.List.{List, flatten}
-use Prim.Native.Nat.{ℕ, zero, suc, _+_, _*_, _^_, _≤_, _<_}
+use Prim.Native.Nat.{ℕ, _+_, _*_, _^_, _≤_, _<_}
 use native.Mathlib.Omega.{arith}
-use lib.IntN.{ℤ, pos}
-use lib.ListN.{length, getD, take, drop, replicate}
+use lib.ListN.{length, getD, take, drop}
 use lib.Seq.{sets}
-use Rattle.written.specs.Bytes.{part}
 use Rattle.written.specs.Said as said
-use Rattle.written.specs.TreeText.{Says}
 use Rattle.written.specs.Linking.{Nth, Row}
 use Rattle.written.specs.Tables.{TreeRows, folded, ModelRefused, Negative}
 use Rattle.written.proofs.Folded.{Wide, wide-text, wide-folded, length-folded}
 use Rattle.written.specs.Blocks as block
 use Rattle.written.specs.Blocks.{rowsFrom, total as total-of}
 use Rattle.pdf_widen.specs.Widening.{widenOf}
-use Rattle.laws.specs.Totals.{total, largest, anyOf}
+use Rattle.laws.specs.Totals.{total}
 use Rattle.tree_question.specs.Questions.{questionsAt}
 use Rattle.load_questions.specs.Words.{patternWords}
 use Rattle.written.specs.Walks.{Ending, Written, isYes}
@@ -28,12 +24,8 @@ use Rattle.error.specs.declared.Refusal.{Refusal}
 use Rattle.error.specs.declared.Refusal.the-variants as refusal
 use Rattle.head_record.specs.declared.Header.{Header}
 use Rattle.load_choose.specs.declared.Which.{Which}
-use Rattle.tree_survey.specs.Survey.{surveyAt}
-use Rattle.tree_survey.specs.Said.{saidPatterns, saidNegative, saidTreeRecords, saidTreeLines, saidSurvey}
-use Rattle.tree_survey.specs.declared.Survey.{Survey}
-use Rattle.tree_survey.specs.declared.Survey.the-variants as survey
-use Rattle.tree_survey.proofs.Joined.{Spoken, whole-says}
-use Rattle.tree_survey.proofs.Said.{survey-said, said-negative}
+use Rattle.tree_survey.specs.Said.{saidTreeRecords}
+use Rattle.tree_survey.proofs.Joined.{Spoken}
 use Rattle.pdf_blocks.specs.Values.{wordsAt, valuesAt}
 use Rattle.pdf_blocks.proofs.Joined.{Small, length-rows, length-words, fits-block}
 use Rattle.pdf_values.specs.Folded.{withBlocks}
@@ -41,12 +33,11 @@ use Rattle.pdf_values.proofs.Folded.{fold-stored}
 use Rattle.load_trees.specs.declared.Linked.{Linked}
 use Rattle.load_trees.specs.declared.Linked.the-variants as linked
 use Rattle.load_text.specs.Text.{wordsAt as questionWordsAt, endAt, treesStored, recordsStored, kept}
-use Rattle.load_plan.specs.Plans.{Sound, dataOf, planned}
+use Rattle.load_plan.specs.Plans.{dataOf, planned}
 use Rattle.load_plan.specs.declared.Plan.{Plan}
 use Rattle.load_plan.specs.declared.Planned.the-variants.{Model}
 use Rattle.load_plan.proofs.Laws.{Was, was, needs-sound}
 use Rattle.load_model.specs.Load.{Tables, After, answerFor, blocksOf, keptTrees, filled, loadOf}
-use Rattle.load_model.specs.declared.Loaded.{Loaded}
 use Rattle.load_model.specs.declared.Loaded.the-variants as loaded
 use Rattle.load_model.proofs.Laws.{part-short, take-short}
 use Rattle.shown_text.specs.Refusals as refused-as

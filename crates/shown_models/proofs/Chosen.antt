@@ -4,7 +4,7 @@ use mathlib.Core.Bool.{Bool, true, false, cond, _&&_, true≢false}
 use mathlib.Core.List.{List, [], _∷_, map}
 use mathlib.Core.Option.{Option, some}
 use mathlib.Core.Option as option
-use Prim.Native.Nat.{ℕ, zero, suc, _+_, _*_, _≤_, _<_}
+use Prim.Native.Nat.{ℕ, zero, suc, _*_, _≤_, _<_}
 use native.Mathlib.Omega.{arith}
 use borrow.Author.Tests.{ltb-true, ltb-false}
 use lib.Dec.{ltb}
@@ -13,7 +13,7 @@ use Rattle.written.specs.Bytes as written
 use Rattle.written.specs.HeaderText as says
 use Rattle.written.specs.Record.{Says}
 use Rattle.written.specs.Record as record-of
-use Rattle.written.specs.Linking.{Nth, Last, here, there}
+use Rattle.written.specs.Linking.{Nth, here, there}
 use Rattle.laws.proofs.Nth.{nth-inside, nth-of}
 use Rattle.error.specs.Numbers.{numberOf, placeOf, lineOf}
 use Rattle.error.specs.declared.Refusal.{Refusal}

@@ -2,18 +2,17 @@
 -- values. Where linking refuses the model in tree k, it refuses that tree, with the same number and line. The walk of what the tree load left is the walk of tree k.
 -- Assumes that the file is a slice: its length below 2^63, its elements bytes.
 use mathlib.Core.Path.{_≡_, refl, sym, ap, ap₂, _∙_, subst}
-use mathlib.Core.Bool.{Bool, true, false, cond}
-use mathlib.Core.List.{List, [], _∷_, _++_, map, flatten, zipWith, append-nil}
-use Prim.Native.Nat.{ℕ, zero, suc, _+_, _*_, _^_, _≤_, _<_}
+use mathlib.Core.List.{List, [], _∷_, map, flatten, zipWith, append-nil}
+use Prim.Native.Nat.{ℕ, _+_, _*_, _^_, _≤_, _<_}
 use native.Mathlib.Nat.{zero-add}
 use native.Mathlib.Omega.{arith}
-use lib.IntN.{ℤ, pos, negsuc}
-use lib.ListN.{length, getD, take, drop, replicate}
+use lib.IntN.{pos}
+use lib.ListN.{length, getD, take, drop}
 use lib.Seq.{sets}
 use Rattle.written.specs.Said as said
 use Rattle.written.specs.Said.{Text, Layout, Question}
 use Rattle.written.specs.Linking.{Nth, here, there, Row, Records, Refused}
-use Rattle.written.specs.Tables.{TreeRows, LinesOf, folded, treeRow, ModelRefused, Negative, negative}
+use Rattle.written.specs.Tables.{TreeRows, folded, treeRow, ModelRefused}
 use Rattle.written.specs.Blocks as block
 use Rattle.written.specs.Blocks.{total, rowsFrom}
 use Rattle.written.specs.Walks.{Ending, Written, isYes}
@@ -23,11 +22,10 @@ use Rattle.written.proofs.Walk.{written-once}
 use Rattle.written.proofs.OneBlock.{block-one}
 use Rattle.written.proofs.ModelOnce.{model-rows-once, model-never-both}
 use Rattle.written_trailer.proofs.OneTree.{LinkedAlone, linked-alone}
-use Rattle.laws.proofs.Nth.{nth-inside, nth-of}
-use Rattle.error.specs.declared.Refusal.{Refusal}
+use Rattle.laws.proofs.Nth.{nth-inside}
 use Rattle.head_record.specs.declared.Header.{Header}
 use Rattle.tree_question.specs.Questions.{questionsAt}
-use Rattle.tree_body.specs.Trees.{Body, lone, braces, Tree, treeOf, headAt, treesAt}
+use Rattle.tree_body.specs.Trees.{Body, lone, braces, Tree, treeOf, headAt}
 use Rattle.tree_survey.specs.Survey.{bodyRecords}
 use Rattle.pdf_blocks.specs.Values.{wordAt, wordsAt, valuesAt}
 use Rattle.pdf_blocks.proofs.Joined.{Small, fits-block}
@@ -40,10 +38,10 @@ use Rattle.load_tree.specs.Bodies.{Result, bodyResult}
 use Rattle.load_tree.proofs.Laws.{lone-size, lines-size}
 use Rattle.load_tree.specs.declared.Filled.{Filled}
 use Rattle.load_tree.specs.declared.Filled.the-variants as filled
-use Rattle.load_trees.specs.Trees.{allLinked, headState, headBody, rowWords, endedAt, thenRest, treeResult, treesEnd}
+use Rattle.load_trees.specs.Trees.{headState, headBody, rowWords, endedAt}
 use Rattle.load_trees.specs.declared.Linked.{Linked}
 use Rattle.load_trees.specs.declared.Linked.the-variants as linked
-use Rattle.load_text.specs.Text.{wordsAt as questionWordsAt, endAt, kept}
+use Rattle.load_text.specs.Text.{wordsAt as questionWordsAt, kept}
 use Rattle.load_plan.specs.Plans.{dataOf}
 use Rattle.load_plan.specs.declared.Plan.{Plan}
 use Rattle.load_plan.proofs.Laws.{Was, was, needs-sound}
@@ -53,7 +51,7 @@ use Rattle.load_model.proofs.Laws.{part-short, take-short}
 use Rattle.trail_link.specs.One.{oneResult, oneEnd, oneRow}
 use Rattle.trail_plan.specs.Plans.{valuesFrom}
 use Rattle.trail_plan.proofs.Laws.{total-part}
-use Rattle.trail_load.specs.Load.{onlyBlock, treeFilledBy, treeFilled}
+use Rattle.trail_load.specs.Load.{onlyBlock, treeFilled}
 use Rattle.table_rows.proofs.Fours.{fours-model}
 use Rattle.walk.specs.Walking.{walkOf}
 use Rattle.walk.specs.Answer.{answerOf, endingAnswer}
@@ -61,13 +59,13 @@ use Rattle.walk.proofs.Demand.{flat-walk}
 use Rattle.shown_text.proofs.Walks.{bytes-answer}
 use Rattle.shown_load.proofs.Says.{cut-rows, load-walks}
 use Rattle.shown_text.proofs.OneTree.{Verdict}
-use Rattle.shown_text.proofs.Text.{trees-are, text-questions, text-patterns, resultOf, tree-said}
+use Rattle.shown_text.proofs.Text.{text-questions, text-patterns, resultOf, tree-said}
 use Rattle.shown_load.specs.Stored.{Chose, Stored}
 use Rattle.shown_load.proofs.Texts.{small-take, small-drop}
 use Rattle.shown_one.specs.One.{OneStored}
-use Rattle.shown_one.proofs.Steps.{Stepped, facts-of, nth-trees}
+use Rattle.shown_one.proofs.Steps.{Stepped, facts-of}
 use Rattle.shown_one.proofs.Values.{values-part, block-row}
-use Rattle.shown_one.proofs.Plan.{onePlan, at-tree, as-many}
+use Rattle.shown_one.proofs.Plan.{onePlan, at-tree}
 
 clash : {A : Type 0} → _≡_ {A = ℕ} 0 1 → A
 clash e = absurd (omega arith)

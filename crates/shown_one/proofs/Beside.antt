@@ -17,14 +17,12 @@ use Rattle.head_record.specs.declared.Header.{Header}
 use Rattle.tree_body.specs.Trees.{treeOf}
 use Rattle.pdf_blocks.proofs.Joined.{Small}
 use Rattle.load_choose.specs.declared.Which.{Which}
-use Rattle.load_trees.specs.Trees.{allLinked}
 use Rattle.load_trees.specs.declared.Linked.{Linked}
 use Rattle.load_trees.specs.declared.Linked.the-variants as linked
 use Rattle.load_plan.specs.Plans.{dataOf}
 use Rattle.load_plan.specs.declared.Plan.{Plan}
 use Rattle.load_plan.specs.declared.Planned.{Planned}
 use Rattle.load_plan.specs.declared.Planned.the-variants as plan
-use Rattle.load_model.specs.declared.Loaded.{Loaded}
 use Rattle.load_model.specs.declared.Loaded.the-variants as loaded
 use Rattle.load_model.specs.Load.{Tables, lent, After, answerFor, untouched}
 use Rattle.load_shared.specs.Beside.{rowsOf, withWork, putBack, roomBy}

@@ -2,7 +2,7 @@
 use mathlib.Core.Path.{_≡_, refl, sym, ap, ap₂, _∙_, subst}
 use mathlib.Core.Bool.{Bool, true, false, cond}
 use mathlib.Core.List.{List, [], _∷_, map}
-use Prim.Native.Nat.{ℕ, zero, suc, _+_, _*_, _≤_, _<_}
+use Prim.Native.Nat.{ℕ, suc, _+_, _*_, _<_}
 use native.Mathlib.Omega.{arith}
 use lib.IntN.{ℤ, pos, negsuc}
 use lib.ListN.{length, take}
@@ -12,20 +12,18 @@ use Rattle.written.specs.TreeText.{Says, without, with-questions, trees}
 use Rattle.written.specs.Linking.{Nth, here, there}
 use Rattle.written.specs.Tables.{Negative, negative}
 use Rattle.written.specs.Blocks.{total}
-use Rattle.laws.specs.Steps.{Ending, doneAt}
 use Rattle.laws.specs.Totals as totals
-use Rattle.laws.proofs.Nth.{nth-inside}
 use Rattle.error.specs.declared.Refusal.the-variants as refusal
 use Rattle.head_record.specs.declared.Header.{Header}
 use Rattle.head_record_fits.specs.Fits.{recordFits}
 use Rattle.tree_question.specs.Questions.{questionsAt}
 use Rattle.tree_survey_questions.specs.Counts.{patternCount, questionsEnded, questionsCounted}
 use Rattle.tree_survey_questions.specs.declared.Questions.the-variants as questions
-use Rattle.tree_body.specs.Trees.{Tree, treeOf, treeStepAt, treesAt}
+use Rattle.tree_body.specs.Trees.{Tree, treeOf, treeStepAt}
 use Rattle.tree_survey.proofs.Said.{same-length}
 use Rattle.tree_survey.specs.Survey as survey
 use Rattle.tree_survey.specs.Survey.{treeNegative, treeRecords, treeLines, treeSurveyed}
-use Rattle.pdf_blocks.specs.Values.{wordAt, wordsAt, blockAt}
+use Rattle.pdf_blocks.specs.Values.{wordAt, blockAt}
 use Rattle.pdf_blocks.specs.declared.Block.{Block}
 use Rattle.pdf_blocks.specs.declared.Block.the-variants as block
 use Rattle.link_search.specs.declared.Found.the-variants as found
@@ -40,11 +38,10 @@ use Rattle.load_plan.specs.Plans.{textOf, withEntries, entriesFor, entriesOf, p
 use Rattle.load_plan.specs.declared.Text as read
 use Rattle.load_plan.specs.declared.Text.the-variants as text
 use Rattle.load_plan.specs.declared.Plan.{Plan}
-use Rattle.load_plan.specs.declared.Planned.{Planned}
 use Rattle.load_plan.specs.declared.Planned.the-variants.{Model, Refused}
 use Rattle.load_plan.proofs.Laws.{Was, was, needs-sound}
 use Rattle.trail_find.specs.Rows.{nthOf}
-use Rattle.trail_plan.specs.Plans.{treeFor, treeTextOf, withTree, valuesFrom, treePlanned}
+use Rattle.trail_plan.specs.Plans.{treeFor, withTree, valuesFrom, treePlanned}
 use Rattle.trail_plan.proofs.Laws.{text-asked, entries-fit, block-inside, tree-there, needs-tree}
 use Rattle.shown_text.proofs.Text.{trees-are}
 use Rattle.shown_load.specs.Stored.{Chose}

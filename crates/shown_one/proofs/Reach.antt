@@ -1,6 +1,6 @@
 -- The rows of a file that ends in its trailer reach the trees of each of its models: read at the file's end, those of a model's number are its trees, in order.
 use mathlib.Core.Path.{_≡_, refl, sym, ap, ap₂, _∙_, subst}
-use mathlib.Core.Bool.{Bool, true, false, cond, true≢false}
+use mathlib.Core.Bool.{Bool, true, cond, true≢false}
 use mathlib.Core.List.{List, [], _∷_, _++_, map, append-assoc, append-nil}
 use Prim.Native.Nat.{ℕ, zero, suc, _+_, _-_, _*_, _/_, _%_, _^_, _≤_, _<_}
 use native.Mathlib.Omega.{arith}
@@ -13,17 +13,14 @@ use Rattle.written.specs.Record.{Header, All}
 use Rattle.written.specs.Said.{Tree, TreePlace, Text, Layout}
 use Rattle.written.specs.Linking.{Nth, here, there}
 use Rattle.written.specs.Blocks.{littleEndian, Below32}
-use Rattle.written.specs.Blocks as blocks
-use Rattle.written.specs.Models.{Model, duration, stream, gv, modelNumber, StreamModels, Models, EntriesOf, Placed, of-duration, of-stream, of-gv, TextOf, bytesOf}
+use Rattle.written.specs.Models.{Model, duration, stream, gv, modelNumber, StreamModels, Models, Placed, of-duration, of-stream, of-gv, TextOf, bytesOf}
 use Rattle.written.specs.Models as models
 use Rattle.written.specs.Trailer.{TrailerRows, VoiceRows, sum32, unsummed, Trailer, EndsIn}
-use Rattle.written.proofs.Walk.{nth-once}
 use Rattle.written_models.proofs.OneModel.{named-one, named-never, text-one}
 use Rattle.written_trailer.proofs.Trailing.{little-append, little-length, trailer-size}
 use Rattle.head_record.specs.declared.Header.{Header as Code}
 use Rattle.pdf_blocks.specs.Values.{wordAt, wordsAt}
-use Rattle.trail_find.specs.Rows.{trailAt, offsetsAt}
-use Rattle.trail_find.specs.declared.Trail.the-variants as trail
+use Rattle.trail_find.specs.Rows.{offsetsAt}
 use Rattle.trail_find.proofs.Laws.{trail-rows}
 use Rattle.shown_one.specs.One.{starOf, Reaching}
 

@@ -1,16 +1,15 @@
 -- The k-th tree of a text is read where it stands: its step, and its head.
 use mathlib.Core.Path.{_≡_, refl, sym, ap, _∙_, subst}
-use mathlib.Core.List.{List, [], _∷_, zipWith}
+use mathlib.Core.List.{List, [], zipWith}
 use Prim.Native.Nat.{ℕ, zero, suc}
 use native.Mathlib.Omega.{arith}
-use lib.IntN.{ℤ}
 use lib.ListN.{length}
 use Rattle.written.specs.Said as said
 use Rattle.written.specs.Linking.{Nth, here, there}
-use Rattle.written.proofs.Walk.{no-row, nth-once}
+use Rattle.written.proofs.Walk.{no-row}
 use Rattle.laws.specs.Steps.{Ending, doneAt, brokenAt, Step, next, last, broken, Reading, readOf}
 use Rattle.tree_line.specs.Lines.{linesAt}
-use Rattle.tree_body.specs.Trees.{Body, Tree, lone, braces, treeOf, headAt, afterTree, treeFollowed, treeRead, treeHeaded, treeStepAt, treesAt}
+use Rattle.tree_body.specs.Trees.{Tree, lone, braces, treeOf, headAt, afterTree, treeFollowed, treeRead, treeHeaded, treeStepAt, treesAt}
 use Rattle.tree_body.specs.declared.TreeHead.{TreeHead}
 use Rattle.tree_body.specs.declared.TreeHead.the-variants as head
 use Rattle.tree_body.specs.declared.TreeStep.{TreeStep}

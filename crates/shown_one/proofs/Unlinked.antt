@@ -1,8 +1,8 @@
 -- Where linking refuses the model, it refuses that tree alone, with the same number, tree and line.
 use mathlib.Core.Path.{_≡_, refl, sym, ap, _∙_, subst}
-use mathlib.Core.Bool.{Bool, true, false}
+use mathlib.Core.Bool.{false}
 use mathlib.Core.List.{List, [], _∷_, zipWith}
-use Prim.Native.Nat.{ℕ, zero, suc, _+_, _^_, _<_}
+use Prim.Native.Nat.{ℕ, suc, _+_, _^_, _<_}
 use native.Mathlib.Nat.{zero-add}
 use native.Mathlib.Omega.{arith}
 use lib.ListN.{length}
@@ -23,9 +23,8 @@ use Rattle.load_trees.specs.declared.Linked.the-variants as linked
 use Rattle.load_text.specs.Text.{wordsAt, endAt}
 use Rattle.load_plan.specs.Plans.{dataOf}
 use Rattle.load_plan.specs.declared.Plan.{Plan}
-use Rattle.load_model.specs.Load.{Tables, answerFor, filled as filled-by}
-use Rattle.load_model.specs.declared.Loaded.the-variants as loaded
-use Rattle.trail_link.specs.One.{oneResult, oneEnd}
+use Rattle.load_model.specs.Load.{Tables, answerFor}
+use Rattle.trail_link.specs.One.{oneEnd}
 use Rattle.trail_load.specs.Load.{treeFilled}
 use Rattle.shown_text.proofs.Text.{trees-are}
 use Rattle.shown_load.specs.Stored.{Chose}

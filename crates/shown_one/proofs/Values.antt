@@ -1,18 +1,17 @@
 -- The values of one tree are a part of the block's; its row among those that the block says.
-use mathlib.Core.Path.{_≡_, refl, sym, ap, ap₂, _∙_, subst}
-use mathlib.Core.List.{List, [], _∷_, _++_, append-assoc}
+use mathlib.Core.Path.{_≡_, sym, ap, _∙_, subst}
+use mathlib.Core.List.{List, _++_, append-assoc}
 use Prim.Native.Nat.{ℕ, zero, suc, _+_, _-_, _*_, _/_, _%_, _≤_, _<_}
 use native.Mathlib.Nat.{zero-mul}
 use native.Mathlib.Omega.{arith}
 use lib.Dec.{eqb}
-use lib.ListN.{length, take, drop}
+use lib.ListN.{take, drop}
 use lib.Seq.{take-at, drop-at}
 use Rattle.written.specs.Linking.{Nth, here, there}
 use Rattle.written.specs.Blocks as block
 use Rattle.written.specs.Blocks.{total, rowsFrom}
 use Rattle.pdf_blocks.specs.Values.{wordAt, wordsAt, entryAt, valuesAt}
 use Rattle.load_model.proofs.Laws.{length-values}
-use Rattle.trail_plan.proofs.Laws.{total-part}
 
 -- values of a entries, then of the others
 values-append : (s : List ℕ) (i w a b : ℕ) → valuesAt s i w (a + b) ≡ valuesAt s i w a ++ valuesAt s (i + 4 * (a * w)) w b

@@ -6,8 +6,8 @@ use Prim.Native.Nat.{ℕ, _*_}
 use lib.IntN.{pos}
 use lib.ListN.{length, take, drop, replicate}
 use lib.Seq.{sets}
-use Rattle.written.specs.Said.{Text, Layout, TreePlace}
-use Rattle.written.specs.Linking.{Nth, Row}
+use Rattle.written.specs.Said.{Layout, TreePlace}
+use Rattle.written.specs.Linking.{Nth}
 use Rattle.written.specs.Tables.{folded, questionRows, patternRows}
 use Rattle.head_record.specs.declared.Header.{Header}
 use Rattle.load_choose.specs.declared.Which.{Which}

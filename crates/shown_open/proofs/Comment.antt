@@ -1,15 +1,15 @@
 -- COMMENT of an opened file: the bytes of the file that its record says, or the fallback where the record says none.
-use mathlib.Core.Path.{_≡_, refl, sym, ap, _∙_, subst}
+use mathlib.Core.Path.{_≡_, sym, _∙_, subst}
 use mathlib.Core.Bool.{Bool, true, false, cond}
 use mathlib.Core.List.{List, [], _∷_}
-use mathlib.Core.Option.{Option, some, none as nothing}
+use mathlib.Core.Option.{some, none as nothing}
 use Prim.Native.Nat.{ℕ, zero, suc, _+_, _-_, _≤_}
 use native.Mathlib.Omega.{arith}
 use borrow.Author.Tests.{le-ltb}
 use lib.ListN.{length, take}
 use Rattle.written.specs.Bytes.{bytes, newline, same, part, Span}
 use Rattle.written.specs.HeaderText.{Text, Kind, Value, text, Reads, is-string, Field, Entry, valuesOf, Many, none, more, NextLine}
-use Rattle.written.specs.Record.{upTo, AtMostOnce, missing, there, GlobalText, Says}
+use Rattle.written.specs.Record.{AtMostOnce, missing, there, GlobalText, Says}
 use Rattle.written.specs.Record as record-of
 use Rattle.head_record.specs.Record.{globalRecord, headerRecord}
 use Rattle.head_lines.proofs.Moves.{no as never}

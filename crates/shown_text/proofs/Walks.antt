@@ -18,7 +18,7 @@ use Rattle.written.proofs.Walk.{nth-append}
 use Rattle.written.proofs.Folded.{Wide, wide-text, wide-folded, folded-there}
 use Rattle.laws.proofs.Nth.{nth-inside}
 use Rattle.table_rows.specs.Rows.{recordRows, recordRow, treeFirst, TreesStand, Standing, HasTree}
-use Rattle.table_rows.proofs.Stand.{Fours, nth-at, cut-nth, length-flat, flat-stands, trees-stand}
+use Rattle.table_rows.proofs.Stand.{nth-at, cut-nth, length-flat, flat-stands, trees-stand}
 use Rattle.table_rows.proofs.Fours.{fours-model}
 use Rattle.walk.specs.Walking.{walkOf}
 use Rattle.walk.specs.Answer.{answerOf, endingAnswer}

@@ -1,39 +1,34 @@
 -- What the calls on a trailer answer is `written`'s `Writes` and `Finds`, of any bytes.
-use mathlib.Core.Path.{_≡_, refl, sym, ap, ap₂, _∙_, subst, subst₂}
+use mathlib.Core.Path.{_≡_, refl, sym, ap, _∙_, subst}
 use mathlib.Core.Bool.{Bool, true, false, cond, _&&_}
 use mathlib.Core.Logic.{_⊎_, inl, inr}
 use mathlib.Core.List.{List, [], _∷_, map}
 use Prim.Native.Nat.{ℕ, _+_, _-_, _*_, _≤_, _<_}
 use native.Mathlib.Omega.{arith}
-use borrow.Author.Tests.{ltb-true, ltb-false, leb-true, leb-false, ne-eqb}
+use borrow.Author.Tests.{ltb-true, ltb-false, leb-false, ne-eqb}
 use lib.Dec.{leb, ltb, eqb}
 use lib.ListN.{length, drop, length-drop}
 use lib.Seq.{sets, length-take-le}
 use Rattle.written.specs.Record.{Header, Says, file-limit}
 use Rattle.written.specs.Faults.{Refused}
-use Rattle.written.specs.Models as models
 use Rattle.written.specs.Models.{Model, Models}
 use Rattle.written.specs.Blocks.{Below32}
-use Rattle.written.specs.Trailer.{VoiceRows, Trailer, EndsIn, Summed, WritesOf, FindsOf, Writes, Finds}
+use Rattle.written.specs.Trailer.{VoiceRows, Trailer, Summed, WritesOf, FindsOf, Writes, Finds}
 use Rattle.written_apart.proofs.ApartFile.{says-never}
-use Rattle.written.proofs.OneFile.{says-one}
 use Rattle.written_models.proofs.Longer.{data-ends}
 use Rattle.written_trailer.proofs.Trailing.{trailer-size}
 use Rattle.error.specs.Numbers.{numberOf, placeOf}
-use Rattle.error.specs.declared.Refusal.{Refusal}
 use Rattle.head_record.specs.Record.{headerRecord}
 use Rattle.head_record.specs.declared.Header as code
 use Rattle.head_words.specs.Words.{headerAt, headerWords}
 use Rattle.head_de.proofs.Sound.{Bytes}
-use Rattle.head_open.specs.Open.{openOf, refusedWith}
+use Rattle.head_open.specs.Open.{refusedWith}
 use Rattle.head_open.specs.declared.Opened.{Opened}
 use Rattle.pdf_blocks.specs.Values.{wordAt}
 use Rattle.load_plan.specs.Plans.{dataOf}
 use Rattle.load_voice.specs.Voice.{modelsOf}
-use Rattle.trail_bytes.specs.Numbers.{sameWords}
 use Rattle.trail_voice.specs.Voice.{voiceRows, voiceTrees}
 use Rattle.trail_voice.specs.declared.VoiceTrees.{VoiceTrees}
-use Rattle.trail_voice.specs.declared.VoiceTrees.the-variants as trees
 use Rattle.trail_voice.proofs.Laws.{counted}
 use Rattle.face_open.specs.Answers.{openSaidBy, openSaid, openWordsBy, openWords}
 use Rattle.face_record.specs.Answers.{said}

@@ -1,25 +1,23 @@
 -- What is read at the end of a file is what `written` says: the last four bytes are the sum, and the file ends in a trailer with these rows, both ways.
 use mathlib.Core.Path.{_≡_, refl, sym, ap, ap₂, _∙_, subst}
 use mathlib.Core.Bool.{Bool, true, false, _&&_}
-use mathlib.Core.List.{List, [], _∷_, _++_, append-nil, append-assoc}
-use Prim.Native.Nat.{ℕ, _+_, _-_, _*_, _^_, _≤_, _<_}
+use mathlib.Core.List.{List, [], _∷_, _++_, append-assoc}
+use Prim.Native.Nat.{ℕ, _+_, _-_, _*_, _≤_}
 use native.Mathlib.Omega.{arith}
 use borrow.Author.Tests.{eqb-true, eq-eqb}
 use lib.Dec.{eqb}
-use lib.ListN.{length, getD, take, drop, length-append, take-append-drop}
+use lib.ListN.{length, take, drop, length-append, take-append-drop}
 use lib.Seq.{take-at, drop-at, length-take-le}
-use Rattle.written.specs.Blocks.{littleEndian, Below32, total}
+use Rattle.written.specs.Blocks.{littleEndian, Below32}
 use Rattle.written.specs.Blocks as B
-use Rattle.written.specs.Trailer.{sum32, unsummed, Trailer, EndsIn, Summed}
+use Rattle.written.specs.Trailer.{sum32, unsummed, EndsIn, Summed}
 use Rattle.written.proofs.OneFile.{heads, tails, append-same}
 use Rattle.written.proofs.OneBlock.{bytes-one}
 use Rattle.written_trailer.proofs.Trailing.{sum-below, little-append, little-length, last-three}
 use Rattle.pdf_blocks.specs.Values.{wordAt, wordsAt}
 use Rattle.pdf_blocks.proofs.Joined.{Small, length-words, words-append, words-below, words-bytes, words-whole}
-use Rattle.head_record.specs.declared.Header.{Header}
 use Rattle.trail_bytes.specs.Numbers.{sameWords}
 use Rattle.trail_bytes.proofs.Numbers.{same-are, are-same}
-use Rattle.face_trail.specs.Answers.{allRows, rowsStand}
 use Rattle.trail_last.specs.Last.{summedOf}
 
 both : (a b : Bool) → a && b ≡ true → (a ≡ true) × (b ≡ true)

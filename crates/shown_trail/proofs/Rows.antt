@@ -1,9 +1,9 @@
 -- The rows of a voice as they are counted and read are `written`'s `VoiceRows`, a refusal is `NoVoiceRows`, and the trailer is `written`'s.
 use mathlib.Core.Path.{_≡_, refl, sym, ap, ap₂, _∙_, subst}
 use mathlib.Core.List.{List, [], _∷_, _++_, map, zipWith}
-use Prim.Native.Nat.{ℕ, _+_, _*_}
+use Prim.Native.Nat.{ℕ, _+_}
 use native.Mathlib.Omega.{arith}
-use lib.ListN.{length, take}
+use lib.ListN.{take}
 use Rattle.written.specs.Blocks.{littleEndian}
 use Rattle.written.specs.Said as said
 use Rattle.written.specs.TreeText as grammar
@@ -19,9 +19,7 @@ use Rattle.head_record.specs.Record.{headerRecord}
 use Rattle.tree_question.specs.Questions.{questionsAt}
 use Rattle.tree_body.specs.Trees.{treeOf, treesAt}
 use Rattle.tree_survey.specs.Survey.{Text, textRead, textAt}
-use Rattle.tree_survey.specs.Said.{textOf}
 use Rattle.tree_survey.proofs.Joined.{says-read}
-use Rattle.load_choose.specs.declared.Which.{Which}
 use Rattle.load_plan.specs.Plans.{dataOf}
 use Rattle.load_voice.specs.Voice.{modelsOf, voiceText}
 use Rattle.load_voice.specs.declared.VoiceText.{VoiceText}
@@ -36,7 +34,6 @@ use Rattle.face_trail.specs.Answers.{allRows, trailerBytes}
 use Rattle.shown_models.proofs.Chosen.{data-is, whichOf}
 use Rattle.shown_voice.proofs.Texts.{Texted, voice-text}
 use Rattle.shown_voice.proofs.Texts as texted
-use Rattle.shown_voice.proofs.Order.{models-so}
 
 pub number-is : (m : Model) → whichNumber (whichOf m) ≡ modelNumber m
 number-is models.duration = refl

@@ -5,14 +5,13 @@ use mathlib.Core.List.{List, [], _∷_, map}
 use Prim.Native.Nat.{ℕ, zero, suc, _+_, _*_, _≤_, _<_}
 use native.Mathlib.Omega.{arith}
 use borrow.Author.Tests.{lt-ltb, le-ltb}
-use lib.ListN.{length, getD, take, drop}
+use lib.ListN.{length}
 use Rattle.written.specs.Bytes as written
 use Rattle.written.specs.Record as record-of
 use Rattle.written.specs.Linking.{Nth, here, there}
 use Rattle.written.specs.Models as models
 use Rattle.written.specs.Models.{Model, LastNamed, Unnamed, streamName, StreamModels, Models}
-use Rattle.laws.proofs.Nth.{nth-inside}
-use Rattle.head_record.specs.Record.{globalRecord, streamRecord, headerRecord}
+use Rattle.head_record.specs.Record.{streamRecord, headerRecord}
 use Rattle.head_record.specs.declared.StreamData.{StreamData}
 use Rattle.head_record_fits.specs.Fits.{noStream}
 use Rattle.head_record_fits.proofs.Fits.{fits}
@@ -26,7 +25,6 @@ use Rattle.load_choose.specs.declared.Which.{Which}
 use Rattle.load_choose.specs.declared.Which.the-variants.{Duration, Stream, Gv}
 use Rattle.load_choose.proofs.Joined.{found-last, found-none}
 use Rattle.load_voice.specs.Voice.{nextStream, nextModel, modelsAfter, modelsOf}
-use Rattle.load_voice.specs.declared.NextModel.{NextModel}
 use Rattle.load_voice.specs.declared.NextModel.the-variants as next
 use Rattle.shown_models.proofs.Chosen.{record-arrays, whichOf, named, unnamed, streams, types, stream-name, type-is}
 

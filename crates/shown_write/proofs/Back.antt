@@ -1,19 +1,17 @@
 -- Question and pattern rows that say the questions of a text pass the tests.
 use mathlib.Core.Path.{_≡_, refl, sym, ap, ap₂, _∙_, subst}
-use mathlib.Core.Bool.{Bool, true, false, _&&_}
+use mathlib.Core.Bool.{true}
 use mathlib.Core.List.{List, [], _∷_, _++_}
 use Prim.Native.Nat.{ℕ, zero, suc, _+_, _-_, _≤_, _<_}
 use native.Mathlib.Decide.{decLt, ℕ-discrete}
 use native.Mathlib.Omega.{arith}
 use borrow.Author.Tests.{lt-ltb, le-leb, eq-eqb}
-use lib.Dec.{ltb, leb, eqb}
-use lib.ListN.{length, getD, length-append}
+use lib.ListN.{length, getD}
 use Rattle.written.specs.Said.{Question}
 use Rattle.written.specs.Linking.{Row}
-use Rattle.written.specs.Writing.{Spells, PatternsSay, QuestionsSay}
-use Rattle.laws.specs.Every.{all}
+use Rattle.written.specs.Writing.{PatternsSay, QuestionsSay}
 use Rattle.laws.proofs.Every.{both, each-all}
-use Rattle.table_rows.specs.Rows.{questionRows, questionStart, questionLen, questionFirst, questionPatterns, patternRows, patternStart, patternLen, questionRow, patternRow, rowsFrom, questionTable, patternTable}
+use Rattle.table_rows.specs.Rows.{questionRows, questionLen, questionFirst, questionPatterns, patternRows, patternLen, questionRow, patternRow, rowsFrom, questionTable, patternTable}
 use Rattle.table_rows.proofs.Stand.{length-from}
 use Rattle.write_questions.specs.Tests.{nextIn, chained, someByte, questionsFit}
 use Rattle.written_back.proofs.Spelled.{All, PatternFits, QuestionFits}

@@ -1,24 +1,22 @@
 -- Records that linking makes of some lines pass the tests: lines, leaves in order, and each leaf as often referred to as it has to be.
 use mathlib.Core.Path.{_≡_, refl, sym, ap, ap₂, _∙_, subst}
 use mathlib.Core.Bool.{Bool, true, false, not, cond, _&&_, _||_}
-use mathlib.Core.Logic.{_⊎_, inl, inr, ⊎-elim}
+use mathlib.Core.Logic.{⊎-elim}
 use mathlib.Core.List.{List, [], _∷_, _++_, map, Forall₂, Forall₂·nil, Forall₂·cons}
 use Prim.Native.Nat.{ℕ, zero, suc, _+_, _-_, _^_, _≤_, _<_}
 use native.Mathlib.Decide.{decLt, ℕ-discrete}
 use native.Mathlib.Omega.{arith}
-use borrow.Author.Tests.{lt-ltb, le-ltb, ltb-true, le-leb, eq-eqb, ne-eqb, eqb-true}
-use lib.Dec.{ltb, leb, eqb}
-use lib.IntN.{ℤ, pos, negℤ}
-use lib.ListN.{length, getD, length-append, length-map}
-use Rattle.written.specs.Said.{Ref, node, pdf, Line, Body, lone, braces, Question}
-use Rattle.written.specs.Linking as linking
-use Rattle.written.specs.Linking.{Nth, here, there, First, LastLine, LastQuestion, Row, branch, leaf, LineRow, ToFirst, pdfOf, pdfs, times, Ascending, Single, NotSingle}
+use borrow.Author.Tests.{lt-ltb, le-ltb, le-leb, eq-eqb, ne-eqb}
+use lib.Dec.{leb, eqb}
+use lib.ListN.{length, getD}
+use Rattle.written.specs.Said.{Ref, node, pdf, Line, braces, Question}
+use Rattle.written.specs.Linking.{Nth, here, there, Row, leaf, LineRow, ToFirst, pdfOf, pdfs, times, Ascending, Single, NotSingle}
 use Rattle.written.proofs.Walk.{nth-once}
 use Rattle.written_back.proofs.Spelled.{All, RefFits, LineFits}
 use Rattle.written_back.proofs.Plain.{nth-inside}
 use Rattle.laws.specs.Every.{all}
 use Rattle.laws.proofs.Every.{both, first-of, second-of, each-all}
-use Rattle.table_rows.specs.Rows.{recordRows, recordKind, recordQuestion, recordPdf, recordYes, recordNo, recordRow, rowsFrom}
+use Rattle.table_rows.specs.Rows.{recordRows, recordKind, recordPdf, recordYes, recordNo, recordRow, rowsFrom}
 use Rattle.write_records.specs.Records.{ofRecord}
 use Rattle.write_records.proofs.Laws.{record-says}
 use Rattle.write_parts.specs.Parts.{each, refOf, lineOf}

@@ -1,39 +1,37 @@
 -- Rows that some text reads back to pass the tests of 17: so a refusal with 17 says that there is no such text.
 use mathlib.Core.Path.{_≡_, refl, sym, ap, ap₂, _∙_, subst}
 use mathlib.Core.Bool.{Bool, true, false, not, cond, _&&_, _||_}
-use mathlib.Core.List.{List, [], _∷_, _++_, map, Forall₂}
-use Prim.Native.Nat.{ℕ, zero, suc, _+_, _-_, _^_, _≤_, _<_}
-use native.Mathlib.Decide.{decLt, ℕ-discrete}
+use mathlib.Core.List.{List, [], _∷_, map, Forall₂}
+use Prim.Native.Nat.{ℕ, suc, _+_, _-_, _^_, _≤_, _<_}
+use native.Mathlib.Decide.{ℕ-discrete}
 use native.Mathlib.Omega.{arith}
-use borrow.Author.Tests.{lt-ltb, ltb-true, le-leb, eq-eqb, ne-eqb, eqb-true}
-use lib.Dec.{ltb, leb, eqb}
+use borrow.Author.Tests.{lt-ltb, le-leb, eq-eqb, ne-eqb}
+use lib.Dec.{eqb}
 use lib.IntN.{ℤ, pos}
 use lib.ListN.{length, getD, length-append, length-map}
-use Rattle.written.specs.Bytes.{same}
-use Rattle.written.specs.Said.{Ref, pdf, Line, Body, lone, braces, Tree, Question, Text}
-use Rattle.written.specs.Linking.{Nth, here, there, LastQuestion, Row, branch, leaf, LineRow, ToFirst, Records, NotSingle, Single}
+use Rattle.written.specs.Said.{Body, Tree, Question}
+use Rattle.written.specs.Linking.{Nth, here, there, LastQuestion, Row, leaf, LineRow, ToFirst, Records}
 use Rattle.written.specs.Tables.{LinesOf, TreeRows}
 use Rattle.written.specs.Writing.{Spells, QuestionsSay, ReadBack, firstFour}
-use Rattle.written.proofs.Walk.{nth-once}
 use Rattle.written.proofs.ModelOnce.{lines-once}
 use Rattle.written_back.proofs.Spelled.{All, Fits, BodyFits, TreeFits, QuestionFits}
 use Rattle.written_back.proofs.Plain.{nth-inside, says-fits, leaf-fits}
 use Rattle.written_back.proofs.OneText.{paired-long, no-lines}
 use Rattle.written_back.proofs.Inside.{spells-among, asks-last}
 use Rattle.laws.specs.Every.{all}
-use Rattle.laws.proofs.Every.{both, first-of, second-of, each-all}
+use Rattle.laws.proofs.Every.{both, each-all}
 use Rattle.link_order.specs.Keys.{nameAt}
-use Rattle.table_rows.specs.Rows.{questionRows, questionStart, questionLen, questionRow, treeRows, treeState, treeFirst, treeRecords, treeLines, recordRows, recordKind, recordQuestion, recordPdf, recordYes, recordNo, recordRow, rowsFrom, questionTable, patternTable, treeTable, recordTable}
+use Rattle.table_rows.specs.Rows.{questionRows, questionStart, questionLen, questionRow, treeRows, treeState, treeFirst, treeRecords, recordRows, recordKind, recordQuestion, recordPdf, recordYes, recordNo, recordRow, rowsFrom, questionTable, patternTable, treeTable, recordTable}
 use Rattle.table_rows.proofs.Stand.{length-from, row-there, nth-at}
 use Rattle.write_records.specs.Records.{ofRecord}
 use Rattle.write_records.proofs.Laws.{record-says}
 use Rattle.write_rows.proofs.Four.{textRow, text-rows}
 use Rattle.write_questions.proofs.Hidden.{not-same}
-use Rattle.write_questions.specs.Tests.{unlikeName, lastNamed, asksOther, notHidden, noneHidden, questionsFit}
+use Rattle.write_questions.specs.Tests.{unlikeName, lastNamed, asksOther, notHidden, noneHidden}
 use Rattle.write_links.specs.Tests.{leafAt, bareIn, linesIn, bodyIn, treeIn, grown, linksFit}
 use Rattle.shown_write.proofs.Questions.{name-is}
 use Rattle.shown_write.proofs.Back.{cons-rows, part-rows, questions-pass}
-use Rattle.shown_write.proofs.BackLines.{Made, lines-pass}
+use Rattle.shown_write.proofs.BackLines.{lines-pass}
 
 abbrev at : ℕ → Row → ℕ
 at j r = getD r j 0

@@ -1,16 +1,15 @@
 -- What the writer answers is what the definition says, both ways: number, length and buffer of each call.
 -- Assumes fewer than 2^63 records, which every slice has: -2^63 is the last id that a text can have.
-use mathlib.Core.Path.{_≡_, refl, sym, ap, _∙_, subst}
+use mathlib.Core.Path.{_≡_, refl, sym, _∙_, subst}
 use mathlib.Core.Bool.{Bool, true, false, cond}
 use mathlib.Core.Logic.{_⊎_, inl, inr}
-use mathlib.Core.List.{List, _++_}
-use Prim.Native.Nat.{ℕ, _^_, _≤_, _<_, min}
+use mathlib.Core.List.{List}
+use Prim.Native.Nat.{ℕ, _^_, _≤_}
 use native.Mathlib.Omega.{arith}
 use borrow.Author.Tests.{leb-true, leb-false}
 use lib.Dec.{leb}
-use lib.ListN.{length, drop}
+use lib.ListN.{length}
 use lib.Seq.{sets}
-use Rattle.written.specs.Linking.{Row}
 use Rattle.written.specs.Writing.{Written, Unwritten, NotWritten, Measured, Wrote, firstFour}
 use Rattle.written_back.proofs.Never.{measured-once, wrote-once}
 use Rattle.laws.proofs.Tables.{sets-front}

@@ -1,24 +1,24 @@
 -- How often a number stands among the leaves of a tree whose records pass the tests: as often as lines refer to the first leaf that bears it.
 use mathlib.Core.Path.{_≡_, refl, sym, ap, ap₂, _∙_, subst}
-use mathlib.Core.Bool.{Bool, true, false, not, cond, _||_}
-use mathlib.Core.Logic.{_⊎_, inl, inr, ⊎-elim}
+use mathlib.Core.Bool.{Bool, true, not, cond, _||_}
+use mathlib.Core.Logic.{_⊎_, inl, inr}
 use mathlib.Core.List.{List, [], _∷_, _++_}
 use Prim.Native.Nat.{ℕ, zero, suc, _+_, _-_, _≤_, _<_}
 use native.Mathlib.Decide.{decLt, ℕ-discrete}
 use native.Mathlib.Omega.{arith}
-use borrow.Author.Tests.{eq-eqb, ne-eqb, eqb-true}
+use borrow.Author.Tests.{eq-eqb, ne-eqb}
 use lib.Dec.{eqb}
-use Rattle.written.specs.Said.{Ref, pdf, Line}
-use Rattle.written.specs.Linking.{First, times, pdfOf, pdfs}
+use Rattle.written.specs.Said.{Ref}
+use Rattle.written.specs.Linking.{times, pdfOf, pdfs}
 use Rattle.laws.specs.Every.{all}
 use Rattle.laws.proofs.Every.{first-of, second-of, all-each}
 use Rattle.table_rows.specs.Rows.{recordRows, recordKind, recordPdf, recordYes, recordNo}
 use Rattle.write_records.specs.Records.{ofRecord}
 use Rattle.write_parts.specs.Parts.{each, refOf, lineOf}
 use Rattle.write_parts.proofs.Laws.{ref-line, ref-leaf}
-use Rattle.write_counts.specs.Counts.{firstLeaf, runOf, dueOf, goals, counted}
+use Rattle.write_counts.specs.Counts.{firstLeaf, runOf, dueOf, goals}
 use Rattle.write_links.specs.Tests.{leafIn, refIn, lineIn}
-use Rattle.shown_write.proofs.Records.{stands-at, or-says, ref-below, goes-first, mono}
+use Rattle.shown_write.proofs.Records.{stands-at, ref-below, goes-first, mono}
 
 -- ---- one of two numbers
 

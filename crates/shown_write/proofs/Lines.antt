@@ -1,18 +1,18 @@
 -- The lines of a tree that pass the tests: the records that linking makes of the lines that are written.
 use mathlib.Core.Path.{_≡_, refl, sym, ap, ap₂, _∙_, subst}
-use mathlib.Core.Bool.{Bool, true, false, not, cond, _&&_, _||_}
-use mathlib.Core.Logic.{_⊎_, inl, inr, ⊎-elim}
-use mathlib.Core.List.{List, [], _∷_, _++_, map, Forall₂, Forall₂·nil, Forall₂·cons}
+use mathlib.Core.Bool.{true, _&&_}
+use mathlib.Core.Logic.{⊎-elim}
+use mathlib.Core.List.{List, [], _∷_, _++_, Forall₂, Forall₂·nil, Forall₂·cons}
 use Prim.Native.Nat.{ℕ, zero, suc, _+_, _-_, _≤_, _<_}
-use native.Mathlib.Decide.{decLt, ℕ-discrete}
+use native.Mathlib.Decide.{decLt}
 use native.Mathlib.Omega.{arith}
-use borrow.Author.Tests.{lt-ltb, ltb-true, eq-eqb, ne-eqb, eqb-true}
-use lib.Dec.{ltb, leb, eqb}
+use borrow.Author.Tests.{eq-eqb, eqb-true}
+use lib.Dec.{eqb}
 use lib.IntN.{ℤ, pos, negsuc, negℤ}
 use lib.ListN.{length}
 use Rattle.written.specs.Bytes.{same}
-use Rattle.written.specs.Said.{Ref, node, pdf, Line, Body, lone, braces, Question}
-use Rattle.written.specs.Linking.{Nth, Last, First, LastLine, LastQuestion, Row, branch, leaf, LineRow, ToFirst, pdfOf, pdfs, times, Single, NotSingle, Records}
+use Rattle.written.specs.Said.{Ref, node, pdf, Line, Body, braces, Question}
+use Rattle.written.specs.Linking.{Nth, LastLine, LastQuestion, Row, branch, LineRow, ToFirst, pdfOf, pdfs, times, Single, NotSingle, Records}
 use Rattle.laws.specs.Every.{all}
 use Rattle.laws.proofs.Every.{first-of, second-of, all-each}
 use Rattle.link_order.specs.Keys.{nameAt}
@@ -25,7 +25,7 @@ use Rattle.write_questions.specs.Tests.{unlikeName, lastNamed, asksOther, notHi
 use Rattle.write_counts.specs.Counts.{counted}
 use Rattle.write_links.specs.Tests.{leafIn, refIn, lineIn, unlike}
 use Rattle.shown_write.proofs.Questions.{rows-split}
-use Rattle.shown_write.proofs.Records.{stands-at, or-says, differ, each-long, from-zero, is-zero, each-is, each-at, says, ref-below, goes-first, leaf-rows, ascending}
+use Rattle.shown_write.proofs.Records.{stands-at, or-says, differ, each-long, from-zero, is-zero, says, ref-below, goes-first, leaf-rows, ascending}
 use Rattle.shown_write.proofs.Counts.{hit-none, times-append, FirstAt, NoneAt, look, times-none, due-times, pdfs-goals}
 
 -- ---- ids

@@ -8,7 +8,7 @@ use lib.Seq.{take-at}
 use Rattle.written.specs.Bytes.{Span}
 use Rattle.written.specs.Said.{Question, QuestionPlace, Text, Layout}
 use Rattle.written.specs.TreeText.{Says}
-use Rattle.written.specs.Linking.{Nth, here, there, Row}
+use Rattle.written.specs.Linking.{here, there, Row}
 use Rattle.written.specs.Blocks as block
 use Rattle.written.specs.Tables.{TreeRows, patternRow, patternRows, questionRows, folded}
 use Rattle.written.proofs.Folded.{Wide, wide-none, wide-more, wide-rest, wide-text, wide-folded}
@@ -18,7 +18,7 @@ use Rattle.written_back.proofs.Again.{layout-says, filled-writes}
 use Rattle.laws.specs.Totals.{total}
 use Rattle.table_rows.specs.Rows as table
 use Rattle.table_rows.specs.Rows.{rowsFrom, questionTable, patternTable, treeTable, recordTable}
-use Rattle.table_rows.proofs.Stand.{Fours, length-flat}
+use Rattle.table_rows.proofs.Stand.{Fours}
 use Rattle.table_rows.proofs.Fours.{fours-model, record-table, tree-table}
 use Rattle.tree_survey.specs.Said.{saidPatterns}
 use Rattle.shown_write.proofs.Call.{Writes}

@@ -1,12 +1,12 @@
 -- Question and pattern rows that pass the tests say the questions of the text that is written.
 use mathlib.Core.Path.{_≡_, refl, sym, ap, ap₂, _∙_, subst}
-use mathlib.Core.Bool.{Bool, true, false, cond, _&&_}
+use mathlib.Core.Bool.{Bool, true, cond, _&&_}
 use mathlib.Core.List.{List, [], _∷_, _++_}
 use Prim.Native.Nat.{ℕ, zero, suc, _+_, _-_, _≤_, _<_, min}
 use native.Mathlib.Omega.{arith}
-use borrow.Author.Tests.{lt-ltb, ltb-true, le-leb, leb-true, eqb-true}
-use lib.Dec.{ltb, leb, eqb}
-use lib.ListN.{length, take, drop, length-take, length-drop}
+use borrow.Author.Tests.{lt-ltb, ltb-true, le-leb, eqb-true}
+use lib.Dec.{ltb}
+use lib.ListN.{length, drop, length-take, length-drop}
 use Rattle.written.specs.Bytes.{part}
 use Rattle.written.specs.Said.{Question}
 use Rattle.written.specs.Linking.{Row}

@@ -1,29 +1,22 @@
 -- The records of a tree that pass the tests: leaves in order behind the lines, and where references go.
 use mathlib.Core.Path.{_≡_, refl, sym, ap, ap₂, _∙_, subst}
-use mathlib.Core.Bool.{Bool, true, false, not, cond, _&&_, _||_}
+use mathlib.Core.Bool.{Bool, true, false, not, _&&_, _||_}
 use mathlib.Core.Logic.{_⊎_, inl, inr, ⊎-elim}
-use mathlib.Core.List.{List, [], _∷_, _++_, map, Forall₂, Forall₂·nil, Forall₂·cons}
+use mathlib.Core.List.{List, [], _∷_, map}
 use Prim.Native.Nat.{ℕ, zero, suc, _+_, _-_, _≤_, _<_}
-use native.Mathlib.Decide.{decLt, ℕ-discrete}
 use native.Mathlib.Omega.{arith}
-use borrow.Author.Tests.{lt-ltb, le-ltb, ltb-true, le-leb, leb-true, eq-eqb, ne-eqb, eqb-true}
+use borrow.Author.Tests.{lt-ltb, ltb-true, leb-true, eq-eqb, eqb-true}
 use lib.Dec.{ltb, leb, eqb}
-use lib.IntN.{ℤ, pos, negsuc, negℤ}
 use lib.ListN.{length}
-use Rattle.written.specs.Bytes.{same}
-use Rattle.written.specs.Said.{Ref, node, pdf, Line, Body, lone, braces, Question}
-use Rattle.written.specs.Linking as linking
-use Rattle.written.specs.Linking.{Nth, here, there, Last, First, LastLine, LastQuestion, Row, branch, leaf, LineRow, ToFirst, pdfOf, pdfs, times, Ascending, Single, NotSingle}
-use Rattle.written.proofs.Walk.{no-row, nth-once}
+use Rattle.written.specs.Linking.{Nth, here, there, First, leaf, Ascending}
+use Rattle.written.proofs.Walk.{nth-once}
 use Rattle.laws.specs.Every.{all}
 use Rattle.laws.proofs.Every.{first-of, second-of, all-each}
-use Rattle.link_order.specs.Keys.{nameAt}
-use Rattle.table_rows.specs.Rows.{questionRows, recordRows, recordKind, recordQuestion, recordPdf, recordYes, recordNo, recordRow, rowsFrom}
+use Rattle.table_rows.specs.Rows.{recordRows, recordKind, recordPdf, recordYes, recordNo, recordRow, rowsFrom}
 use Rattle.table_rows.proofs.Stand.{nth-below}
-use Rattle.write_parts.specs.Parts.{each, refOf, lineOf, questionOf}
+use Rattle.write_parts.specs.Parts.{each}
 use Rattle.write_records.specs.Records.{ofRecord}
 use Rattle.write_records.proofs.Laws.{record-says}
-use Rattle.write_parts.proofs.Laws.{ref-line, ref-leaf}
 use Rattle.write_counts.specs.Counts.{firstLeaf}
 use Rattle.write_links.specs.Tests.{leafAt, leafIn, refIn}
 

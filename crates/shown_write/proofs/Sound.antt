@@ -1,16 +1,16 @@
 -- Rows that pass all tests are written: the bytes that the writer puts are their text.
-use mathlib.Core.Path.{_≡_, refl, sym, ap, ap₂, _∙_, subst}
+use mathlib.Core.Path.{_≡_, refl, ap, subst}
 use mathlib.Core.Bool.{Bool, true, false, cond, _&&_, _||_}
-use mathlib.Core.List.{List, [], _∷_, _++_}
+use mathlib.Core.List.{List, [], _∷_}
 use Prim.Native.Nat.{ℕ, zero, suc, _+_, _-_, _^_, _≤_, _<_}
 use native.Mathlib.Decide.{decLt, ℕ-discrete}
 use native.Mathlib.Omega.{arith}
-use borrow.Author.Tests.{lt-ltb, ltb-true, leb-true, eqb-true}
+use borrow.Author.Tests.{lt-ltb, ltb-true, leb-true}
 use lib.Dec.{ltb, leb, eqb}
-use lib.IntN.{ℤ, pos, negsuc, negℤ}
+use lib.IntN.{pos, negℤ}
 use lib.ListN.{length}
 use Rattle.written.specs.Bytes.{inName, inPattern, part}
-use Rattle.written.specs.Said.{Ref, node, pdf, Line, Body, lone, braces, Tree, Question, Text}
+use Rattle.written.specs.Said.{pdf, Line, Body, lone, braces}
 use Rattle.written.specs.Linking.{NotSingle}
 use Rattle.written.specs.Writing.{Written, Plain, Numbered, spelled, firstFour}
 use Rattle.laws.specs.Every.{all}
@@ -28,7 +28,7 @@ use Rattle.write_questions.specs.Tests.{nextIn, chained, someByte, questionsFit
 use Rattle.write_links.specs.Tests.{leafAt, leafIn, refIn, lineIn, unlike, bareIn, linesIn, bodyIn, treeIn, grown, linksFit}
 use Rattle.write_links.proofs.Ways.{tree-room}
 use Rattle.written_back.proofs.Spelled.{Every, All, Fits, RefFits, LineFits, BodyFits, TreeFits, PatternFits, QuestionFits, TextFits, spelled-says}
-use Rattle.shown_write.proofs.Questions.{whole, name-is, next-says}
+use Rattle.shown_write.proofs.Questions.{whole, name-is}
 use Rattle.shown_write.proofs.Records.{each-long, leaf-small, ref-below}
 use Rattle.shown_write.proofs.Lines.{yes-in, no-in, asked-there, not-single}
 use Rattle.shown_write.proofs.Trees.{none-single, tree-says, asks-so, rows-say}

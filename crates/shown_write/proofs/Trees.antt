@@ -1,12 +1,11 @@
 -- Rows that pass the tests are those that linking makes of the text that is written.
 use mathlib.Core.Path.{_≡_, refl, sym, ap, ap₂, _∙_, subst}
 use mathlib.Core.Bool.{Bool, true, false, cond, _&&_, _||_}
-use mathlib.Core.List.{List, [], _∷_, _++_, map, Forall₂·nil}
+use mathlib.Core.List.{List, [], _∷_, Forall₂·nil}
 use Prim.Native.Nat.{ℕ, zero, suc, _+_, _-_, _≤_, _<_}
 use native.Mathlib.Omega.{arith}
-use borrow.Author.Tests.{ltb-true, leb-true, eqb-true}
+use borrow.Author.Tests.{leb-true, eqb-true}
 use lib.Dec.{ltb, leb, eqb}
-use lib.IntN.{pos}
 use lib.ListN.{length}
 use Rattle.written.specs.Said.{pdf, Line, Body, lone, braces, Tree, Question}
 use Rattle.written.specs.Linking.{Row, leaf, NotSingle, Single, Ascending, Records, pdfs}
@@ -23,7 +22,6 @@ use Rattle.write_rows.specs.Tests.{rowsIn}
 use Rattle.write_rows.proofs.Four.{textRow, text-rows}
 use Rattle.write_rows.proofs.Outside.{question-in}
 use Rattle.write_questions.specs.Tests.{questionsFit, lastNamed, noneHidden}
-use Rattle.write_counts.specs.Counts.{counted}
 use Rattle.write_links.specs.Tests.{leafAt, leafIn, lineIn, unlike, bareIn, linesIn, bodyIn, treeIn, grown, linksFit}
 use Rattle.write_links.proofs.Ways.{tree-room}
 use Rattle.shown_write.proofs.Questions.{rows-split, said-questions}

@@ -2,14 +2,14 @@
 -- the other are those rows.
 use mathlib.Core.Path.{_≡_, refl, sym, ap, _∙_, subst}
 use mathlib.Core.List.{List, [], _∷_, _++_, map, Forall₂, Forall₂·nil, Forall₂·cons, flatten}
-use Prim.Native.Nat.{ℕ, suc, _+_, _*_, _≤_}
+use Prim.Native.Nat.{ℕ, _+_, _*_}
 use native.Mathlib.Omega.{arith}
 use lib.ListN.{length}
 use lib.Seq.{take-all}
 use Rattle.written.specs.Said.{Ref, Line, Body, Tree, Question}
-use Rattle.written.specs.Linking.{Nth, here, there, Row, leaf, LineRow, row, Records}
+use Rattle.written.specs.Linking.{Nth, here, Row, leaf, LineRow, row, Records}
 use Rattle.written.specs.Tables.{TreeRows, none, more}
-use Rattle.written.proofs.Folded.{Wide, wide-rest, wide-none, wide-more, wide-text}
+use Rattle.written.proofs.Folded.{Wide, wide-rest, wide-none, wide-more}
 use Rattle.table_rows.specs.Rows.{treeRows, recordRows, treeRow, recordRow, rowsFrom, treeTable, recordTable, TreesStand, Standing}
 use Rattle.table_rows.proofs.Stand.{Fours, nth-below, nth-same, length-from, all-there, length-flat, flat-stands, trees-stand}
 

@@ -3,13 +3,12 @@
 use mathlib.Core.Path.{_≡_, refl, sym, ap, _∙_, subst}
 use mathlib.Core.Bool.{Bool, true, false, cond}
 use mathlib.Core.List.{List, [], _∷_}
-use Prim.Native.Nat.{ℕ, zero, suc, _+_, _-_, _^_, _≤_, _<_}
-use native.Mathlib.Decide.{decLt}
+use Prim.Native.Nat.{ℕ, suc, _+_, _-_, _^_, _<_}
 use native.Mathlib.Numerals.{add-one}
 use native.Mathlib.Omega.{arith}
-use borrow.Author.Tests.{lt-ltb, le-leb, leb-true, ltb-true, eqb-true, eqb-false, eq-eqb, ne-eqb}
+use borrow.Author.Tests.{lt-ltb, le-leb, leb-true, ltb-true, eqb-true, eq-eqb, ne-eqb}
 use lib.Dec.{leb, ltb, eqb}
-use lib.ListN.{length, drop}
+use lib.ListN.{drop}
 use lib.IntN.{ℤ, pos, negℤ}
 use Rattle.written.specs.Bytes.{digit, inPattern, byteAt, between, decimal, dash, quote, Span, spanning}
 use Rattle.written.specs.TreeText.{Word, end, byte, Run, stop as stops, more, Run₁, some, Digits, digits, Number, plus, minus, PatternAt, bare, quoted}
@@ -19,9 +18,7 @@ use Rattle.laws.proofs.Stops.{run-stop, run-between, run-is}
 use Rattle.text_numbers.specs.Answers.{unsignedOf, unsignedFrom, unsignedAt, signedOf, signedAt, patternOf, patternAt}
 use Rattle.text_numbers.specs.declared.Unsigned.{Unsigned}
 use Rattle.text_numbers.specs.declared.Unsigned.the-variants as unsigned
-use Rattle.text_numbers.specs.declared.Signed.{Signed}
 use Rattle.text_numbers.specs.declared.Signed.the-variants as signed
-use Rattle.text_numbers.specs.declared.Pattern.{Pattern}
 use Rattle.text_numbers.specs.declared.Pattern.the-variants as pattern
 
 differ : {A : Type 0} {b : Bool} → b ≡ true → b ≡ false → A

@@ -1,6 +1,6 @@
 -- The laws of `unsignedFrom`: a digit more, the end of the digits, and a number that is too large already.
 use Prim.Native.Nat.{ℕ, zero, suc, _+_, _*_, _-_, _^_, _≤_, _<_}
-use mathlib.Core.Path.{_≡_, refl, sym, ap, _∙_}
+use mathlib.Core.Path.{_≡_, refl, ap}
 use mathlib.Core.Bool.{Bool, true, false, _&&_}
 use mathlib.Core.List.{List, [], _∷_}
 use native.Mathlib.Omega.{arith}
@@ -8,7 +8,7 @@ use borrow.Author.Tests.{lt-ltb, le-ltb, leb-true}
 use lib.Dec.{leb}
 use lib.ListN.{length, getD, drop}
 use Rattle.written.specs.Bytes.{digit, decimal}
-use Rattle.laws.specs.Runs.{run, stop}
+use Rattle.laws.specs.Runs.{run}
 use Rattle.laws.proofs.Ranges.{at}
 use Rattle.laws.proofs.Runs.{run-on, run-here, run-end, stop-on, stop-here, stop-end, byte-is, byte-out}
 use Rattle.text_numbers.specs.Answers.{unsignedOf, unsignedFrom, unsignedAt}

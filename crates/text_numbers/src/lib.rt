@@ -4,7 +4,6 @@ use text_base::byte_at;
 use text_base::is_digit;
 use text_base::pattern_end;
 ghost use mathlib.Core.Path.{_≡_};
-ghost use mathlib.Core.Bool.{cond};
 ghost use Prim.Native.Nat.{_≤_, _<_, _^_};
 ghost use lib.Dec.{leb, ltb};
 ghost use lib.IntN.{pos, negℤ};

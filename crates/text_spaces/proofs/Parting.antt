@@ -13,7 +13,6 @@ use Rattle.written.specs.Bytes.{newline, blank, spaceOrTab, byteAt}
 use Rattle.laws.specs.Runs.{stop}
 use Rattle.laws.proofs.Runs.{stop-on, stop-here, stop-end, byte-is, byte-in}
 use Rattle.text_spaces.specs.Spaces.{pastByte, newlineAt, linePartingAt, thenAt}
-use Rattle.text_spaces.specs.declared.Place.{Place}
 use Rattle.text_spaces.specs.declared.Place.the-variants.{At, Nowhere}
 
 blank-space : {b : ℕ} → b ≡ 32 → blank b ≡ true

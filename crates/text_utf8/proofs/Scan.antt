@@ -1,15 +1,13 @@
 -- The laws of `scan`: what one step of the code does to it.
-use mathlib.Core.Path.{_≡_, refl, sym, ap, _∙_, subst}
+use mathlib.Core.Path.{_≡_, refl, sym, _∙_, subst}
 use mathlib.Core.Bool.{Bool, true, false, cond, _&&_}
 use mathlib.Core.List.{List, [], _∷_}
 use Prim.Native.Nat.{ℕ, zero, suc, _+_, _≤_, _<_, zero-le, suc-le-suc}
 use native.Mathlib.Nat.{not-suc-le-zero, le-of-suc-le-suc, add-zero}
-use native.Mathlib.Numerals.{add-one}
 use native.Mathlib.Omega.{arith}
 use lib.ListN.{length, drop, getD, length-drop}
 use lib.Seq.{drop-cons, drop-drop}
-use Rattle.text_utf8.specs.declared.Answer.{Answer}
-use Rattle.text_utf8.specs.declared.Answer.the-variants.{Valid, Bad}
+use Rattle.text_utf8.specs.declared.Answer.the-variants.{Bad}
 use Rattle.written.specs.Rfc3629.{Range, table}
 use Rattle.text_utf8.specs.Widths.{starts, width, holds}
 use Rattle.text_utf8.specs.Check.{scan}

@@ -2,14 +2,14 @@
 use mathlib.Core.Path.{_≡_, refl, sym, ap, ap₂, _∙_}
 use mathlib.Core.Bool.{Bool, true, false, _&&_}
 use mathlib.Core.List.{List, [], _∷_, _++_}
-use Prim.Native.Nat.{ℕ, suc, _+_, _*_, _/_, _%_, _^_, _≤_, _<_}
+use Prim.Native.Nat.{ℕ, suc, _+_, _*_, _%_, _^_, _<_}
 use native.Mathlib.Omega.{arith}
 use borrow.Author.Tests.{eqb-true, eq-eqb, ne-eqb}
 use lib.Dec.{eqb}
 use lib.ListN.{length, getD, take}
 use lib.Seq.{sets, take-suc}
 use Rattle.written.specs.Blocks.{littleEndian, total}
-use Rattle.written_trailer.proofs.Trailing.{total-append, little-append, little-length}
+use Rattle.written_trailer.proofs.Trailing.{total-append}
 use Rattle.laws.proofs.Tables.{sets-append}
 use Rattle.pdf_blocks.specs.Values.{wordAt, wordsAt}
 use Rattle.trail_bytes.specs.Numbers.{sameWords}

@@ -1,18 +1,16 @@
 -- Rows one after another: a row of the model, or of another.
 use mathlib.Core.Path.{_≡_, refl, sym, ap, ap₂, _∙_}
-use mathlib.Core.Bool.{Bool, true, false, cond}
+use mathlib.Core.Bool.{Bool, cond}
 use mathlib.Core.Logic.{_⊎_, inl, inr}
 use mathlib.Core.List.{List, [], _∷_}
 use Prim.Native.Nat.{ℕ, zero, suc, _+_, _-_, _*_, _≤_, _<_}
 use native.Mathlib.Omega.{arith}
 use borrow.Author.Tests.{eq-eqb, ne-eqb, lt-ltb, le-ltb}
-use lib.Dec.{ltb, eqb}
 use lib.ListN.{length}
 use Rattle.pdf_blocks.specs.Values.{wordAt}
 use Rattle.link_search.specs.declared.Found.{Found}
 use Rattle.link_search.specs.declared.Found.the-variants.{At, Nothing}
 use Rattle.trail_find.specs.Rows.{rowsTo, trailAt, offsetsAt, nthOf}
-use Rattle.trail_find.specs.declared.Trail.{Trail}
 use Rattle.trail_find.specs.declared.Trail.the-variants.{Rows, Short, Elsewhere}
 
 -- ---- the last 12 bytes

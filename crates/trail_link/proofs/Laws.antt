@@ -1,5 +1,5 @@
 -- One tree: linked by the words of the text's own questions; what each way through leaves in a table.
-use mathlib.Core.Path.{_≡_, sym, ap, ap₂, _∙_, subst}
+use mathlib.Core.Path.{_≡_, ap, ap₂, _∙_, subst}
 use mathlib.Core.Bool.{Bool, true, false}
 use mathlib.Core.List.{List}
 use Prim.Native.Nat.{ℕ}
@@ -8,7 +8,6 @@ use lib.ListN.{length, replicate}
 use lib.Seq.{sets, length-sets}
 use Rattle.tree_question.specs.Questions.{questionsAt}
 use Rattle.tree_body.specs.Trees.{headAt}
-use Rattle.tree_body.specs.declared.TreeHead.{TreeHead}
 use Rattle.load_questions.specs.Words.{patternWords}
 use Rattle.load_tree.specs.declared.Filled.{Filled}
 use Rattle.load_tree.specs.declared.TreeFill.{TreeFill}

@@ -10,7 +10,6 @@ use load_trees::ended;
 use load_trees::fill_tree;
 use table_put::zero_work;
 use table_rows::QUESTION_ROW;
-ghost use mathlib.Core.Path.{_≡_};
 ghost use lib.ListN.{length};
 ghost use Rattle.trail_link.specs.One.{Fits, OneLinked, OneFilled};
 

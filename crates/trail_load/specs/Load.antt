@@ -1,6 +1,5 @@
 -- What the load of one tree through a trailer answers, and each lent slice after it, by the file's bytes, the record, the other task's bounds and the slices before it (02,
 -- Wishes 7, 9 and 10). Refusals up to 20, 24, 26 and 28 leave the slices as they were; 21 to 23 leave the rows needed zero, and all of the work.
-use mathlib.Core.Path.{_≡_}
 use mathlib.Core.Bool.{cond}
 use mathlib.Core.List.{List, [], _∷_}
 use Prim.Native.Nat.{ℕ, _+_, _*_, _≤_}

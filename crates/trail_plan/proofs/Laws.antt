@@ -22,15 +22,12 @@ use Rattle.tree_survey.specs.declared.TreeSurvey.{TreeSurvey}
 use Rattle.pdf_blocks.specs.Values.{wordAt, wordsAt, blockAt}
 use Rattle.pdf_blocks.specs.declared.Block.{Block}
 use Rattle.pdf_blocks.specs.declared.Block.the-variants as block
-use Rattle.pdf_blocks.proofs.Counts.{total-on}
 use Rattle.link_search.specs.declared.Found.{Found}
 use Rattle.link_search.specs.declared.Found.the-variants as found
 use Rattle.load_choose.specs.Chosen.{chosenOf}
 use Rattle.load_range.specs.Ranges.{withinOf}
 use Rattle.load_choose.specs.declared.Which.{Which}
-use Rattle.load_choose.specs.declared.Chosen.{Chosen}
 use Rattle.load_choose.specs.declared.Chosen.the-variants as chosen
-use Rattle.load_range.specs.declared.Bounds.{Bounds}
 use Rattle.load_range.specs.declared.Bounds.the-variants as bounds
 use Rattle.load_plan.specs.Plans.{planFor, dataOf}
 use Rattle.load_plan.specs.declared.Text.{Text}
@@ -38,10 +35,10 @@ use Rattle.load_plan.specs.declared.Text.the-variants as text
 use Rattle.load_plan.specs.declared.Plan.{Plan}
 use Rattle.load_plan.specs.declared.Planned.{Planned}
 use Rattle.load_plan.specs.declared.Planned.the-variants.{Model, Refused}
-use Rattle.trail_find.specs.Rows.{rowsTo, trailAt, offsetsAt, nthOf}
+use Rattle.trail_find.specs.Rows.{trailAt, offsetsAt, nthOf}
 use Rattle.trail_find.specs.declared.Trail.{Trail}
 use Rattle.trail_find.specs.declared.Trail.the-variants as trail
-use Rattle.trail_plan.specs.Plans.{treeFor, askedFor, treeTextOf, withTree, valuesFrom, entriesFor, entriesOf, blockIn, blockOf, rowIn, textIn, RowOf, treeOf, chosenTree, trailTree, treePlanned}
+use Rattle.trail_plan.specs.Plans.{treeFor, askedFor, treeTextOf, withTree, entriesFor, entriesOf, blockIn, blockOf, rowIn, textIn, RowOf, treeOf, chosenTree, trailTree, treePlanned}
 
 -- ---- the text
 

@@ -2,7 +2,7 @@
 use mathlib.Core.Path.{_≡_, refl, sym, ap, _∙_, subst}
 use mathlib.Core.Bool.{Bool, true, false, cond}
 use mathlib.Core.List.{List}
-use Prim.Native.Nat.{ℕ, _+_, _*_, _≤_, _<_}
+use Prim.Native.Nat.{ℕ, _+_, _*_, _<_}
 use native.Mathlib.Omega.{arith}
 use lib.ListN.{length, take}
 use Rattle.written.specs.Blocks.{total}
@@ -20,7 +20,7 @@ use Rattle.tree_body.specs.declared.TreeStep.{TreeStep}
 use Rattle.tree_body.specs.declared.TreeStep.the-variants as after
 use Rattle.tree_survey.specs.Survey.{bodyRecords, bodyLines, treeNegative, treeRecords, treeLines, treeSurveyed}
 use Rattle.tree_survey.proofs.Whole.{asked}
-use Rattle.pdf_blocks.specs.Values.{wordAt, wordsAt, blockAt}
+use Rattle.pdf_blocks.specs.Values.{wordAt, blockAt}
 use Rattle.pdf_blocks.specs.declared.Block.{Block}
 use Rattle.pdf_blocks.specs.declared.Block.the-variants as block
 use Rattle.link_search.specs.declared.Found.{Found}
@@ -34,12 +34,11 @@ use Rattle.load_range.specs.declared.Bounds.{Bounds}
 use Rattle.load_range.specs.declared.Bounds.the-variants as bounds
 use Rattle.load_questions.specs.Words.{Done}
 use Rattle.load_trees.specs.Trees.{headBody, headEnd, Whole}
-use Rattle.load_trees.proofs.Loop.{stands, Facts}
+use Rattle.load_trees.proofs.Loop.{stands}
 use Rattle.load_plan.specs.Plans.{planFor, dataOf}
 use Rattle.load_plan.specs.declared.Text.{Text}
 use Rattle.load_plan.specs.declared.Text.the-variants as text
 use Rattle.load_plan.specs.declared.Plan.{Plan}
-use Rattle.load_plan.specs.declared.Planned.{Planned}
 use Rattle.load_plan.specs.declared.Planned.the-variants.{Model, Refused}
 use Rattle.trail_find.specs.Rows.{trailAt, offsetsAt, nthOf}
 use Rattle.trail_find.specs.declared.Trail.{Trail}

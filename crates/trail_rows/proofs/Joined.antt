@@ -7,7 +7,7 @@ use native.Mathlib.Omega.{arith}
 use lib.ListN.{length}
 use Rattle.written.specs.Bytes.{Span}
 use Rattle.written.specs.Said as says
-use Rattle.written.specs.Linking.{Single, alone, alike, NotSingle}
+use Rattle.written.specs.Linking.{alone, alike, NotSingle}
 use Rattle.written.specs.Tables.{LinesOf}
 use Rattle.written.specs.TreeText.{Parted, last as only, next as then, Parting, LineParting, LineAt, BodyAt, one, none, lines, TreeAt, tree, TreesAt, trees, Says, without, with-questions}
 use Rattle.written.specs.Trailer.{TrailerRows}

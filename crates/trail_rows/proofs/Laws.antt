@@ -1,15 +1,14 @@
 -- The laws of rows: the lines of a tree's row are found again from its place; a turn of the loop stores, or compares, one row of those that are left.
 use mathlib.Core.Path.{_≡_, refl, sym, ap, ap₂, _∙_, subst}
 use mathlib.Core.Bool.{Bool, true, false, cond, _&&_}
-use mathlib.Core.List.{List, [], _∷_, _++_}
-use Prim.Native.Nat.{ℕ, suc, _+_, _-_, _*_, _≤_, _<_}
+use mathlib.Core.List.{List, [], _∷_}
+use Prim.Native.Nat.{ℕ, suc, _+_, _*_, _≤_, _<_}
 use native.Mathlib.Omega.{arith}
 use borrow.Author.Tests.{eq-eqb, ne-eqb, eqb-true}
 use lib.Dec.{eqb}
 use lib.ListN.{length}
 use lib.Seq.{sets, length-sets}
 use Rattle.written.specs.Blocks.{littleEndian}
-use Rattle.written_trailer.proofs.Trailing.{little-append, little-length}
 use Rattle.laws.specs.Steps.{Ending, doneAt, brokenAt, Step, next, last, broken, Reading, readOf}
 use Rattle.laws.proofs.Tables.{sets-append}
 use Rattle.tree_reference.specs.References.{sameIndex}
@@ -17,7 +16,7 @@ use Rattle.tree_line.specs.Lines.{lineStepAt, linesAt}
 use Rattle.tree_line.specs.declared.Line.{Line}
 use Rattle.tree_line.specs.declared.LineStep.{LineStep}
 use Rattle.tree_line.specs.declared.LineStep.the-variants as line
-use Rattle.tree_body.specs.Trees.{Body, lone, braces, Tree, headAt, afterTree, treeFollowed, treeRead, treeHeaded, treeStepAt, treesAt}
+use Rattle.tree_body.specs.Trees.{Tree, headAt, afterTree, treeFollowed, treeRead, treeHeaded, treeStepAt, treesAt}
 use Rattle.tree_body.specs.declared.TreeHead.{TreeHead}
 use Rattle.tree_body.specs.declared.TreeHead.the-variants as head
 use Rattle.tree_body.specs.declared.TreeStep.{TreeStep}
@@ -30,7 +29,6 @@ use Rattle.tree_survey.proofs.Counting.{step-next}
 use Rattle.trail_bytes.specs.Numbers.{sameWords}
 use Rattle.trail_bytes.proofs.Numbers.{same-append}
 use Rattle.trail_rows.specs.Rows.{rowLines, treeRow, rowsOf, rowStepped, firstLines, headLines, linesAsRow}
-use Rattle.trail_rows.specs.declared.RowStep.{RowStep}
 use Rattle.trail_rows.specs.declared.RowStep.the-variants as row
 
 -- ---- one line

@@ -1,7 +1,7 @@
 -- The laws of going over a voice's models: the numbers of models go up to 16; a turn of a loop counts, stores or compares the rows of one model.
 use mathlib.Core.Path.{_≡_, refl, sym, ap, ap₂, _∙_, subst}
 use mathlib.Core.Bool.{Bool, true, false, cond, _&&_}
-use mathlib.Core.List.{List, [], _∷_, _++_, append-nil}
+use mathlib.Core.List.{List, [], _∷_, _++_}
 use Prim.Native.Nat.{ℕ, zero, suc, _+_, _-_, _*_, _≤_, _<_}
 use native.Mathlib.Omega.{arith}
 use borrow.Author.Tests.{ltb-true}
@@ -17,7 +17,7 @@ use Rattle.error.specs.declared.Refusal.the-variants as refusal
 use Rattle.head_record.specs.declared.Header.{Header}
 use Rattle.head_record_fits.specs.Fits.{recordFits}
 use Rattle.head_record_fits.proofs.Fits.{fits}
-use Rattle.tree_body.specs.Trees.{Tree, treeStepAt, treesAt}
+use Rattle.tree_body.specs.Trees.{treeStepAt, treesAt}
 use Rattle.load_choose.specs.Chosen.{askedBy, textChosen, usesGv}
 use Rattle.load_range.specs.Ranges.{withinOf}
 use Rattle.load_choose.specs.declared.Which.{Which}
@@ -40,9 +40,7 @@ use Rattle.trail_bytes.proofs.Numbers.{same-append}
 use Rattle.trail_rows.specs.Rows.{rowsOf}
 use Rattle.trail_rows.proofs.Joined.{rows-length}
 use Rattle.trail_voice.specs.Voice.{whichNumber, textRows, modelRows, voiceRows, treesOn, voiceTrees, comparedAs}
-use Rattle.trail_voice.specs.declared.VoiceTrees.{VoiceTrees}
 use Rattle.trail_voice.specs.declared.VoiceTrees.the-variants.{Trees, Refused}
-use Rattle.trail_voice.specs.declared.Compared.{Compared}
 use Rattle.trail_voice.specs.declared.Compared.the-variants as compared
 
 -- ---- a text has no more trees than bytes, and one

@@ -1,5 +1,5 @@
 -- A tree of a text, chosen by its number, and whether rows are accepted for it, as the code answers.
-use mathlib.Core.Bool.{Bool, true, false, cond}
+use mathlib.Core.Bool.{cond}
 use mathlib.Core.List.{List}
 use Prim.Native.Nat.{ℕ}
 use Rattle.laws.specs.Steps.{Ending, doneAt, brokenAt}

@@ -1,12 +1,11 @@
 -- The laws of the walk over a text: what is met at a line, at a PDF and nowhere; the loop; the lines read; a tree in braces.
-use mathlib.Core.Path.{_≡_, refl, sym, ap, ap₂, _∙_, subst}
+use mathlib.Core.Path.{_≡_, refl, sym, ap, _∙_}
 use mathlib.Core.Bool.{Bool, true, false, cond}
 use mathlib.Core.List.{List, [], _∷_}
 use Prim.Native.Nat.{ℕ, zero, suc, _+_, _-_, _*_, _/_, _≤_, _<_, min}
 use native.Mathlib.Nat.{mul-suc, mul-le-mul-right, div-mul-le-self, div-lt-iff-lt-mul, le-trans}
 use native.Mathlib.Omega.{arith}
 use borrow.Author.Tests.{lt-ltb, le-ltb}
-use lib.Dec.{ltb}
 use lib.ListN.{length, getD}
 use Rattle.written.specs.Said.{QuestionPlace}
 use Rattle.written.specs.Linking.{Nth, here, there}
@@ -20,10 +19,8 @@ use Rattle.tree_line.specs.declared.Line as code
 use Rattle.link_order.specs.Keys.{idKey}
 use Rattle.text_parts.specs.Parts.{partInside}
 use Rattle.link_search.specs.declared.Found.{Found}
-use Rattle.link_search.specs.declared.Found.the-variants.{At, Nothing}
 use Rattle.link_find.specs.Find.{asked, bearer, bearing}
 use Rattle.link_find.specs.declared.Borne.{Borne}
-use Rattle.link_find.specs.declared.Borne.the-variants as borne
 use Rattle.link_find.proofs.Finding.{Stands, nowhere, stands, kept}
 use Rattle.text_parts.specs.Parts.{natOf}
 use Rattle.link_alone.specs.Alone.{singleIn}
@@ -35,9 +32,8 @@ use Rattle.link_shape.specs.declared.Shape.the-variants as shape
 use Rattle.walk.specs.Walking.{walkFrom}
 use Rattle.walk.specs.declared.Met.{Met}
 use Rattle.walk.specs.declared.Met.the-variants.{Leaf, Line, Wrong}
-use Rattle.walk.specs.declared.Walked.{Walked}
 use Rattle.walk.specs.declared.Walked.the-variants as walked
-use Rattle.walk.proofs.Round.{plus, plus-none, walk-wrong, enough-min}
+use Rattle.walk.proofs.Round.{plus-none, enough-min}
 use Rattle.walk.proofs.Following.{Following, following-leaf, following-wrong, following-limit, following-reach, following-on}
 use Rattle.walk_bare.specs.Bare.{replyIn, replyFound, replyTo, replyBorne, firstOf, soughtIn, turnOf, lineNumber, goalIn, metReply, metIn, meetsIn, readCount, endedOf, aloneOf, singleOf, endingOf, bracesOf, headOf, meteredOf, linkedAs, meterAt, chosenOf, bareOf, BareTells, no-room, told}
 use Rattle.walk_accepts.specs.Accepting.{chosenTree}

@@ -1,6 +1,6 @@
 -- What the functions of this crate answer: a line's reply, where references lead, the walk over the lines of a tree, the lines read, and the call in numbers.
 use mathlib.Core.Path.{_≡_}
-use mathlib.Core.Bool.{Bool, cond}
+use mathlib.Core.Bool.{cond}
 use mathlib.Core.List.{List, [], _∷_}
 use Prim.Native.Nat.{ℕ, zero, suc, _+_, _-_, _*_, _≤_, _<_, min}
 use lib.Dec.{ltb}

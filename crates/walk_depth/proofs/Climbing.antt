@@ -1,9 +1,9 @@
 -- The way from the first record: each of it refers to the next, none of it is settled, and what is settled is so. How it begins, loses its last record, grows by one, goes round and ends.
-use mathlib.Core.Path.{_≡_, refl, sym, ap, _∙_, subst}
+use mathlib.Core.Path.{_≡_, sym, ap, _∙_, subst}
 use mathlib.Core.Bool.{Bool, cond}
 use mathlib.Core.List.{List}
 use mathlib.Core.Logic.{_⊎_, inl, inr}
-use Prim.Native.Nat.{ℕ, zero, suc, _+_, _-_, _*_, _≤_, _<_}
+use Prim.Native.Nat.{ℕ, suc, _+_, _-_, _*_, _≤_, _<_}
 use native.Mathlib.Decide.{decLt, ℕ-discrete}
 use native.Mathlib.Omega.{arith}
 use borrow.Author.Tests.{lt-ltb, le-ltb}
@@ -11,13 +11,12 @@ use lib.Dec.{ltb}
 use lib.IntN.{ℤ, pos}
 use lib.ListN.{length, set, replicate, length-set}
 use Rattle.written.specs.Linking.{Row}
-use Rattle.written.specs.Depths.{Path, stay, on, Refers, Met, Round}
+use Rattle.written.specs.Depths.{Path, Refers, Met, Round}
 use Rattle.written_depth.proofs.Deepest.{Deep, deep-round, way-path, long-round}
 use Rattle.walk_reach.specs.Work.{slotAt, zeros}
 use Rattle.walk_reach.proofs.Rows.{met-on}
 use Rattle.walk_reach.proofs.Slots.{slot-same, slot-other, slot-zero, zeros-same, zeros-fewer, zeros-all}
 use Rattle.walk_depth.specs.Climbing.{Small, Knows, Settles, settled, down, Deepest}
-use Rattle.walk_depth.specs.declared.Next.{Next}
 use Rattle.walk_depth.specs.declared.Next.the-variants.{Settled, Down}
 use Rattle.walk_depth.specs.declared.Ended.the-variants as ended
 

@@ -1,20 +1,18 @@
 -- Each way through `settle`: a record that can be met is a leaf, or a line whose sides can be met too.
 use mathlib.Core.Path.{_≡_, refl, sym, ap₂, _∙_, subst}
-use mathlib.Core.Bool.{true}
 use mathlib.Core.List.{List, [], _∷_}
-use mathlib.Core.Logic.{_⊎_, inl, inr}
-use Prim.Native.Nat.{ℕ, zero, suc, _+_, _-_, _*_, _≤_, _<_, max}
+use mathlib.Core.Logic.{inl, inr}
+use Prim.Native.Nat.{ℕ, zero, suc, _+_, _-_, _≤_, _<_, max}
 use native.Mathlib.Decide.{decLt}
 use native.Mathlib.Omega.{arith}
 use borrow.Author.Tests.{lt-ltb}
 use lib.IntN.{ℤ}
-use lib.ListN.{length}
-use Rattle.written.specs.Linking.{Nth, Row, branch}
-use Rattle.written.specs.Depths.{Refers, by-yes, by-no, Met, Good}
+use Rattle.written.specs.Linking.{Nth, branch}
+use Rattle.written.specs.Depths.{by-yes, by-no, Met, Good}
 use Rattle.written.proofs.Walk.{nth-once}
 use Rattle.written_depth.proofs.Deepest.{Deep}
 use Rattle.laws.proofs.Every.{both}
-use Rattle.table_rows.specs.Rows.{recordRows, recordsIn, recordThere, recordKind, recordQuestion, recordYes, recordNo, recordRow}
+use Rattle.table_rows.specs.Rows.{recordRows, recordsIn, recordKind, recordQuestion, recordYes, recordNo, recordRow}
 use Rattle.table_rows.proofs.Stand.{record-stands}
 use Rattle.walk_reach.specs.Work.{slotAt}
 use Rattle.walk_reach.specs.Seeing.{treeRecordsOf}

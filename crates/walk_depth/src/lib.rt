@@ -18,7 +18,7 @@ ghost use mathlib.Core.Path.{_≡_};
 ghost use Prim.Native.Nat.{_+_, _*_, _<_, _≤_};
 ghost use lib.IntN.{pos};
 ghost use lib.ListN.{length, replicate};
-ghost use Rattle.written.specs.Depths.{Met, Good};
+ghost use Rattle.written.specs.Depths.{Met};
 ghost use Rattle.table_rows.specs.Rows.{recordsIn};
 ghost use Rattle.walk_reach.specs.Seeing.{treeRecordsOf};
 ghost use Rattle.walk_depth.specs.Climbing.{Small, Settles, Deepest};

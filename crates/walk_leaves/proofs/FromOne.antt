@@ -1,6 +1,5 @@
 -- 02's Wish 3 in its own words: the check says yes exactly when 01's conditions hold and every leaf is at least 1.
 use mathlib.Core.Path.{_≡_}
-use mathlib.Core.Bool.{true}
 use mathlib.Core.List.{List}
 use Prim.Native.Nat.{ℕ, _+_, _≤_, _<_}
 use native.Mathlib.Omega.{arith}

@@ -3,13 +3,11 @@ use mathlib.Core.Path.{_≡_, sym, ap, ap₂, _∙_}
 use mathlib.Core.Bool.{Bool, true, false, cond}
 use mathlib.Core.List.{List}
 use Prim.Native.Nat.{ℕ, _+_, _<_}
-use native.Mathlib.Omega.{arith}
 use borrow.Author.Tests.{eq-eqb, ne-eqb}
 use lib.Dec.{eqb}
 use Rattle.table_rows.specs.Rows.{recordThere, recordRows, recordKind, recordYes, recordNo}
 use Rattle.table_rows.proofs.Stand.{record-in}
 use Rattle.walk_reach.specs.Seeing.{kindSeen, seenAt}
-use Rattle.walk_reach.specs.declared.Seen.{Seen}
 use Rattle.walk_reach.specs.declared.Seen.the-variants.{Leaf, Line, Wrong}
 
 module _ (R : List ℕ) (first count k : ℕ) where

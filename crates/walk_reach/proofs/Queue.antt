@@ -3,19 +3,19 @@ use mathlib.Core.Path.{_≡_, refl, sym, ap, _∙_, subst}
 use mathlib.Core.Bool.{true, false}
 use mathlib.Core.List.{List, [], _∷_}
 use mathlib.Core.Logic.{_⊎_, inl, inr}
-use Prim.Native.Nat.{ℕ, zero, suc, _+_, _-_, _*_, _≤_, _<_}
+use Prim.Native.Nat.{ℕ, suc, _+_, _*_, _≤_, _<_}
 use native.Mathlib.Decide.{decLt, ℕ-discrete}
 use native.Mathlib.Omega.{arith}
 use lib.IntN.{ℤ, pos}
 use lib.ListN.{length, set, replicate, length-set}
 use Rattle.written.specs.Linking.{Row, Nth, branch}
-use Rattle.written.specs.Depths.{Path, stay, on, Refers, by-yes, by-no, Met, Good}
+use Rattle.written.specs.Depths.{Path, stay, on, Refers, Met, Good}
 use Rattle.walk_reach.specs.Work.{slotAt, zeros, Pushed, known, new}
 use Rattle.walk_reach.specs.Reaching.{Queue, Marked, Grown, Visits, Reaches}
 use Rattle.walk_reach.specs.declared.Visited.{Visited}
 use Rattle.walk_reach.specs.declared.Visited.the-variants.{Tail, Outside}
 use Rattle.walk_reach.proofs.Slots.{slot-same, slot-other, slot-zero, zeros-fewer, zeros-all}
-use Rattle.walk_reach.proofs.Rows.{met-on, line-refers, leaf-refers}
+use Rattle.walk_reach.proofs.Rows.{line-refers, leaf-refers}
 
 module _ (rows : List Row) (n : ℕ) where
   -- nothing is met yet

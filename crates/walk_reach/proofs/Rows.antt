@@ -1,18 +1,18 @@
 -- What is seen at a record, as the rows of the tree have it: a line, a leaf, or nothing that is good.
-use mathlib.Core.Path.{_≡_, refl, sym, ap, _∙_, subst}
+use mathlib.Core.Path.{_≡_, refl, ap, _∙_, subst}
 use mathlib.Core.Bool.{Bool, true, false, cond}
 use mathlib.Core.List.{List, [], _∷_}
 use mathlib.Core.Logic.{_⊎_, inl, inr}
-use Prim.Native.Nat.{ℕ, zero, suc, _+_, _-_, _≤_, _<_, min}
+use Prim.Native.Nat.{ℕ, _+_, _-_, _≤_, _<_, min}
 use native.Mathlib.Omega.{arith}
 use borrow.Author.Tests.{eqb-true, eqb-false}
 use lib.Dec.{eqb}
-use lib.ListN.{length, take, drop, length-take, length-drop}
+use lib.ListN.{length, drop, length-take, length-drop}
 use Rattle.written.specs.Linking.{Nth, Row, branch}
-use Rattle.written.specs.Depths.{Path, stay, on, Refers, by-yes, by-no, Met, Good}
+use Rattle.written.specs.Depths.{stay, on, Refers, by-yes, by-no, Met, Good}
 use Rattle.written.proofs.Walk.{nth-once}
 use Rattle.written_depth.proofs.Deepest.{then}
-use Rattle.table_rows.specs.Rows.{recordTable, recordThere, recordsIn, recordRows, recordKind, recordQuestion, recordYes, recordNo, recordRow}
+use Rattle.table_rows.specs.Rows.{recordTable, recordThere, recordsIn, recordKind, recordQuestion, recordYes, recordNo, recordRow}
 use Rattle.table_rows.proofs.Stand.{nth-below, record-stands, record-out, records-many}
 use Rattle.walk_reach.specs.Seeing.{treeRecordsOf, kindSeen, seenAt}
 use Rattle.walk_reach.specs.declared.Seen.{Seen}

@@ -14,7 +14,7 @@ use Rattle.laws.specs.Every.{all}
 use Rattle.laws.proofs.Every.{not-first, then-second}
 use Rattle.table_rows.specs.Rows.{recordRows, recordPdf, recordYes, recordNo}
 use Rattle.write_records.specs.Records.{ofRecord}
-use Rattle.write_counts.specs.Counts.{firstLeaf, runOf, dueOf, goals, counted, added, Says, Zeros, Small, Tallied}
+use Rattle.write_counts.specs.Counts.{firstLeaf, runOf, dueOf, goals, counted, added, Zeros, Small, Tallied}
 
 -- ---- the first leaf of its number
 

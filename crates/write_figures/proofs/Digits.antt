@@ -1,13 +1,13 @@
 -- Digits from the last to the first: what is left, with fuel that is enough, gives the whole.
-use mathlib.Core.Path.{_≡_, refl, sym, ap, _∙_, subst}
+use mathlib.Core.Path.{_≡_, refl, sym, ap, _∙_}
 use mathlib.Core.Bool.{Bool, true, false, cond}
 use mathlib.Core.List.{List, [], _∷_, _++_}
 use Prim.Native.Nat.{ℕ, zero, suc, _+_, _-_, _*_, _/_, _%_, _≤_, _<_, min}
 use native.Mathlib.Omega.{arith}
 use borrow.Author.Tests.{lt-ltb, le-ltb}
 use lib.Dec.{ltb}
-use lib.ListN.{length, set, length-append, length-set}
-use lib.Seq.{sets, length-sets}
+use lib.ListN.{length, length-append}
+use lib.Seq.{sets}
 use Rattle.laws.proofs.Tables.{sets-before}
 use Rattle.written.specs.Writing.{figures, figuresIn}
 use Rattle.write_put.specs.Puts.{Put}

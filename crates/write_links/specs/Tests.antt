@@ -1,6 +1,6 @@
 -- 17 of trees and records, by computation (02, Wish 6): which records a text reads back to. f is the row of a tree's first record, m its records, n its
 -- lines.
-use mathlib.Core.Bool.{Bool, true, not, cond, _&&_, _||_}
+use mathlib.Core.Bool.{Bool, not, cond, _&&_, _||_}
 use mathlib.Core.List.{List}
 use Prim.Native.Nat.{ℕ, zero, suc, _+_, _-_}
 use lib.Dec.{ltb, leb, eqb}

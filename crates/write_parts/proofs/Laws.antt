@@ -6,11 +6,11 @@ use Prim.Native.Nat.{ℕ, zero, suc, _+_, _-_, _≤_, _<_}
 use native.Mathlib.Omega.{arith}
 use borrow.Author.Tests.{lt-ltb, le-ltb}
 use lib.Dec.{ltb}
-use lib.IntN.{ℤ, pos, negℤ}
+use lib.IntN.{pos, negℤ}
 use lib.ListN.{length}
 use lib.Seq.{take-length}
 use Rattle.written.specs.Bytes.{newline, dash, part}
-use Rattle.written.specs.Said.{Ref, node, pdf}
+use Rattle.written.specs.Said.{node, pdf}
 use Rattle.written.specs.Writing.{figures, figuresIn, spelledNumber, spelledRef, spelledLine}
 use Rattle.link_order.specs.Keys.{nameAt}
 use Rattle.table_rows.specs.Rows.{patternRows, patternStart, patternLen, recordQuestion, recordPdf, recordYes, recordNo}

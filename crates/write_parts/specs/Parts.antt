@@ -1,12 +1,12 @@
 -- The text that the rows of lent tables say, computed row by row (02, Wish 6): ids 0, -1, -2 and on, a tree without lines but with a record as a bare
 -- leaf. Total: a row that isn't there says nothing, or 0; tables that were judged have none.
-use mathlib.Core.Bool.{Bool, true, false, cond}
+use mathlib.Core.Bool.{Bool, cond}
 use mathlib.Core.List.{List, [], _∷_, _++_}
 use Prim.Native.Nat.{ℕ, zero, suc, _+_}
 use lib.Dec.{ltb, eqb}
-use lib.IntN.{ℤ, pos, negℤ}
+use lib.IntN.{pos, negℤ}
 use Rattle.written.specs.Bytes.{quote, comma, part}
-use Rattle.written.specs.Said.{Ref, node, pdf, Line, Body, lone, braces, Tree, Question, Text}
+use Rattle.written.specs.Said.{Ref, node, pdf, Line, Body, lone, braces, Tree, Question}
 use Rattle.link_order.specs.Keys.{nameAt}
 use Rattle.table_rows.specs.Rows.{questionFirst, questionPatterns, patternRows, patternStart, patternLen, treeState, treeFirst, treeRecords, treeLines, recordQuestion, recordPdf, recordYes, recordNo}
 use Rattle.write_records.specs.Records.{ofRecord}

@@ -13,7 +13,6 @@ use write_records::asked;
 use write_records::goes_no;
 use write_records::goes_yes;
 use write_records::number;
-ghost use mathlib.Core.Path.{_≡_};
 ghost use lib.IntN.{pos, negℤ};
 ghost use Rattle.written.specs.Said.{pdf};
 ghost use Rattle.written.specs.Writing.{spelledNumber, spelledRef, spelledLine};

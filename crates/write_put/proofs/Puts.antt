@@ -1,11 +1,10 @@
 -- Bytes put one behind the other, and a loop that puts what is left.
 use mathlib.Core.Path.{_≡_, refl, sym, ap, _∙_, subst}
 use mathlib.Core.List.{List, [], _∷_, _++_}
-use Prim.Native.Nat.{ℕ, zero, suc, _+_, _-_, _≤_, _<_, min}
-use native.Mathlib.Nat.{add-zero}
+use Prim.Native.Nat.{ℕ, suc, _+_, _-_, _≤_, _<_}
 use native.Mathlib.Decide.{decLe}
 use native.Mathlib.Omega.{arith}
-use lib.ListN.{length, getD, take, drop, set, length-set, length-append, drop-of-length-le}
+use lib.ListN.{length, getD, take, set, length-set, length-append, drop-of-length-le}
 use lib.Seq.{sets, length-sets, set-out, drop-cons, take-nil}
 use Rattle.laws.proofs.Tables.{sets-append}
 use Rattle.written.specs.Bytes.{part}

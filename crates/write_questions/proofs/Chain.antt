@@ -2,13 +2,13 @@
 use mathlib.Core.Path.{_≡_, refl, sym, ap, ap₂, _∙_}
 use mathlib.Core.Bool.{Bool, true, false, _&&_}
 use mathlib.Core.List.{List}
-use Prim.Native.Nat.{ℕ, zero, suc, _+_, _-_, _≤_, _<_}
+use Prim.Native.Nat.{ℕ, suc, _+_, _-_, _≤_, _<_}
 use native.Mathlib.Decide.{decLe}
 use native.Mathlib.Omega.{arith}
-use borrow.Author.Tests.{lt-ltb, le-ltb, le-leb, lt-leb, leb-true, eq-eqb, ne-eqb, eqb-true}
+use borrow.Author.Tests.{lt-ltb, le-ltb, le-leb, lt-leb, leb-true, eq-eqb, ne-eqb}
 use lib.Dec.{ltb, leb, eqb}
-use Rattle.laws.proofs.Every.{first-of, second-of, not-first, then-second}
-use Rattle.table_rows.specs.Rows.{questionRows, questionLen, questionFirst, questionPatterns, patternRows}
+use Rattle.laws.proofs.Every.{second-of, not-first, then-second}
+use Rattle.table_rows.specs.Rows.{questionLen, questionFirst, questionPatterns, patternRows}
 use Rattle.write_questions.specs.Tests.{nextIn, chained}
 
 -- ---- one question: each way through

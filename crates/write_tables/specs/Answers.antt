@@ -1,6 +1,6 @@
 -- What the writer answers, and the buffer behind it (02, Wish 6): 24, 22, 17 and 20 in that order, or the text's length.
 use mathlib.Core.Path.{_≡_}
-use mathlib.Core.Bool.{Bool, true, false, cond}
+use mathlib.Core.Bool.{Bool, cond}
 use mathlib.Core.List.{List}
 use Prim.Native.Nat.{ℕ, min}
 use lib.Dec.{leb}

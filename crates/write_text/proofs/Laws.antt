@@ -1,6 +1,6 @@
 -- Loops over rows, and the bytes of a question, a tree's body and a tree by their numbers.
 use mathlib.Core.Path.{_≡_, refl, sym, ap, ap₂, _∙_}
-use mathlib.Core.Bool.{Bool, true, false, cond}
+use mathlib.Core.Bool.{Bool, cond}
 use mathlib.Core.List.{List, [], _∷_, _++_, map, flatten, append-nil, append-assoc}
 use Prim.Native.Nat.{ℕ, zero, suc, _+_, _-_, _≤_, _<_}
 use native.Mathlib.Omega.{arith}
@@ -13,7 +13,6 @@ use Rattle.written.specs.TreeText.{QS, star}
 use Rattle.written.specs.Writing.{figures, spelledRef, spelledLine, spelledPatterns, spelledQuestion, spelledBody, spelledTree}
 use Rattle.link_order.specs.Keys.{nameAt}
 use Rattle.table_rows.specs.Rows.{questionFirst, questionPatterns, treeState, treeFirst, treeRecords, treeLines, recordPdf}
-use Rattle.write_put.specs.Puts.{Put}
 use Rattle.write_put.proofs.Puts.{put-as, Leads}
 use Rattle.write_parts.proofs.Laws.{each-more, each-done}
 use Rattle.write_parts.specs.Parts.{each, patternOf, quoted, questionOf, lineOf, bodyOf, treeOf}

@@ -17,7 +17,6 @@ use write_put::put1;
 use write_put::put2;
 use write_put::put3;
 use write_put::put5;
-ghost use mathlib.Core.Path.{_≡_};
 ghost use mathlib.Core.List.{map, flatten};
 ghost use Prim.Native.Nat.{_<_};
 ghost use Rattle.written.specs.Writing.{spelledPatterns, spelledQuestion, spelledLine, spelledBody, spelledTree, spelled};

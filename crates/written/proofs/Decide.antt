@@ -1,20 +1,20 @@
 -- Whether a text says something is decided, rule by rule: a reader that stands at a place finds the one thing that stands there, or that nothing does.
-use mathlib.Core.Path.{_≡_, refl, sym, ap, ap₂, _∙_, subst}
+use mathlib.Core.Path.{_≡_, refl, sym, ap, _∙_, subst}
 use mathlib.Core.Bool.{Bool, true, false}
 use mathlib.Core.List.{List, [], _∷_}
-use Prim.Native.Nat.{ℕ, zero, suc, _+_, _-_, _^_, _≤_, _<_}
+use Prim.Native.Nat.{ℕ, zero, suc, _+_, _^_, _≤_, _<_}
 use native.Mathlib.Decide.{decLt, decLe, ℕ-discrete}
 use native.Mathlib.Omega.{arith}
 use lib.ListN.{length}
-use lib.IntN.{ℤ, pos, negℤ}
+use lib.IntN.{ℤ}
 use borrow.Author.Tests.{le-ltb}
 use lib.Dec.{lit<}
 use mathlib.Core.Option.{Option, none as nothing, some as just}
 use mathlib.Core.Logic.{_⊎_, inl, inr}
-use Rattle.written.specs.Bytes.{digit, inPattern, inWord, blank, spaceOrTab, inName, Span, spanning, byteAt, between, decimal, brace, unbrace, bracket, unbracket, quote, comma, dash, newline}
-use Rattle.written.specs.Said.{Ref, node, pdf, Line, Body, lone, braces, Tree, Question, Text, QuestionPlace, TreePlace, Layout}
+use Rattle.written.specs.Bytes.{digit, inPattern, inWord, blank, spaceOrTab, inName, Span, byteAt, between, decimal, brace, bracket, unbracket, quote, comma, dash, newline}
+use Rattle.written.specs.Said.{Ref, Line, Body, Tree, Question, Text, QuestionPlace, TreePlace, Layout}
 use Rattle.written.specs.TreeText.{Parted, last, next, Word, Byte, end, byte, Run, stop, more, Run₁, some, Parting, LineParting, Comma, parting, Digits, digits, Number, plus, minus, Bare, number, word, Reference, bare, quoted, PatternAt, QuestionAt, question, LineAt, line, BodyAt, one, none, lines, TreeAt, tree, TreesAt, trees, Says, without, with-questions, QS, star}
-use Rattle.written.proofs.Once.{run-once, run₁-once, word-once, digits-once, number-once, bare-once, reference-once, parting-once, line-parting-once, comma-once, pattern-once, question-once, line-once, body-once, tree-once, trees-once, says-once, parted-once, Fixed, head, Before, before, patterns-fixed, lines-fixed, trees-fixed, questions-fixed, at-end, tree-first, question-first, trees-before, run-le, run-at, run₁-lt, run₁-at, digits-lt, digits-at, split-once, word-first, number-not, first}
+use Rattle.written.proofs.Once.{run-once, run₁-once, word-once, digits-once, number-once, bare-once, reference-once, parting-once, tree-once, says-once, parted-once, Fixed, head, Before, before, patterns-fixed, lines-fixed, trees-fixed, questions-fixed, at-end, tree-first, question-first, trees-before, run-le, run₁-lt, digits-lt, word-first, first}
 
 -- ---- one after the other
 

@@ -2,13 +2,13 @@
 use mathlib.Core.Path.{_≡_, refl, sym, ap, ap₂, _∙_, subst}
 use mathlib.Core.Bool.{Bool, true, false}
 use mathlib.Core.List.{List, [], _∷_}
-use Prim.Native.Nat.{ℕ, zero, suc, _+_, _≤_, _<_}
+use Prim.Native.Nat.{ℕ, suc, _≤_, _<_}
 use native.Mathlib.Decide.{decLt}
 use native.Mathlib.Omega.{arith}
 use borrow.Author.Tests.{le-ltb}
 use lib.ListN.{length}
 use lib.IntN.{ℤ, pos, negℤ}
-use Rattle.written.specs.Bytes.{digit, inPattern, inWord, blank, spaceOrTab, inName, letter, oneOf, mark, wildcard, Span, spanning, byteAt, between, decimal, brace, unbrace, quote, comma, dash, newline}
+use Rattle.written.specs.Bytes.{digit, inPattern, inWord, blank, spaceOrTab, oneOf, Span, spanning, byteAt, between, decimal, newline}
 use Rattle.written.specs.Said.{Ref, node, pdf, Line, Body, lone, braces, Tree, Question, Text, QuestionPlace, TreePlace, Layout}
 use Rattle.written.specs.TreeText.{Parted, last, next, Word, Byte, end, byte, Run, stop, more, Run₁, some, Parting, LineParting, Comma, parting, Digits, digits, Number, plus, minus, Bare, number, word, Reference, bare, quoted, PatternAt, QuestionAt, question, LineAt, line, BodyAt, one, none, lines, TreeAt, tree, TreesAt, trees, Says, without, with-questions}
 

@@ -1,8 +1,8 @@
 -- The models of a voice and the house's rules, in small: a GV is a model only where USE_GV isn't 0; a leaf of 0 breaks, zero is no variance, and the last value of an odd width is free.
-use mathlib.Core.Path.{_≡_, refl, sym, subst}
+use mathlib.Core.Path.{_≡_, refl, subst}
 use mathlib.Core.Bool.{true}
 use mathlib.Core.List.{List, [], _∷_}
-use Prim.Native.Nat.{ℕ, suc, _+_, _*_, _/_, _≤_, _<_}
+use Prim.Native.Nat.{ℕ, suc, _+_, _*_, _<_}
 use native.Mathlib.Omega.{arith}
 use lib.ListN.{length}
 use Rattle.written.specs.Bytes.{Span}
@@ -11,7 +11,7 @@ use Rattle.written.specs.Record.{Header, Stream}
 use Rattle.written.specs.Blocks as block
 use Rattle.written.specs.Said.{Text, Tree}
 use Rattle.written.specs.Linking.{Nth, here, there}
-use Rattle.written.specs.Models.{Model, stream, gv, bytesOf, streamName, LastNamed, StreamModels}
+use Rattle.written.specs.Models.{Model, gv, bytesOf, streamName, LastNamed, StreamModels}
 use Rattle.written.specs.Loading.{ModelSaid}
 use Rattle.written.specs.House.{Leaf, Finite, AboveZero, Leaves, Means}
 

@@ -1,6 +1,5 @@
 -- How many questions a walk of a tree can ask (document 02, Wish 8): paths of references over the records of a tree, each branch taken freely.
 -- A path knows no answers; a record that no path meets is not judged.
-use mathlib.Core.Path.{_≡_}
 use mathlib.Core.List.{List, [], _∷_}
 use Prim.Native.Nat.{ℕ, zero, suc, _*_, _≤_, _<_}
 use lib.ListN.{take, drop}

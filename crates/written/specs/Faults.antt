@@ -5,7 +5,7 @@ use mathlib.Core.Path.{_≡_}
 use mathlib.Core.Bool.{true, false}
 use mathlib.Core.List.{List, [], _∷_, _++_, List·Memᴰ}
 use Prim.Native.Nat.{ℕ, _+_, _-_, _^_, _≤_, _<_}
-use lib.ListN.{length, getD, take, drop}
+use lib.ListN.{length, getD}
 use Rattle.written.specs.Bytes.{newline, quote, comma, dash, colon, digit, isNewline, oneOf, noneOf, At, Each, Ends, part, Span, decimal}
 use Rattle.written.specs.Rfc3629.{Octets, FirstBad}
 use Rattle.written.specs.Sections.{Parts, Sections}

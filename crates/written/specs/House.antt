@@ -8,7 +8,7 @@ use Rattle.written.specs.Groups.{Pointwise}
 use Rattle.written.specs.Record.{Header, All, Says}
 use Rattle.written.specs.Faults.{Refused}
 use Rattle.written.specs.Blocks as block
-use Rattle.written.specs.Said.{Ref, pdf, Line, Body, lone, braces, Tree, Text, Layout}
+use Rattle.written.specs.Said.{Ref, pdf, Line, Body, lone, braces, Tree, Layout}
 use Rattle.written.specs.Linking.{Nth, Row}
 use Rattle.written.specs.Tables.{TreeRows}
 use Rattle.written.specs.Writing.{Numbered}

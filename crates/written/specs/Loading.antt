@@ -1,6 +1,5 @@
 -- What a model of a voice is, or why it is none: what a load with room for it reads, and each refusal from 12 to 19 and from 21 to 23 with what is wrong, in 01's order.
 -- From 01's 'Order when loading a model'. `widen` is that of Blocks.
-use mathlib.Core.Path.{_≡_}
 use mathlib.Core.List.{List}
 use Prim.Native.Nat.{ℕ, _+_, _≤_, _<_}
 use lib.ListN.{length, take, drop}

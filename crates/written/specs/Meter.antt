@@ -6,7 +6,7 @@ use mathlib.Core.List.{List, [], _∷_}
 use Prim.Native.Nat.{ℕ, zero, suc, _+_}
 use lib.ListN.{length}
 use lib.IntN.{ℤ}
-use Rattle.written.specs.Said.{Ref, node, pdf, Line, Body, lone, braces, Tree, Question, Text, Layout}
+use Rattle.written.specs.Said.{node, pdf, Line, Body, lone, braces, Tree, Question, Text, Layout}
 use Rattle.written.specs.TreeText.{Says}
 use Rattle.written.specs.Breaks.{Breaks}
 use Rattle.written.specs.Linking.{Nth, LastLine, LastQuestion, NotSingle, Row, Records, Refused}

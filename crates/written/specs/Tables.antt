@@ -6,7 +6,7 @@ use lib.ListN.{length}
 use lib.IntN.{pos, negsuc}
 use Rattle.written.specs.Bytes.{Span}
 use Rattle.written.specs.Blocks as block
-use Rattle.written.specs.Said.{Ref, Line, Body, lone, braces, Tree, Question, QuestionPlace}
+use Rattle.written.specs.Said.{Ref, Line, Body, braces, Tree, Question, QuestionPlace}
 use Rattle.written.specs.Linking.{Nth, Row, Single, NotSingle, Records, Refused}
 
 -- (start, length)

@@ -2,13 +2,12 @@
 use mathlib.Core.Path.{_≡_, refl, sym, ap, _∙_, subst}
 use mathlib.Core.Bool.{Bool}
 use mathlib.Core.List.{List, [], _∷_, _++_, map, Forall₂}
-use Prim.Native.Nat.{ℕ, zero, suc, _+_, _-_, _*_, _≤_}
+use Prim.Native.Nat.{ℕ, suc, _+_, _-_, _*_, _≤_}
 use native.Mathlib.Nat.{mul-suc, mul-one}
 use native.Mathlib.Omega.{arith}
 use lib.ListN.{length}
-use lib.IntN.{ℤ}
-use Rattle.written.specs.Said.{Ref, node, pdf, Line, Body, lone, braces, Question}
-use Rattle.written.specs.Linking.{Nth, here, there, LastLine, LastQuestion, Single, alone, alike, NotSingle, Row, leaf, branch, LineRow, row, ToLeaf, Linked}
+use Rattle.written.specs.Said.{pdf, Line, Body, lone, braces, Question}
+use Rattle.written.specs.Linking.{Nth, here, LastQuestion, alone, alike, Row, leaf, branch, LineRow, row, ToLeaf, Linked}
 use Rattle.written.specs.Walks.{chosen, isYes, Outcome, Loaded, afterwards, Ending, Written, Answers, asLoaded}
 use Rattle.written.specs.Meter.{Metered, at, refused, before, reading, Along, Over}
 use Rattle.written.proofs.Walk.{last-once, nth-append, paired, both, to-pdf, to-node, no-row, no-single, single-once, loaded-once, walks}

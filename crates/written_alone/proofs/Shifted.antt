@@ -1,8 +1,8 @@
 -- A text that stands inside another says by itself what it says there: only the places move.
-use mathlib.Core.Path.{_≡_, refl, sym, ap, ap₂, _∙_, subst}
-use mathlib.Core.Bool.{Bool, true, false, cond}
+use mathlib.Core.Path.{_≡_, refl, sym, ap, _∙_, subst}
+use mathlib.Core.Bool.{Bool, cond}
 use mathlib.Core.List.{List, [], _∷_}
-use Prim.Native.Nat.{ℕ, zero, suc, _+_, _-_, _≤_, _<_, _^_}
+use Prim.Native.Nat.{ℕ, suc, _+_, _-_, _≤_, _<_}
 use native.Mathlib.Decide.{decLt}
 use native.Mathlib.Omega.{arith}
 use borrow.Author.Tests.{lt-ltb, le-ltb}
@@ -10,7 +10,7 @@ use lib.Dec.{ltb}
 use lib.IntN.{ℤ}
 use lib.ListN.{length, getD, take, drop, length-drop}
 use lib.Seq.{getD-drop, drop-drop}
-use Rattle.written.specs.Bytes.{digit, inPattern, inWord, blank, byteAt, between, decimal, Span, spanning}
+use Rattle.written.specs.Bytes.{digit, inWord, blank, byteAt, between, decimal, Span, spanning}
 use Rattle.written.specs.Said.{Ref, Line, Body, Tree, Question, Text, QuestionPlace, TreePlace, Layout}
 use Rattle.written.specs.TreeText.{Parted, last, next, Word, end, byte, Run, stop, more, Run₁, some, Parting, LineParting, Comma, Digits, digits, Number, plus, minus, Bare, number, word, Reference, PatternAt, QuestionAt, question, LineAt, line, BodyAt, one, none, lines, TreeAt, tree, TreesAt, trees, Says, without, with-questions}
 

@@ -1,17 +1,17 @@
 -- What a text says, its rows say, wherever its strings stand: so tables that a load has filled are written, and what was written is written again.
 use mathlib.Core.Path.{_≡_, refl, sym, ap, ap₂, _∙_, subst}
-use mathlib.Core.Bool.{Bool, true, false}
-use mathlib.Core.List.{List, [], _∷_, _++_, map, append-nil}
-use Prim.Native.Nat.{ℕ, zero, suc, _+_, _-_, _^_, _≤_, _<_}
+use mathlib.Core.Bool.{Bool, false}
+use mathlib.Core.List.{List, [], _∷_, _++_, map}
+use Prim.Native.Nat.{ℕ, zero, suc, _+_, _-_, _^_, _≤_}
 use native.Mathlib.Omega.{arith}
-use lib.ListN.{length, getD, take, drop, length-append, length-drop, length-map}
+use lib.ListN.{length, take, drop, length-drop, length-map}
 use lib.Seq.{length-take-le, take-take, take-length}
-use Rattle.written.specs.Bytes.{Span, spanning, part, byteAt, between, digit, inPattern, inName, letter, oneOf, mark, wildcard, blank}
-use Rattle.written.specs.Said.{Question, Text, QuestionPlace, TreePlace, Layout, Tree}
-use Rattle.written.specs.TreeText.{Parted, Run, Run₁, Parting, Comma, PatternAt, QuestionAt, TreesAt, Says}
+use Rattle.written.specs.Bytes.{Span, between, digit, inPattern, inName, letter, oneOf, mark, wildcard, blank}
+use Rattle.written.specs.Said.{Question, Text, QuestionPlace, Layout}
+use Rattle.written.specs.TreeText.{Parted, Run, Run₁, Parting, Comma, PatternAt, QuestionAt, Says}
 use Rattle.written.specs.Linking.{Row}
 use Rattle.written.specs.Tables.{TreeRows, patternRow, patternRows, questionRows}
-use Rattle.written.specs.Writing.{Spells, PatternsSay, QuestionsSay, RowsSay, ReadBack, Written}
+use Rattle.written.specs.Writing.{Spells, PatternsSay, QuestionsSay, Written}
 use Rattle.written.proofs.Once.{says-once}
 use Rattle.written_back.proofs.Spelled.{spelled-says}
 use Rattle.written_back.proofs.Plain.{byte-in, says-fits, written-there}

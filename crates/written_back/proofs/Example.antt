@@ -1,10 +1,9 @@
 -- the example of 02, Wish 6, by computation
 use mathlib.Core.Path.{_≡_, refl}
-use mathlib.Core.List.{List, [], _∷_, flatten}
-use Prim.Native.Nat.{ℕ}
+use mathlib.Core.List.{[], _∷_, flatten}
 use lib.IntN.{pos, negsuc}
-use Rattle.written.specs.Bytes.{bytes, quote, newline}
-use Rattle.written.specs.Said.{node, pdf, Line, lone, braces, Text, Tree, Question}
+use Rattle.written.specs.Bytes.{bytes}
+use Rattle.written.specs.Said.{node, pdf, lone, braces, Text}
 use Rattle.written.specs.Writing.{figuresIn, spelledLine, spelledTree, spelledPatterns, spelledQuestion, spelled}
 
 abbrev pub t : Text

@@ -2,14 +2,13 @@
 use mathlib.Core.Path.{_≡_, refl, sym, ap, ap₂, _∙_, subst}
 use mathlib.Core.Bool.{Bool, true, false}
 use mathlib.Core.Logic.{_⊎_, inl, inr, ⊎-elim}
-use mathlib.Core.List.{List, [], _∷_, _++_, map, Forall₂, Forall₂·nil, Forall₂·cons}
-use Prim.Native.Nat.{ℕ, zero, suc, _+_, _-_, _≤_, _<_, min}
-use native.Mathlib.Decide.{decLt}
+use mathlib.Core.List.{List, [], _∷_, _++_, map, Forall₂, Forall₂·cons}
+use Prim.Native.Nat.{ℕ, zero, suc, _+_, _≤_, _<_}
 use native.Mathlib.Omega.{arith}
-use lib.ListN.{length, getD, take, drop, length-take, length-drop, length-append, length-map}
+use lib.ListN.{length, getD, drop, length-take, length-drop, length-append, length-map}
 use lib.Seq.{getD-take, getD-drop}
-use Rattle.written.specs.Bytes.{part, inName, inPattern}
-use Rattle.written.specs.Said.{Ref, node, pdf, Line, Body, Tree, Question, Text}
+use Rattle.written.specs.Bytes.{inName, inPattern}
+use Rattle.written.specs.Said.{Ref, Line, Body, Tree, Question}
 use Rattle.written.specs.Linking.{Nth, LastQuestion, Row, branch, leaf, LineRow, ToFirst, Records}
 use Rattle.written.specs.Tables.{TreeRows}
 use Rattle.written.specs.Writing.{Spells, PatternsSay, QuestionsSay, Written, Among, Outside, OddByte}

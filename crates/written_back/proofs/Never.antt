@@ -1,7 +1,7 @@
 -- What is written is not refused, and a refusal has one number: so the two calls have one answer each, and the buffer one content.
 use mathlib.Core.Path.{_≡_, refl, sym, ap, _∙_}
 use mathlib.Core.List.{List, _++_}
-use Prim.Native.Nat.{ℕ, _≤_, _<_, min}
+use Prim.Native.Nat.{ℕ, _≤_, min}
 use native.Mathlib.Omega.{arith}
 use lib.ListN.{length, drop}
 use Rattle.written.specs.Linking.{Row}

@@ -1,16 +1,16 @@
 -- Rows have one text: what they say, with ids 0, -1, -2 and on and bare leaves alone, is one thing, and so are its bytes.
 use mathlib.Core.Path.{_≡_, refl, sym, ap, ap₂, _∙_, subst}
 use mathlib.Core.List.{List, [], _∷_, _++_, map, Forall₂, Forall₂·nil, Forall₂·cons}
-use Prim.Native.Nat.{ℕ, zero, suc, _+_, _≤_, _<_}
+use Prim.Native.Nat.{ℕ, suc}
 use native.Mathlib.Omega.{arith}
 use lib.Dec.{eqb}
 use borrow.Author.Tests.{eq-eqb}
-use lib.IntN.{ℤ, pos}
-use lib.ListN.{length, getD, length-append, length-map}
+use lib.IntN.{pos}
+use lib.ListN.{length, getD}
 use mathlib.Core.Bool.{Bool, cond}
 use Rattle.written.specs.Bytes.{part}
-use Rattle.written.specs.Said.{Ref, node, pdf, Line, Body, lone, braces, Tree, Question, Text}
-use Rattle.written.specs.Linking.{Nth, Last, First, LastQuestion, LastLine, Single, NotSingle, Row, branch, leaf, LineRow, ToFirst, pdfs, times, Records}
+use Rattle.written.specs.Said.{Ref, node, pdf, Line, Body, lone, braces, Tree, Question}
+use Rattle.written.specs.Linking.{Nth, LastQuestion, Single, NotSingle, Row, leaf, LineRow, ToFirst, pdfs, times, Records}
 use Rattle.written.specs.Tables.{LinesOf, TreeRows}
 use Rattle.written.specs.Writing.{Spells, PatternsSay, QuestionsSay, Numbered, Plain, Written, spelled}
 use Rattle.written.proofs.Walk.{nth-once, single-once}

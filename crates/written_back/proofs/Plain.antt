@@ -7,15 +7,15 @@ use lib.IntN.{ℤ, pos, negsuc, negℤ}
 use mathlib.Core.Bool.{Bool, true, false}
 use borrow.Author.Tests.{lt-ltb}
 use native.Mathlib.Decide.{decLt}
-use lib.ListN.{length, getD, take, drop, length-append, length-map}
+use lib.ListN.{length, getD, take, drop, length-append}
 use lib.Seq.{drop-cons}
-use Rattle.written.specs.Bytes.{Span, byteAt, between, digit, inPattern, inWord, inName, letter, oneOf, mark, wildcard, blank}
+use Rattle.written.specs.Bytes.{Span, byteAt, between, digit, inPattern, inName, letter, oneOf, mark, wildcard, blank}
 use Rattle.written.specs.Said.{Ref, node, pdf, Line, Body, lone, braces, Tree, Question, Text, QuestionPlace, TreePlace, Layout}
 use Rattle.written.specs.TreeText.{Parted, Run, Run₁, Number, Bare, Reference, PatternAt, QuestionAt, LineAt, BodyAt, TreeAt, TreesAt, Says}
 use Rattle.written.specs.Linking as linking
-use Rattle.written.specs.Linking.{Nth, Last, LastLine, LastQuestion, Single, BareLeaf, NotSingle, Row, branch, LineRow, ToFirst, pdfOf, pdfs, times, Ascending, Records}
+use Rattle.written.specs.Linking.{Nth, LastLine, Single, BareLeaf, NotSingle, Row, LineRow, ToFirst, pdfOf, pdfs, times, Records}
 use Rattle.written.specs.Tables.{LinesOf, TreeRows}
-use Rattle.written.specs.Writing.{Numbered, Plain, RowsSay, ReadBack, Written, spelled}
+use Rattle.written.specs.Writing.{Numbered, Plain, ReadBack, Written, spelled}
 use Rattle.written_back.proofs.Spelled.{Every, All, Fits, RefFits, LineFits, BodyFits, TreeFits, PatternFits, QuestionFits, TextFits, past-end, spelled-says}
 
 -- ---- ids

@@ -1,14 +1,13 @@
 -- Reading a written text back gives the same question, pattern, tree and record rows but for string starts.
-use mathlib.Core.Path.{_≡_, refl, sym, ap, ap₂, _∙_, subst}
-use mathlib.Core.List.{List, [], _∷_, _++_, map}
-use Prim.Native.Nat.{ℕ, suc, _+_}
+use mathlib.Core.Path.{_≡_, refl, sym, subst}
+use mathlib.Core.List.{List, _++_, map}
+use Prim.Native.Nat.{ℕ}
 use lib.ListN.{length}
 use lib.Seq.{take-length}
-use lib.IntN.{pos}
-use Rattle.written.specs.Said.{Body, Tree, Question, Text, Layout}
+use Rattle.written.specs.Said.{Text, Layout}
 use Rattle.written.specs.TreeText.{Says}
 use Rattle.written.specs.Linking.{Row}
-use Rattle.written.specs.Tables.{LinesOf, TreeRows, questionRows, patternRows}
+use Rattle.written.specs.Tables.{TreeRows, questionRows, patternRows}
 use Rattle.written.specs.Writing.{QuestionsSay, Written}
 use Rattle.written.proofs.Once.{says-once}
 use Rattle.written.proofs.ModelOnce.{model-rows-once}

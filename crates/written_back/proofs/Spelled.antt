@@ -6,14 +6,14 @@ use mathlib.Core.List.{List, [], _∷_, _++_, map, flatten, append-assoc, append
 use Prim.Native.Nat.{ℕ, zero, suc, _+_, _-_, _*_, _/_, _%_, _^_, _≤_, _<_}
 use native.Mathlib.Decide.{decLt}
 use native.Mathlib.Omega.{arith}
-use borrow.Author.Tests.{lt-ltb, le-ltb, ltb-true, ltb-false, le-leb, lt-leb, leb-true, ne-eqb}
+use borrow.Author.Tests.{lt-ltb, le-ltb, ltb-true, le-leb, lt-leb, leb-true, ne-eqb}
 use lib.Dec.{ltb, leb, eqb}
-use lib.IntN.{ℤ, pos, negsuc, negℤ}
+use lib.IntN.{ℤ, pos, negsuc}
 use lib.ListN.{length, getD, take, drop, length-append}
 use lib.Seq.{getD-append-seam, drop-cons}
-use Rattle.written.specs.Bytes.{digit, inPattern, inWord, blank, spaceOrTab, inName, letter, oneOf, mark, wildcard, Span, spanning, byteAt, between, decimal, brace, unbrace, bracket, unbracket, quote, comma, dash, newline}
+use Rattle.written.specs.Bytes.{digit, inPattern, inWord, blank, spaceOrTab, inName, letter, oneOf, mark, wildcard, Span, spanning, byteAt, between, decimal, brace, unbrace, unbracket, quote, comma, newline}
 use Rattle.written.specs.Said.{Ref, node, pdf, Line, Body, lone, braces, Tree, Question, Text, QuestionPlace, TreePlace, Layout}
-use Rattle.written.specs.TreeText.{Parted, Word, Byte, Run, Run₁, Parting, LineParting, Comma, Digits, Number, Bare, Reference, PatternAt, QuestionAt, LineAt, BodyAt, TreeAt, TreesAt, Says, QS, star}
+use Rattle.written.specs.TreeText.{Parted, Word, Byte, Run, Run₁, Parting, LineParting, Comma, Digits, Number, Bare, Reference, PatternAt, QuestionAt, LineAt, BodyAt, TreeAt, TreesAt, Says, star}
 use Rattle.written.specs.Writing.{figuresIn, figures, spelledNumber, spelledRef, spelledLine, spelledBody, spelledTree, spelledPatterns, spelledQuestion, spelled}
 use Rattle.written.proofs.Once.{number-not, word-first}
 

@@ -2,12 +2,10 @@
 use mathlib.Core.Path.{_≡_, refl, sym, ap, _∙_, subst}
 use mathlib.Core.Bool.{Bool, true, false, cond}
 use mathlib.Core.List.{List, [], _∷_}
-use Prim.Native.Nat.{ℕ, zero, suc, _+_, _-_, _*_, _≤_, _<_, max}
+use Prim.Native.Nat.{ℕ, zero, suc, _+_, _-_, _≤_, _<_, max}
 use native.Mathlib.Decide.{decLt}
 use native.Mathlib.Omega.{arith}
-use lib.ListN.{length}
 use Rattle.written.specs.Linking.{Nth, here, there, Row, branch}
-use Rattle.written.specs.Depths as depths
 use Rattle.written.specs.Depths.{Path, stay, on, Refers, by-yes, by-no, Met, Good, Round, twice, Depth, deep}
 use Rattle.written.proofs.Walk.{nth-once}
 use Rattle.written_depth.proofs.Pigeonhole as pigeonhole

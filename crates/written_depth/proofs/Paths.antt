@@ -1,14 +1,14 @@
 -- What the depth of a tree says: it is one; no walk asks more, whatever the answers and the limit; some path asks that many, and ends at a leaf; and a walk whose limit is the depth
 -- at least is not ended by its limit.
-use mathlib.Core.Path.{_≡_, refl, sym, ap, _∙_, subst}
+use mathlib.Core.Path.{_≡_, refl, ap, _∙_, subst}
 use mathlib.Core.Bool.{Bool, true, false}
 use mathlib.Core.List.{List, [], _∷_}
-use Prim.Native.Nat.{ℕ, zero, suc, _*_, _≤_, _<_}
+use Prim.Native.Nat.{ℕ, suc, _≤_}
 use native.Mathlib.Omega.{arith}
 use lib.ListN.{take, drop}
 use Rattle.written.specs.Linking.{Nth, Row, branch}
 use Rattle.written.specs.Walks.{chosen, isYes, Outcome, Loaded, afterwards}
-use Rattle.written.specs.Depths.{DepthSaid, Path, stay, on, Refers, by-yes, by-no, Met, Good, Round, Depth, TreeDepth, deep}
+use Rattle.written.specs.Depths.{DepthSaid, Path, stay, on, Refers, by-yes, by-no, Good, Depth, TreeDepth, deep}
 use Rattle.written.proofs.Walk.{nth-once}
 
 module _ {rows : List Row} where

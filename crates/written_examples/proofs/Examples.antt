@@ -1,16 +1,15 @@
 -- Texts of document 01 that say what it says, the records that it gives, and texts that say nothing.
-use mathlib.Core.Path.{_≡_, refl, sym, ap, _∙_}
-use mathlib.Core.Bool.{Bool, true, false}
-use mathlib.Core.List.{List, [], _∷_, Forall₂, Forall₂·nil, Forall₂·cons}
-use Prim.Native.Nat.{ℕ, zero, suc, _+_, _≤_, _<_}
+use mathlib.Core.Path.{_≡_, refl}
+use mathlib.Core.Bool.{false}
+use mathlib.Core.List.{List, [], _∷_, Forall₂·nil, Forall₂·cons}
+use Prim.Native.Nat.{ℕ, _<_}
 use native.Mathlib.Omega.{arith}
 use lib.Dec.{lit<, lit≤}
-use lib.ListN.{length}
-use lib.IntN.{ℤ, pos, negsuc, negℤ}
-use Rattle.written.specs.Bytes.{digit, inPattern, inWord, blank, spaceOrTab, inName, letter, oneOf, mark, wildcard, Span, spanning, byteAt, between, decimal}
-use Rattle.written.specs.Said.{Ref, node, pdf, Line, Body, lone, braces, Tree, Question, Text, QuestionPlace, TreePlace, Layout}
-use Rattle.written.specs.TreeText.{Parted, last, next, Word, Byte, end, byte, Run, stop, more, Run₁, some, parting, digits, Number, plus, minus, Bare, number, word, Reference, bare, quoted, question, LineAt, line, one, none, lines, tree, trees, Says, without, with-questions}
-use Rattle.written.specs.Linking.{Nth, here, there, LastLine, LastQuestion, NotSingle, Single, Row, branch, leaf, row, pdfs, times, Ascending, ToFirst, to-line, to-first, Records, First}
+use lib.IntN.{ℤ, pos, negsuc}
+use Rattle.written.specs.Bytes.{digit, inPattern, inWord, blank, spaceOrTab, inName, spanning, byteAt, between, decimal}
+use Rattle.written.specs.Said.{Ref, node, pdf, Line, lone, braces, Question, Text, Layout}
+use Rattle.written.specs.TreeText.{last, next, end, byte, stop, more, some, parting, digits, Number, plus, minus, number, word, bare, quoted, question, line, one, none, lines, tree, trees, Says, without, with-questions}
+use Rattle.written.specs.Linking.{Nth, here, there, LastLine, LastQuestion, Single, row, pdfs, times, Ascending, to-line, to-first, Records, First}
 use Rattle.written.specs.Walks.{From, Written, Ending}
 use Rattle.written.proofs.Once.{number-not}
 use Rattle.written.proofs.Walk.{no-row}

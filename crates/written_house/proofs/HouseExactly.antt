@@ -3,14 +3,10 @@ use mathlib.Core.Path.{_≡_}
 use mathlib.Core.List.{List}
 use Prim.Native.Nat.{ℕ, _≤_}
 use native.Mathlib.Omega.{arith}
-use Rattle.written.specs.HeaderText.{Range}
 use Rattle.written.specs.Groups.{Pointwise}
 use Rattle.written.specs.Record.{Header, Says}
-use Rattle.written.specs.Said.{Line, Body, Tree, Question, Text}
-use Rattle.written.specs.Linking.{Fault, yes-undeclared, no-undeclared, not-asked, Refused}
-use Rattle.written.specs.Tables.{ModelRefused}
-use Rattle.written.specs.Models.{Model, Models, Unplaced}
-use Rattle.written.specs.Loading.{ModelSaid, Unloaded, Unread, NoModel}
+use Rattle.written.specs.Models.{Model, Models}
+use Rattle.written.specs.Loading.{ModelSaid, NoModel}
 use Rattle.written.specs.House.{ModelBreaks, FirstBreaks, HouseVoice, VoiceBreaks, SaysModel, FirstRefused, Judges, JudgesFile}
 use Rattle.written_models.proofs.Openings.{refused-low}
 use Rattle.written_models.proofs.Numbers.{no-model-number}

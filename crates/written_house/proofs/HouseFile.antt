@@ -1,20 +1,17 @@
 -- Of a file, in tables with room for each of its models, the house's call has one answer.
-use mathlib.Core.Path.{_≡_, refl, ap, subst, subst₂}
+use mathlib.Core.Path.{_≡_, refl, subst, subst₂}
 use mathlib.Core.List.{List}
-use Prim.Native.Nat.{ℕ, suc}
+use Prim.Native.Nat.{ℕ}
 use native.Mathlib.Omega.{arith}
 use Rattle.written.specs.HeaderText.{Range}
 use Rattle.written.specs.Record.{Header}
-use Rattle.written.specs.Said.{Tree, Question, Text}
-use Rattle.written.specs.Linking.{Row}
-use Rattle.written.specs.Tables.{TreeRows, ModelRefused}
+use Rattle.written.specs.Said.{Text}
 use Rattle.written.specs.Models.{Model, Models}
 use Rattle.written.specs.Loading.{ModelSaid, Unloaded, Unread, NoModel}
 use Rattle.written.specs.House.{SaysModel, Judges, JudgesFile}
 use Rattle.written.proofs.Once.{says-once}
 use Rattle.written.proofs.OneFile.{says-one}
 use Rattle.written_apart.proofs.ApartFile.{says-never, refused-one}
-use Rattle.written.proofs.Link.{refused-no-records, refused-once}
 use Rattle.written.proofs.ModelOnce.{model-refused-once, model-never-both}
 use Rattle.written_total.proofs.Broken.{breaks-once, breaks-silent}
 use Rattle.written_models.proofs.OneModel.{placed-one, placed-never, unplaced-one, models-one}

@@ -1,7 +1,6 @@
 -- `face_model::needs_said`: by how the words are judged, then by the plan.
-use mathlib.Core.Path.{sym, ap, _∙_}
+use mathlib.Core.Path.{sym, _∙_}
 use native.Mathlib.Omega.{arith}
-use Rattle.error.specs.Numbers.{numberOf, placeOf, lineOf}
 use Rattle.face_record.proofs.Laws.{judged-room}
 use Rattle.face_model.specs.Answers.{notNeeded}
 use Rattle.face_model.proofs.Laws.{values-small, needs-model, needs-refused, needs-unfit}

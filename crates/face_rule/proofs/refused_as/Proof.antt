@@ -1,6 +1,5 @@
 -- `face_rule::refused_as`: number, place and line of a refusal.
-use mathlib.Core.Path.{_≡_, ap, _∙_}
-use Prim.Native.Nat.{ℕ}
+use mathlib.Core.Path.{_∙_}
 use Rattle.face_rule.specs.Answers.{house}
 use borrow.Author.Needs.{needs}
 use Rattle.face_rule.proofs.refused_as.Statement.{statement}

@@ -3,7 +3,7 @@ use mathlib.Core.Path.{_∙_}
 use native.Mathlib.Omega.{arith}
 use Rattle.head_words.specs.Words.{headerAt}
 use Rattle.trail_voice.proofs.Laws.{counted}
-use Rattle.face_trail.proofs.Laws.{small, rows-size, count-other, begin-other, rows-other, rows-same}
+use Rattle.face_trail.proofs.Laws.{rows-size, count-other, begin-other, rows-other, rows-same}
 use borrow.Author.Needs.{needs}
 use Rattle.face_trail.proofs.find_rows.Statement.{statement}
 use Rattle.face_trail.proofs.find_rows.Tie as tie

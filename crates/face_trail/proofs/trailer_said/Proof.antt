@@ -1,5 +1,5 @@
 -- `face_trail::trailer_said`: by how the file opened.
-use mathlib.Core.Path.{_≡_, sym, ap, subst, _∙_}
+use mathlib.Core.Path.{sym, ap, subst, _∙_}
 use Prim.Native.Nat.{_≤_}
 use mathlib.Core.List.{List}
 use Prim.Native.Nat.{ℕ}

@@ -1,5 +1,5 @@
 -- `face_trail::write_opened`: by what was counted.
-use mathlib.Core.Path.{refl, sym, ap₂, _∙_}
+use mathlib.Core.Path.{sym, ap₂, _∙_}
 use native.Mathlib.Omega.{arith}
 use Rattle.head_words.specs.Words.{headerAt}
 use Rattle.trail_voice.proofs.Laws.{counted}

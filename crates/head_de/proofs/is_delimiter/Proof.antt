@@ -2,7 +2,7 @@
 use Rattle.written.specs.Bytes.{oneOf}
 use borrow.Author.Tests.{eq-eqb, ne-eqb}
 use mathlib.Core.Bool.{Bool, true, false, _||_}
-use mathlib.Core.Path.{_≡_, refl, sym, ap, ap₂, _∙_}
+use mathlib.Core.Path.{_≡_, refl}
 use borrow.Author.Needs.{needs}
 use Rattle.head_de.proofs.is_delimiter.Statement.{statement}
 use Rattle.head_de.proofs.is_delimiter.Tie as tie

@@ -2,8 +2,8 @@
 use Rattle.head_de_lists.specs.declared.PairList.{PairList}
 use Rattle.head_de_lists.specs.declared.Outcome.{Outcome}
 use Rattle.head_de_lists.specs.declared.Ranges.{Ranges}
-use Rattle.head_de_lists.specs.Lists.{listAt, listOf, pairsIn}
-use mathlib.Core.Path.{_≡_, refl, sym, ap, ap₂, _∙_}
+use Rattle.head_de_lists.specs.Lists.{listAt}
+use mathlib.Core.Path.{sym, ap, _∙_}
 use borrow.Author.Needs.{needs}
 use Rattle.head_de_lists.proofs.pairs.Statement.{statement}
 use Rattle.head_de_lists.proofs.pairs.Tie as tie

@@ -4,17 +4,17 @@ use Rattle.head_de_lists.specs.declared.PairList.{PairList}
 use Rattle.head_de_lists.specs.declared.Outcome.{Outcome}
 use Rattle.written.specs.HeaderText.{Range}
 use mathlib.Core.List.{List, [], _∷_, _++_}
-use Prim.Native.Nat.{ℕ, _+_, _-_, _<_}
+use Prim.Native.Nat.{_-_, _<_}
 use lib.ListN.{length}
 use Rattle.head_de_lists.specs.declared.Ranges.{Ranges}
 use Rattle.head_de.specs.declared.Cursor.{Cursor}
 use Rattle.head_de.proofs.Moves.{read-moves, pair-moves}
 use Rattle.head_de.specs.Readings.{read, ofPair}
-use Rattle.head_de.specs.Values.{cursor, delimitersOf, pairAt}
+use Rattle.head_de.specs.Values.{delimitersOf, pairAt}
 use Rattle.head_de_lists.proofs.Going.{Going, going-first, item-refused, item-last, item-unsplit, item-passed, ranges-with}
 use Rattle.head_de_lists.specs.Lists.{rangesOf, rangesWith, pairsIn}
 use native.Mathlib.Omega.{arith}
-use mathlib.Core.Path.{_≡_, refl, sym, ap, ap₂, _∙_}
+use mathlib.Core.Path.{_≡_, sym, ap, _∙_}
 use Rattle.head_de_lists.proofs.pairs_from.Statement.{statement}
 use Rattle.head_de_lists.proofs.pairs_from.Tie as tie
 

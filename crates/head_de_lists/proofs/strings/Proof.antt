@@ -2,8 +2,8 @@
 use Rattle.head_de_lists.specs.declared.StringList.{StringList}
 use Rattle.head_de_lists.specs.declared.Outcome.{Outcome}
 use Rattle.head_de_lists.specs.declared.Spans.{Spans}
-use Rattle.head_de_lists.specs.Lists.{listAt, listOf, stringsIn}
-use mathlib.Core.Path.{_≡_, refl, sym, ap, ap₂, _∙_}
+use Rattle.head_de_lists.specs.Lists.{listAt}
+use mathlib.Core.Path.{sym, ap, _∙_}
 use borrow.Author.Needs.{needs}
 use Rattle.head_de_lists.proofs.strings.Statement.{statement}
 use Rattle.head_de_lists.proofs.strings.Tie as tie

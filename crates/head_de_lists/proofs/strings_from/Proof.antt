@@ -4,17 +4,17 @@ use Rattle.head_de_lists.specs.declared.StringList.{StringList}
 use Rattle.head_de_lists.specs.declared.Outcome.{Outcome}
 use Rattle.written.specs.Bytes.{Span}
 use mathlib.Core.List.{List, [], _∷_, _++_}
-use Prim.Native.Nat.{ℕ, _+_, _-_, _<_}
+use Prim.Native.Nat.{_-_, _<_}
 use lib.ListN.{length}
 use Rattle.head_de_lists.specs.declared.Spans.{Spans}
 use Rattle.head_de.specs.declared.Cursor.{Cursor}
 use Rattle.head_de.proofs.Moves.{read-moves, text-moves}
 use Rattle.head_de.specs.Readings.{read, ofText}
-use Rattle.head_de.specs.Values.{cursor, delimitersOf, textAt}
+use Rattle.head_de.specs.Values.{delimitersOf, textAt}
 use Rattle.head_de_lists.proofs.Going.{Going, going-first, item-refused, item-last, item-unsplit, item-passed, spans-with}
 use Rattle.head_de_lists.specs.Lists.{spansOf, spansWith, stringsIn}
 use native.Mathlib.Omega.{arith}
-use mathlib.Core.Path.{_≡_, refl, sym, ap, ap₂, _∙_}
+use mathlib.Core.Path.{_≡_, sym, ap, _∙_}
 use Rattle.head_de_lists.proofs.strings_from.Statement.{statement}
 use Rattle.head_de_lists.proofs.strings_from.Tie as tie
 

@@ -1,6 +1,6 @@
 -- `head_de_values::blank` meets its contract.
 use Rattle.head_de_values.specs.Values.{blankOf, made}
-use mathlib.Core.Path.{_≡_, refl, sym, ap, ap₂, _∙_}
+use mathlib.Core.Path.{ap₂}
 use borrow.Author.Needs.{needs}
 use Rattle.head_de_values.proofs.blank.Statement.{statement}
 use Rattle.head_de_values.proofs.blank.Tie as tie

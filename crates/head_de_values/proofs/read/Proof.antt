@@ -1,6 +1,4 @@
 -- `head_de_values::read` meets its contract.
-use Rattle.head_de_values.specs.Values.{kindFrom, valueIn, readAt}
-use mathlib.Core.Path.{_≡_, refl, sym, ap, ap₂, _∙_}
 use borrow.Author.Needs.{needs}
 use Rattle.head_de_values.proofs.read.Statement.{statement}
 use Rattle.head_de_values.proofs.read.Tie as tie

@@ -1,12 +1,6 @@
 -- `head_de_values::read_anything` meets its contract.
-use Prim.Native.Nat.{ℕ}
-use mathlib.Core.List.{List}
-use Rattle.written.specs.Bytes.{noneOf}
-use Rattle.laws.specs.Runs.{stop}
 use Rattle.laws.proofs.Runs.{stop-from}
-use native.Mathlib.Omega.{arith}
-use Rattle.head_de_values.specs.Values.{readAt, valueOf, blankOf, valueIn, aroundOf, upTo}
-use mathlib.Core.Path.{_≡_, refl, sym, ap, ap₂, _∙_}
+use Rattle.head_de_values.specs.Values.{readAt, valueOf, blankOf}
 use borrow.Author.Needs.{needs}
 use Rattle.head_de_values.proofs.read_anything.Statement.{statement}
 use Rattle.head_de_values.proofs.read_anything.Tie as tie

@@ -7,9 +7,9 @@ use Rattle.written.specs.HeaderText.{Range, ranges}
 use Rattle.head_de_lists.specs.declared.PairList.{PairList}
 use Rattle.head_de_lists.specs.Lists.{listAt, pairsIn}
 use Rattle.head_de.specs.Readings.{Reading, read, refused, mapped, ofPair}
-use Rattle.head_de.specs.Values.{pairAt, delimitersOf}
+use Rattle.head_de.specs.Values.{pairAt}
 use Rattle.head_de_values.specs.Values.{readAt, valueOf, blankOf, valueIn, aroundOf}
-use mathlib.Core.Path.{_≡_, refl, sym, ap, ap₂, _∙_}
+use mathlib.Core.Path.{_≡_, refl, ap, ap₂, _∙_}
 use borrow.Author.Needs.{needs}
 use Rattle.head_de_values.proofs.read_pairs.Statement.{statement}
 use Rattle.head_de_values.proofs.read_pairs.Tie as tie

@@ -1,5 +1,5 @@
 -- `head_de_values::read_perhaps` meets its contract.
-use mathlib.Core.Path.{_≡_, sym, ap, _∙_}
+use mathlib.Core.Path.{sym, ap, _∙_}
 use Rattle.head_de.specs.Values.{pairAt}
 use Rattle.head_de_values.specs.Values.{readAt, valueOf, blankOf}
 use Rattle.head_de_values.proofs.Scalars.{flagged, pair-flagged}

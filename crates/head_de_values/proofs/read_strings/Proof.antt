@@ -7,9 +7,9 @@ use Rattle.written.specs.Bytes.{Span, comma}
 use Rattle.head_de_lists.specs.declared.StringList.{StringList}
 use Rattle.head_de_lists.specs.Lists.{listAt, stringsIn}
 use Rattle.head_de.specs.Readings.{Reading, read, refused, mapped, ofText}
-use Rattle.head_de.specs.Values.{textAt, delimitersOf}
+use Rattle.head_de.specs.Values.{textAt}
 use Rattle.head_de_values.specs.Values.{readAt, valueOf, blankOf, valueIn, aroundOf}
-use mathlib.Core.Path.{_≡_, refl, sym, ap, ap₂, _∙_}
+use mathlib.Core.Path.{_≡_, refl, ap, ap₂, _∙_}
 use borrow.Author.Needs.{needs}
 use Rattle.head_de_values.proofs.read_strings.Statement.{statement}
 use Rattle.head_de_values.proofs.read_strings.Tie as tie

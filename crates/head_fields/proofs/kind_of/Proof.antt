@@ -1,7 +1,6 @@
 -- `head_fields::kind_of` meets its contract.
 use Rattle.written.specs.Record.{stream-fields}
-use Rattle.head_fields.specs.Fields.{fieldsOf, kindAt}
-use mathlib.Core.Path.{_≡_, refl, sym, ap, ap₂, _∙_}
+use Rattle.head_fields.specs.Fields.{kindAt}
 use borrow.Author.Needs.{needs}
 use Rattle.head_fields.proofs.kind_of.Statement.{statement}
 use Rattle.head_fields.proofs.kind_of.Tie as tie

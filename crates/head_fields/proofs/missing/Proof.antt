@@ -1,11 +1,11 @@
 -- `head_fields::missing` meets its contract.
 use borrow.Author.Needs.{needs}
 use Rattle.head_fields.proofs.Fields.{missing-on, missing-here}
-use Prim.Native.Nat.{ℕ, _≤_, _-_}
+use Prim.Native.Nat.{_≤_}
 use Rattle.head_fields.specs.Fields.{anyMissing}
 use borrow.Author.Tests.{not-true, not-false}
 use native.Mathlib.Omega.{arith}
-use mathlib.Core.Path.{_≡_, refl, sym, ap, ap₂, _∙_}
+use mathlib.Core.Path.{_≡_, refl, sym, _∙_}
 use Rattle.head_fields.proofs.missing.Statement.{statement}
 use Rattle.head_fields.proofs.missing.Tie as tie
 

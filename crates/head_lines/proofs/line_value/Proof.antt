@@ -3,15 +3,15 @@ use Rattle.written.specs.HeaderText as says
 use Rattle.head_de.specs.Readings.{Reading}
 use Rattle.head_de_values.specs.declared.Value.{Value}
 use Rattle.head_de_values.specs.Values.{kindFrom, readAt, valueIn}
-use mathlib.Core.List.{List, [], _∷_}
-use Rattle.written.specs.Bytes.{newline, byteAt}
-use Prim.Native.Nat.{ℕ, _+_}
+use mathlib.Core.List.{[], _∷_}
+use Rattle.written.specs.Bytes.{newline}
+use Prim.Native.Nat.{_+_}
 use Rattle.laws.proofs.Runs.{read-in}
 use Rattle.head_lines.proofs.Lines.{value-ended, value-unended, value-refused}
 use Rattle.head_lines.specs.Lines.{lineValueAt, endedOf}
-use borrow.Author.Tests.{eq-eqb, ne-eqb}
+use borrow.Author.Tests.{ne-eqb}
 use native.Mathlib.Omega.{arith}
-use mathlib.Core.Path.{_≡_, refl, sym, ap, ap₂, _∙_}
+use mathlib.Core.Path.{_≡_, sym, ap, _∙_}
 use borrow.Author.Needs.{needs}
 use Rattle.head_lines.proofs.line_value.Statement.{statement}
 use Rattle.head_lines.proofs.line_value.Tie as tie

@@ -1,11 +1,7 @@
 -- `head_lines::next_key` meets its contract.
-use mathlib.Core.List.{List, [], _∷_}
-use Rattle.head_de.specs.Values.{textAt}
-use Rattle.written.specs.Bytes.{newline, colon, byteAt}
-use Prim.Native.Nat.{ℕ}
-use Rattle.head_lines.specs.Lines.{keyAt, keyFrom, keyOf}
-use borrow.Author.Tests.{eq-eqb, ne-eqb}
-use mathlib.Core.Path.{_≡_, refl, sym, ap, ap₂, _∙_}
+use Rattle.head_lines.specs.Lines.{keyAt}
+use borrow.Author.Tests.{ne-eqb}
+use mathlib.Core.Path.{sym, _∙_}
 use borrow.Author.Needs.{needs}
 use Rattle.head_lines.proofs.next_key.Statement.{statement}
 use Rattle.head_lines.proofs.next_key.Tie as tie

@@ -1,5 +1,4 @@
 -- `head_lines::next_line` meets its contract.
-use Rattle.head_de_values.specs.declared.Value.{Value}
 use Prim.Native.Nat.{ℕ}
 use mathlib.Core.Bool.{false}
 use mathlib.Core.List.{List}

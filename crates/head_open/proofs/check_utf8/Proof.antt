@@ -2,9 +2,9 @@
 use lib.ListN.{drop, length-take}
 use Rattle.text_utf8.proofs.Valid.{bad}
 use Rattle.text_utf8.specs.Check.{checkOf}
-use Rattle.head_open.specs.Open.{utf8Of, utf8Verdict}
+use Rattle.head_open.specs.Open.{utf8Of}
 use native.Mathlib.Omega.{arith}
-use mathlib.Core.Path.{_≡_, refl, sym, ap, ap₂, _∙_}
+use mathlib.Core.Path.{sym, ap, _∙_}
 use borrow.Author.Needs.{needs}
 use Rattle.head_open.proofs.check_utf8.Statement.{statement}
 use Rattle.head_open.proofs.check_utf8.Tie as tie

@@ -1,5 +1,5 @@
 -- `head_open::open_positions` meets its contract.
-use mathlib.Core.Path.{_≡_, refl, sym, ap, _∙_}
+use mathlib.Core.Path.{refl, sym, _∙_}
 use native.Mathlib.Omega.{arith}
 use borrow.Author.Needs.{needs}
 use Rattle.head_open.specs.Open.{positionsOf, noPositionsFor}

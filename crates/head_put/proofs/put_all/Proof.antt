@@ -1,11 +1,7 @@
 -- `head_put::put_all`: what is left to copy gives the whole.
-use mathlib.Core.Path.{_≡_, refl, sym, ap, _∙_}
-use mathlib.Core.List.{List, []}
-use Prim.Native.Nat.{_+_, _-_, _≤_}
+use Prim.Native.Nat.{_-_}
 use native.Mathlib.Omega.{arith}
 use borrow.Author.Needs.{needs}
-use lib.ListN.{length, getD}
-use Rattle.head_words.specs.Words.{wordAt}
 use Rattle.head_put.proofs.Laid.{Copying, copying-none, copying-more, copying-done}
 use Rattle.head_put.proofs.put_all.Statement.{statement}
 use Rattle.head_put.proofs.put_all.Tie as tie

@@ -1,12 +1,11 @@
 -- `head_sections::is_break` meets its contract.
 use Prim.Native.Nat.{ℕ}
-use mathlib.Core.Bool.{Bool}
 use lib.Dec.{eqb}
 use Rattle.laws.proofs.Runs.{read-in}
 use Rattle.head_sections.specs.Split.{breakHere}
-use borrow.Author.Tests.{eq-eqb, ne-eqb}
+use borrow.Author.Tests.{ne-eqb}
 use native.Mathlib.Omega.{arith}
-use mathlib.Core.Path.{_≡_, refl, sym, ap, ap₂, _∙_}
+use mathlib.Core.Path.{sym, ap, _∙_}
 use borrow.Author.Needs.{needs}
 use Rattle.head_sections.proofs.is_break.Statement.{statement}
 use Rattle.head_sections.proofs.is_break.Tie as tie

@@ -4,8 +4,7 @@ use Rattle.head_sections.proofs.Breaks.{break-here, break-on, break-end
 use Rattle.head_sections.specs.Split.{breakAt}
 use lib.ListN.{length}
 use Prim.Native.Nat.{_-_}
-use native.Mathlib.Omega.{arith}
-use mathlib.Core.Path.{_≡_, refl, sym, ap, ap₂, _∙_}
+use mathlib.Core.Path.{_≡_, refl, sym, _∙_}
 use Rattle.head_sections.proofs.next_break.Statement.{statement}
 use Rattle.head_sections.proofs.next_break.Tie as tie
 

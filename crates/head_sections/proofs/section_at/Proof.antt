@@ -1,9 +1,9 @@
 -- `head_sections::section_at` meets its contract.
 use Rattle.head_sections.proofs.Breaks.{starts-in}
-use Rattle.head_sections.specs.Split.{sectionAt, startsAt}
+use Rattle.head_sections.specs.Split.{sectionAt}
 use borrow.Author.Tests.{not-true, not-false, lt-ltb, le-ltb}
 use native.Mathlib.Omega.{arith}
-use mathlib.Core.Path.{_≡_, refl, sym, ap, ap₂, _∙_}
+use mathlib.Core.Path.{sym, _∙_}
 use borrow.Author.Needs.{needs}
 use Rattle.head_sections.proofs.section_at.Statement.{statement}
 use Rattle.head_sections.proofs.section_at.Tie as tie

@@ -1,10 +1,10 @@
 -- `head_sections::split_sections` meets its contract.
 use Rattle.written.specs.Bytes.{bytes}
 use Rattle.head_sections.proofs.Breaks.{starts-in, section-in}
-use Rattle.head_sections.specs.Split.{splitOf, sectionAt, startsAt}
+use Rattle.head_sections.specs.Split.{splitOf}
 use borrow.Author.Tests.{not-true, not-false}
 use native.Mathlib.Omega.{arith}
-use mathlib.Core.Path.{_≡_, refl, sym, ap, ap₂, _∙_}
+use mathlib.Core.Path.{sym, _∙_}
 use borrow.Author.Needs.{needs}
 use Rattle.head_sections.proofs.split_sections.Statement.{statement}
 use Rattle.head_sections.proofs.split_sections.Tie as tie

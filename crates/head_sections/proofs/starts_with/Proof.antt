@@ -1,9 +1,6 @@
 -- `head_sections::starts_with` meets its contract.
-use Prim.Native.Nat.{ℕ}
-use mathlib.Core.List.{List}
-use Rattle.written.specs.Bytes.{same}
 use Rattle.head_sections.specs.Split.{startsAt}
-use mathlib.Core.Path.{_≡_, refl, sym, ap, ap₂, _∙_}
+use mathlib.Core.Path.{sym}
 use borrow.Author.Needs.{needs}
 use Rattle.head_sections.proofs.starts_with.Statement.{statement}
 use Rattle.head_sections.proofs.starts_with.Tie as tie

@@ -9,10 +9,10 @@ use Rattle.head_lines.specs.Lines.{unseen, marked}
 use Rattle.written.specs.Record.{stream-fields}
 use Rattle.written.specs.HeaderText.{Entry}
 use mathlib.Core.Bool.{Bool}
-use mathlib.Core.List.{List, [], _∷_, _++_}
+use mathlib.Core.List.{List, []}
 use lib.ListN.{length}
 use Prim.Native.Nat.{ℕ, _-_}
-use mathlib.Core.Path.{_≡_, refl, sym, ap, ap₂, _∙_}
+use mathlib.Core.Path.{_≡_, sym, ap, _∙_}
 use Rattle.head_ungrouped.proofs.check_lines.Statement.{statement}
 use Rattle.head_ungrouped.proofs.check_lines.Tie as tie
 

@@ -1,6 +1,6 @@
 -- `head_ungrouped::judge` meets its contract.
 use Rattle.head_ungrouped.specs.Ungrouped.{judged}
-use mathlib.Core.Path.{_≡_, refl, sym, ap, ap₂, _∙_}
+use mathlib.Core.Path.{sym, _∙_}
 use borrow.Author.Needs.{needs}
 use Rattle.head_ungrouped.proofs.judge.Statement.{statement}
 use Rattle.head_ungrouped.proofs.judge.Tie as tie

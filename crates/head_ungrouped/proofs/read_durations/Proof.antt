@@ -5,14 +5,14 @@ use Rattle.head_de_lists.specs.declared.Outcome.the-variants as outcome
 use Rattle.head_lines.specs.declared.Line.{Line}
 use Rattle.head_ungrouped.proofs.Stored.{stored-line}
 use Rattle.head_lines.proofs.Going.{Going, going-first, end-of, wrong-of, lines-end, lines-wrong, Turned, turned, kept-more}
-use Rattle.head_lines.specs.Lines.{kept, unseen, marked}
+use Rattle.head_lines.specs.Lines.{kept, unseen}
 use Rattle.head_ungrouped.specs.Ungrouped.{noDurations, withLine, durationsIn, judged}
 use Rattle.written.specs.Record.{position-fields}
 use Rattle.written.specs.HeaderText.{Entry}
 use lib.ListN.{length}
 use mathlib.Core.List.{List, [], _∷_, _++_}
 use Prim.Native.Nat.{_-_}
-use mathlib.Core.Path.{_≡_, refl, sym, ap, ap₂, _∙_}
+use mathlib.Core.Path.{_≡_, sym, ap, _∙_}
 use Rattle.head_ungrouped.proofs.read_durations.Statement.{statement}
 use Rattle.head_ungrouped.proofs.read_durations.Tie as tie
 

@@ -1,6 +1,6 @@
 -- `head_ungrouped::refused` meets its contract.
 use Rattle.head_ungrouped.specs.Ungrouped.{made}
-use mathlib.Core.Path.{_≡_, refl, sym, ap, ap₂, _∙_}
+use mathlib.Core.Path.{ap}
 use borrow.Author.Needs.{needs}
 use Rattle.head_ungrouped.proofs.refused.Statement.{statement}
 use Rattle.head_ungrouped.proofs.refused.Tie as tie

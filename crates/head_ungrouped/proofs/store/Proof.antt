@@ -1,7 +1,6 @@
 -- `head_ungrouped::store` meets its contract.
 use Rattle.head_ungrouped.specs.Ungrouped.{stored}
 use borrow.Author.Tests.{ne-eqb}
-use mathlib.Core.Path.{_≡_, refl, sym, ap, ap₂, _∙_}
 use Rattle.head_ungrouped.proofs.store.Statement.{statement}
 use Rattle.head_ungrouped.proofs.store.Tie as tie
 

@@ -1,6 +1,6 @@
 -- `house_names::names_once` meets its contract.
 use mathlib.Core.Path.{refl, ap, _∙_}
-use Prim.Native.Nat.{ℕ, _*_}
+use Prim.Native.Nat.{_*_}
 use lib.ListN.{length}
 use native.Mathlib.Omega.{arith}
 use Rattle.load_text.proofs.Laws.{Asked, index-room, index-count, is-index, patterns-over}

@@ -1,8 +1,6 @@
 -- `house_text::line_fits` meets its contract.
-use mathlib.Core.Path.{sym, ap, _∙_}
-use mathlib.Core.Bool.{Bool, _&&_}
+use mathlib.Core.Path.{sym, _∙_}
 use borrow.Author.Tests.{not-true, not-false}
-use Rattle.house_text.specs.Text.{refFits}
 use Rattle.laws.proofs.Every.{not-first, then-second}
 use borrow.Author.Needs.{needs}
 use Rattle.house_text.proofs.line_fits.Statement.{statement}

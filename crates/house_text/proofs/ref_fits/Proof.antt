@@ -1,7 +1,6 @@
 -- `house_text::ref_fits` meets its contract.
 use mathlib.Core.Path.{sym, ap, _∙_}
 use Prim.Native.Nat.{ℕ}
-use Rattle.tree_reference.specs.declared.TreeIndex.{TreeIndex}
 use Rattle.laws.proofs.Signed.{back}
 use Rattle.text_parts.specs.Parts.{natOf}
 use Rattle.walk_leaves.specs.Conditions.{leafFits}

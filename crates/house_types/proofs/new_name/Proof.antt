@@ -1,5 +1,5 @@
 -- `house_types::new_name`: no name below k has the bytes of the i-th.
-use mathlib.Core.Path.{refl, sym, _∙_}
+use mathlib.Core.Path.{refl}
 use Prim.Native.Nat.{_-_}
 use native.Mathlib.Omega.{arith}
 use Rattle.laws.proofs.Every.{Passing, passing-none}

@@ -1,5 +1,4 @@
 -- `label_answers::fill_answers`: the bytes still to be written, from question q on.
-use mathlib.Core.Path.{sym, _∙_}
 use Prim.Native.Nat.{_-_}
 use native.Mathlib.Omega.{arith}
 use borrow.Author.Needs.{needs}

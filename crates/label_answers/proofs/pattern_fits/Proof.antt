@@ -1,5 +1,4 @@
 -- `label_answers::pattern_fits`: no such row, or by its bytes.
-use mathlib.Core.Path.{sym, ap, _∙_}
 use Prim.Native.Nat.{_+_, _<_}
 use native.Mathlib.Omega.{arith}
 use borrow.Author.Needs.{needs}

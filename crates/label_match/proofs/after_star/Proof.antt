@@ -1,5 +1,4 @@
 -- `label_match::after_star`: what is behind j matches some end of the label from i on exactly where the whole does.
-use mathlib.Core.Path.{sym, _∙_}
 use Prim.Native.Nat.{_-_}
 use native.Mathlib.Omega.{arith}
 use lib.ListN.{length}

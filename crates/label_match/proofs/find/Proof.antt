@@ -1,8 +1,7 @@
 -- `label_match::find`: the part stands at no place before i.
 use mathlib.Core.Path.{sym, _∙_}
-use Prim.Native.Nat.{suc, _+_, _-_, _≤_}
+use Prim.Native.Nat.{suc, _-_}
 use native.Mathlib.Omega.{arith}
-use lib.ListN.{length}
 use borrow.Author.Needs.{needs}
 use Rattle.label_match.proofs.Laws.{Seeking, seeking-none, seeking-more, seeking-here, seeking-end, find-short}
 use Rattle.label_match.proofs.find.Statement.{statement}

@@ -1,5 +1,4 @@
 -- `label_match::part_end`: no star up to `end`.
-use mathlib.Core.Path.{_∙_}
 use Prim.Native.Nat.{_-_}
 use native.Mathlib.Omega.{arith}
 use lib.ListN.{length}

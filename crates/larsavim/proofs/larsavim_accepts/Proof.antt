@@ -1,5 +1,5 @@
 -- `larsavim::larsavim_accepts`: too short, or told.
-use mathlib.Core.Path.{_≡_, refl, ap, _∙_}
+use mathlib.Core.Path.{refl, ap, _∙_}
 use mathlib.Core.List.{[], _∷_}
 use lib.Seq.{sets}
 use Rattle.error.specs.declared.Told.{Told}

@@ -1,12 +1,9 @@
 -- `link_alone::judge_braces`: one reference, or the lines and the leaves behind them.
-use mathlib.Core.Path.{_≡_, sym, ap, ap₂, _∙_}
-use mathlib.Core.Bool.{Bool}
-use Prim.Native.Nat.{ℕ}
+use mathlib.Core.Path.{sym, ap, ap₂, _∙_}
 use Rattle.tree_question.specs.Questions.{questionsAt}
 use Rattle.link_alone.specs.Alone.{ended}
 use Rattle.link_fits.specs.Fits.{leavesFrom}
-use Rattle.link_alone.specs.declared.Judged.{Judged}
-use Rattle.link_alone.specs.declared.Single.the-variants.{One, Several}
+use Rattle.link_alone.specs.declared.Single.the-variants.{Several}
 use Rattle.link_alone.proofs.Judging.{counted-many, braces-are, braces-broken}
 use borrow.Author.Needs.{needs}
 use Rattle.link_alone.proofs.judge_braces.Statement.{statement}

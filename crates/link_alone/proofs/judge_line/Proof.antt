@@ -1,5 +1,5 @@
 -- `link_alone::judge_line`: by the line's link.
-use mathlib.Core.Path.{_≡_, sym, ap, _∙_}
+use mathlib.Core.Path.{sym, ap, _∙_}
 use Rattle.link_alone.specs.Alone.{judgedLine}
 use Rattle.link_alone.specs.declared.Judged.the-variants.{Told}
 use borrow.Author.Needs.{needs}

@@ -1,5 +1,5 @@
 -- `link_alone::judge_tree`: by the tree's head.
-use mathlib.Core.Path.{_≡_, sym, ap, _∙_}
+use mathlib.Core.Path.{sym, ap, _∙_}
 use Prim.Native.Nat.{ℕ}
 use lib.Dec.{eqb}
 use Rattle.tree_question.specs.Questions.{questionsAt}

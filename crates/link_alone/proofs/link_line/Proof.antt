@@ -1,5 +1,5 @@
 -- `link_alone::link_line`: the first of the three tests that fails, or the line's question and targets.
-use mathlib.Core.Path.{_≡_, refl, sym, ap, ap₂, _∙_}
+use mathlib.Core.Path.{_≡_, sym, ap, ap₂, _∙_}
 use mathlib.Core.Bool.{Bool, true, false, cond}
 use mathlib.Core.List.{List}
 use Prim.Native.Nat.{ℕ}
@@ -8,12 +8,10 @@ use Rattle.error.specs.declared.LinkFault.the-variants.{NodeRef}
 use Rattle.tree_line.specs.declared.Line.{Line}
 use Rattle.text_parts.specs.Parts.{partInside}
 use Rattle.link_search.specs.declared.Found.{Found}
-use Rattle.link_search.specs.declared.Found.the-variants.{At, Nothing}
 use Rattle.link_find.specs.Find.{asked}
 use Rattle.link_alone.specs.Alone.{targetIn, linkAsked, linkOf, linkIn}
 use Rattle.link_fits.specs.Fits.{nowhere}
 use Rattle.link_fits.specs.declared.Target.{Target}
-use Rattle.link_alone.specs.declared.LineLink.{LineLink}
 use Rattle.link_alone.specs.declared.LineLink.the-variants as link
 use borrow.Author.Needs.{needs}
 use Rattle.link_alone.proofs.link_line.Statement.{statement}

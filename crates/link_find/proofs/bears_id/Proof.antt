@@ -1,5 +1,5 @@
 -- `link_find::bears_id`: by the key of the line's id.
-use mathlib.Core.Path.{_≡_, ap, _∙_}
+use mathlib.Core.Path.{ap, _∙_}
 use Prim.Native.Nat.{ℕ}
 use lib.Dec.{eqb}
 use Rattle.laws.proofs.Signed.{back}

@@ -1,5 +1,5 @@
 -- `link_find::find_tree`: the tree that is left to be found from here on is the one that was looked for.
-use mathlib.Core.Path.{_≡_, refl, sym, _∙_}
+use mathlib.Core.Path.{refl, sym, _∙_}
 use Prim.Native.Nat.{_-_}
 use native.Mathlib.Omega.{arith}
 use lib.ListN.{length}

@@ -1,6 +1,4 @@
 -- `link_find::found_after`: by the test.
-use mathlib.Core.Path.{_≡_}
-use borrow.Author.Needs.{needs}
 use Rattle.link_find.proofs.found_after.Statement.{statement}
 use Rattle.link_find.proofs.found_after.Tie as tie
 

@@ -1,12 +1,11 @@
 -- `link_find::ids_in_order`: the answer is the same from each line on.
 use mathlib.Core.Path.{_≡_, refl, sym, _∙_}
-use mathlib.Core.Bool.{true, false}
 use Prim.Native.Nat.{_-_, _≤_}
 use native.Mathlib.Omega.{arith}
 use borrow.Author.Tests.{not-true, not-false}
 use lib.ListN.{length}
 use Rattle.tree_line.specs.Lines.{linesAt}
-use Rattle.tree_survey_lines.proofs.Counting.{items-next, items-last, items-broken, next-in, last-in}
+use Rattle.tree_survey_lines.proofs.Counting.{items-next, items-last, items-broken, next-in}
 use Rattle.link_find.specs.Find.{ordered}
 use Rattle.link_find.proofs.Finding.{ordered-on, ordered-off, ordered-end, ordered-none}
 use borrow.Author.Needs.{needs}

@@ -1,5 +1,5 @@
 -- `link_find::last_bearing`: the last line of the id, among those still to come or else what was kept, is that among all.
-use mathlib.Core.Path.{_≡_, refl, sym, ap, ap₂, _∙_}
+use mathlib.Core.Path.{_≡_, refl, sym, _∙_}
 use Prim.Native.Nat.{_-_}
 use native.Mathlib.Omega.{arith}
 use lib.ListN.{length}

@@ -1,16 +1,12 @@
 -- `link_find::last_named`: the last question of the name, among those still to come or else before them, is that among all.
-use mathlib.Core.Path.{_≡_, refl, sym, ap, ap₂, _∙_}
-use mathlib.Core.Bool.{true, false}
-use mathlib.Core.List.{List}
-use Prim.Native.Nat.{ℕ, _-_, _≤_}
+use mathlib.Core.Path.{_≡_, refl, sym, _∙_}
+use Prim.Native.Nat.{_-_, _≤_}
 use native.Mathlib.Omega.{arith}
 use lib.ListN.{length}
-use Rattle.written.specs.Bytes.{same}
 use Rattle.tree_question.proofs.Filling.{questions-from}
-use Rattle.text_parts.specs.Parts.{partInside}
 use Rattle.link_search.specs.declared.Found.the-variants.{Nothing}
 use Rattle.link_find.specs.Find.{lastFrom, named}
-use Rattle.link_find.proofs.Finding.{named-next, named-last, named-none, last-on, last-end, last-over, Named, hit}
+use Rattle.link_find.proofs.Finding.{named-next, named-last, named-none, last-on, last-end, last-over, hit}
 use borrow.Author.Needs.{needs}
 use Rattle.link_find.proofs.last_named.Statement.{statement}
 use Rattle.link_find.proofs.last_named.Tie as tie

@@ -1,6 +1,5 @@
 -- `link_find::line_of`: where ids are in order the id says the line, else the last that bears it is found.
-use mathlib.Core.Path.{_≡_, sym, ap, _∙_}
-use mathlib.Core.Bool.{true, false}
+use mathlib.Core.Path.{sym, _∙_}
 use native.Mathlib.Omega.{arith}
 use Rattle.link_find.proofs.Finding.{order-above, order-past, order-at}
 use borrow.Author.Needs.{needs}

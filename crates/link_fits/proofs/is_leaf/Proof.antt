@@ -1,12 +1,11 @@
 -- `link_fits::is_leaf`: the four tests, one after the other.
-use mathlib.Core.Path.{_≡_, sym, ap, _∙_}
-use mathlib.Core.Bool.{Bool}
+use mathlib.Core.Path.{sym, ap, _∙_}
 use native.Mathlib.Omega.{arith}
 use borrow.Author.Tests.{lt-ltb, le-ltb, eq-eqb, ne-eqb}
 use lib.Dec.{eqb}
 use Prim.Native.Nat.{ℕ}
 use Rattle.laws.proofs.Every.{not-first, then-second}
-use Rattle.table_rows.specs.Rows.{recordRows, recordKind, recordYes, recordNo}
+use Rattle.table_rows.specs.Rows.{recordRows, recordKind, recordYes}
 use Rattle.link_fits.specs.Fits.{isLeaf}
 use borrow.Author.Needs.{needs}
 use Rattle.link_fits.proofs.is_leaf.Statement.{statement}

@@ -1,12 +1,10 @@
 -- `link_fits::is_leaf_of`: a leaf, and its number.
-use mathlib.Core.Path.{_≡_, sym, ap, _∙_}
-use native.Mathlib.Omega.{arith}
-use borrow.Author.Tests.{not-true, not-false, ltb-true}
-use lib.Dec.{eqb, ltb}
+use mathlib.Core.Path.{sym, ap, _∙_}
+use borrow.Author.Tests.{not-true, not-false}
+use lib.Dec.{eqb}
 use Prim.Native.Nat.{ℕ}
-use Rattle.laws.proofs.Every.{not-first, then-second, first-of}
-use Rattle.table_rows.specs.Rows.{recordRows}
-use Rattle.link_fits.specs.Fits.{isLeaf, leafOf}
+use Rattle.laws.proofs.Every.{not-first, then-second}
+use Rattle.link_fits.specs.Fits.{leafOf}
 use Rattle.link_fits.proofs.Rows.{leaf-there}
 use borrow.Author.Needs.{needs}
 use Rattle.link_fits.proofs.is_leaf_of.Statement.{statement}

@@ -1,6 +1,5 @@
 -- `link_fits::leads_to`: by the target.
-use mathlib.Core.Path.{_≡_, sym, ap, _∙_}
-use mathlib.Core.Bool.{Bool}
+use mathlib.Core.Path.{sym, ap, _∙_}
 use Rattle.link_fits.specs.Fits.{leadsTo}
 use Rattle.link_fits.specs.declared.Target.{Target}
 use borrow.Author.Needs.{needs}

@@ -1,12 +1,9 @@
 -- `link_fits::row_fits`: the five tests, one after the other.
-use mathlib.Core.Path.{_≡_, sym, ap, _∙_}
-use mathlib.Core.Bool.{Bool}
+use mathlib.Core.Path.{sym, ap, _∙_}
 use native.Mathlib.Omega.{arith}
 use borrow.Author.Tests.{lt-ltb, le-ltb, eq-eqb, ne-eqb, not-true, not-false}
-use lib.Dec.{eqb}
-use Prim.Native.Nat.{ℕ}
 use Rattle.laws.proofs.Every.{not-first, then-second}
-use Rattle.table_rows.specs.Rows.{recordRows, recordKind, recordQuestion, recordYes, recordNo}
+use Rattle.table_rows.specs.Rows.{recordRows, recordKind, recordQuestion}
 use Rattle.link_fits.specs.Fits.{leadsTo, rowFits}
 use borrow.Author.Needs.{needs}
 use Rattle.link_fits.proofs.row_fits.Statement.{statement}

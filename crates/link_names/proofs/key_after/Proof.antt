@@ -1,8 +1,6 @@
 -- `link_names::key_after`: by the key, then by the name.
-use mathlib.Core.Path.{_≡_, refl, sym, ap, ap₂, _∙_}
+use mathlib.Core.Path.{sym, ap, _∙_}
 use mathlib.Core.Bool.{Bool, cond}
-use mathlib.Core.List.{List}
-use Prim.Native.Nat.{ℕ}
 use Rattle.written.specs.Bytes.{same}
 use Rattle.link_names.proofs.Laws.{key-other}
 use borrow.Author.Needs.{needs}

@@ -1,5 +1,5 @@
 -- `link_names::look_up`: by what the text begins with.
-use mathlib.Core.Path.{_≡_, refl, sym, ap, ap₂, _∙_}
+use mathlib.Core.Path.{sym, ap, _∙_}
 use Rattle.laws.specs.Steps.{Reading}
 use Rattle.written.specs.Said.{QuestionPlace}
 use Rattle.tree_question.proofs.Filling.{begins-question, begins-tree}

@@ -1,5 +1,4 @@
 -- `link_names::mark`: name by name.
-use mathlib.Core.Path.{_≡_, refl, sym, ap, ap₂, _∙_}
 use native.Mathlib.Omega.{arith}
 use Prim.Native.Nat.{ℕ, _-_}
 use Rattle.written.specs.Bytes.{same}

@@ -1,5 +1,5 @@
 -- `link_names::name_at`: up to the end of the name.
-use mathlib.Core.Path.{_≡_, refl, sym, ap, ap₂, _∙_}
+use mathlib.Core.Path.{ap, _∙_}
 use native.Mathlib.Omega.{arith}
 use Rattle.written.specs.Bytes.{inName}
 use Rattle.laws.proofs.Runs.{stop-from}

@@ -1,5 +1,5 @@
 -- `link_names::set_keys`: name by name.
-use mathlib.Core.Path.{_≡_, refl, sym, ap, ap₂, _∙_}
+use mathlib.Core.Path.{ap, _∙_}
 use native.Mathlib.Omega.{arith}
 use Prim.Native.Nat.{_-_}
 use Rattle.link_names.specs.Names.{keyOf}

@@ -1,5 +1,4 @@
 -- `link_rows::spread_leaves`: the leaves from k on stand as rows, those before it side by side.
-use mathlib.Core.Path.{_≡_, refl}
 use native.Mathlib.Omega.{arith}
 use Rattle.link_rows.proofs.Laws.{Spreading, spread-none, spread-more, spread-done}
 use Rattle.link_rows.proofs.spread_leaves.Statement.{statement}

@@ -1,5 +1,4 @@
 -- `link_rows::write_lines`: the lines before k stand as rows, what stands behind them is as before.
-use mathlib.Core.Path.{_≡_, refl}
 use Prim.Native.Nat.{_-_}
 use native.Mathlib.Omega.{arith}
 use Rattle.link_rows.proofs.Laws.{Writing, write-none, write-more, write-done}

@@ -1,10 +1,8 @@
 -- `link_search::before_leaf`: the test holds below lo and fails from hi on.
-use mathlib.Core.Path.{_≡_, sym, ap, _∙_}
 use Prim.Native.Nat.{_-_}
-use native.Mathlib.Omega.{arith}
 use borrow.Author.Needs.{needs}
-use borrow.Author.Tests.{le-leb, lt-leb, lt-ltb, le-ltb}
-use lib.Dec.{leb, ltb}
+use borrow.Author.Tests.{lt-ltb, le-ltb}
+use lib.Dec.{ltb}
 use Rattle.link_search.proofs.Halves.{Between, between-none, between-up, between-down, between-done}
 use Rattle.link_search.proofs.before_leaf.Statement.{statement}
 use Rattle.link_search.proofs.before_leaf.Tie as tie

@@ -1,5 +1,5 @@
 -- `link_search::first_leaf`: what stands where the leaves are parted.
-use mathlib.Core.Path.{_≡_, sym, ap, _∙_}
+use mathlib.Core.Path.{sym}
 use native.Mathlib.Omega.{arith}
 use Rattle.link_search.proofs.First.{ascend-falls, first-found, first-other}
 use borrow.Author.Needs.{needs}

@@ -1,15 +1,13 @@
 -- `link_search::last_id`: what stands where the index is parted.
 use mathlib.Core.Path.{_≡_, sym, ap, _∙_}
-use Prim.Native.Nat.{ℕ, _-_, _<_, _^_}
+use Prim.Native.Nat.{ℕ}
 use native.Mathlib.Omega.{arith}
 use lib.Dec.{eqb}
-use lib.ListN.{length}
 use Rattle.laws.proofs.Signed.{back}
 use Rattle.link_order.specs.Keys.{idKey, idAt}
 use Rattle.link_search.specs.Found.{lastBelow}
 use Rattle.link_search.proofs.Last.{index-falls, index-empty, index-found, index-other}
 use Rattle.link_search.specs.declared.Found.{Found}
-use Prim.Native.Nat.{_≤_}
 use borrow.Author.Needs.{needs}
 use Rattle.link_search.proofs.last_id.Statement.{statement}
 use Rattle.link_search.proofs.last_id.Tie as tie

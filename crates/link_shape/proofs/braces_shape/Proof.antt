@@ -1,5 +1,5 @@
 -- `link_shape::braces_shape`: counted, then one reference or not.
-use mathlib.Core.Path.{_≡_, refl, sym, ap, ap₂, _∙_}
+use mathlib.Core.Path.{refl, sym, ap, _∙_}
 use Rattle.link_alone.specs.declared.Single.the-variants as single
 use Rattle.link_shape.specs.declared.Shape.the-variants.{Lines}
 use Rattle.link_shape.proofs.Laws.{counted-many, braces-are, braces-broken}

@@ -1,5 +1,5 @@
 -- `link_shape::shape_of`: by the head of the tree.
-use mathlib.Core.Path.{_≡_, refl, sym, ap, ap₂, _∙_}
+use mathlib.Core.Path.{sym, ap, _∙_}
 use Rattle.link_shape.specs.Shapes.{shapeHead}
 use borrow.Author.Needs.{needs}
 use Rattle.link_shape.proofs.shape_of.Statement.{statement}

@@ -1,5 +1,4 @@
 -- `link_stray::first_astray`: the first among those still to come is the first of all.
-use mathlib.Core.Path.{_≡_, refl, sym, ap, ap₂, _∙_}
 use native.Mathlib.Omega.{arith}
 use Rattle.tree_line.specs.Lines.{linesAt}
 use Rattle.link_stray.proofs.Laws.{Going, going-none, going-astray, going-up, going-on, going-clean, roomBehind, less-behind}

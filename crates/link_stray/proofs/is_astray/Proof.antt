@@ -1,5 +1,5 @@
 -- `link_stray::is_astray`: yes first, then no.
-use mathlib.Core.Path.{_≡_, refl, sym, ap, ap₂, _∙_}
+use mathlib.Core.Path.{sym, ap, _∙_}
 use Rattle.link_fits.specs.Fits.{nowhere}
 use Rattle.link_stray.proofs.Laws.{or-first, or-second}
 use borrow.Author.Needs.{needs}

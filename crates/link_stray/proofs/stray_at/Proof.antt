@@ -1,5 +1,5 @@
 -- `link_stray::stray_at`: by the line that was read.
-use mathlib.Core.Path.{_≡_, refl, sym, ap, ap₂, _∙_}
+use mathlib.Core.Path.{sym, ap, _∙_}
 use mathlib.Core.Bool.{true, false}
 use Rattle.tree_line.specs.Lines.{linesAt}
 use Rattle.link_stray.specs.Stray.{strayOf}

@@ -1,5 +1,4 @@
 -- `link_targets::gather`: what is left, stored from `end` on, gives the rows with all of them.
-use mathlib.Core.Path.{_≡_}
 use Prim.Native.Nat.{_-_}
 use native.Mathlib.Omega.{arith}
 use borrow.Author.Needs.{needs}

@@ -1,5 +1,4 @@
 -- `link_targets::number_lines`: what is left to number, stored, gives the rows with all of them.
-use mathlib.Core.Path.{_≡_}
 use Prim.Native.Nat.{_-_}
 use native.Mathlib.Omega.{arith}
 use borrow.Author.Needs.{needs}

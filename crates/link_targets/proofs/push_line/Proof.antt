@@ -1,10 +1,8 @@
 -- `link_targets::push_line`: two pushes, one after the other.
-use mathlib.Core.Path.{_≡_, refl, sym, ap, ap₂, _∙_, subst}
-use mathlib.Core.List.{List, _++_}
-use Prim.Native.Nat.{ℕ, _+_, _*_}
+use mathlib.Core.Path.{ap}
+use Prim.Native.Nat.{_+_, _*_}
 use native.Mathlib.Omega.{arith}
 use lib.ListN.{length, length-append}
-use lib.Seq.{sets, length-sets}
 use Rattle.written.specs.Linking.{pdfOf}
 use Rattle.link_targets.specs.Lines.{refAt}
 use Rattle.link_targets.proofs.Refs.{one-line, pushed-both}

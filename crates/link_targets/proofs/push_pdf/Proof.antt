@@ -1,5 +1,5 @@
 -- `link_targets::push_pdf`: by the kind.
-use mathlib.Core.Path.{_≡_, sym, ap, _∙_}
+use mathlib.Core.Path.{sym, ap, _∙_}
 use lib.IntN.{pos}
 use lib.ListN.{getD}
 use Prim.Native.Nat.{_+_}

@@ -1,10 +1,10 @@
 -- `link_targets::target`: a line or a leaf.
-use mathlib.Core.Path.{_≡_, refl, sym, ap, _∙_, subst}
+use mathlib.Core.Path.{_≡_, sym, ap, _∙_, subst}
 use Prim.Native.Nat.{ℕ, _+_, _-_, _*_}
 use native.Mathlib.Omega.{arith}
 use lib.Dec.{eqb}
 use lib.IntN.{pos}
-use lib.ListN.{length, getD, take, drop, length-take}
+use lib.ListN.{getD, take, drop, length-take}
 use Rattle.laws.proofs.Signed.{back}
 use Rattle.link_order.specs.Keys.{idKey, idAt}
 use Rattle.link_search.specs.Found.{lastBelow, firstFrom}

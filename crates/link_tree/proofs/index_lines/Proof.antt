@@ -1,13 +1,10 @@
 -- `link_tree::index_lines`: nothing where the ids are in order, else the lines' numbers, sorted where they stand.
-use mathlib.Core.Path.{_≡_, refl, sym, ap, _∙_}
+use mathlib.Core.Path.{_≡_, refl, sym, _∙_}
 use mathlib.Core.Bool.{Bool, true, false, cond}
 use mathlib.Core.List.{List}
-use Prim.Native.Nat.{ℕ, _+_, _*_}
+use Prim.Native.Nat.{ℕ}
 use native.Mathlib.Omega.{arith}
-use lib.ListN.{length}
-use lib.Seq.{sets}
 use Rattle.link_order.specs.Keys.{keyOf, idKey, idAt}
-use Rattle.link_sort.specs.Sorted.{sorted}
 use Rattle.link_search.specs.Found.{countFrom}
 use Rattle.link_search.proofs.Last.{length-count}
 use Rattle.link_tree.proofs.Whole.{sorted-part}

@@ -1,5 +1,5 @@
 -- `link_tree::resolve_line`: each way out is what the line is found to be.
-use mathlib.Core.Path.{_≡_, sym, ap, _∙_}
+use mathlib.Core.Path.{sym, ap, _∙_}
 use Prim.Native.Nat.{_+_, _*_}
 use lib.IntN.{pos}
 use lib.ListN.{getD, take, drop}

@@ -1,5 +1,4 @@
 -- `link_tree::resolve_lines`: what is left, stored, gives the rows with all of them.
-use mathlib.Core.Path.{_≡_, refl}
 use Prim.Native.Nat.{_-_}
 use native.Mathlib.Omega.{arith}
 use borrow.Author.Needs.{needs}

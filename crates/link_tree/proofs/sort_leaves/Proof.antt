@@ -1,6 +1,5 @@
 -- `link_tree::sort_leaves`: what was gathered, sorted where it stands.
-use mathlib.Core.Path.{_≡_, sym, ap, _∙_}
-use Prim.Native.Nat.{_+_, _*_}
+use Prim.Native.Nat.{_*_}
 use native.Mathlib.Omega.{arith}
 use Rattle.link_order.specs.Keys.{keyOf}
 use Rattle.link_targets.specs.Lines.{linesFrom, pdfsOf}

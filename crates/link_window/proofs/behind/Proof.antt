@@ -1,5 +1,5 @@
 -- `link_window::behind`: by what was taken.
-use mathlib.Core.Path.{_≡_, refl, sym, ap, ap₂, _∙_}
+use mathlib.Core.Path.{sym, ap}
 use Rattle.link_window.specs.Windows.{behindOf}
 use borrow.Author.Needs.{needs}
 use Rattle.link_window.proofs.behind.Statement.{statement}

@@ -1,5 +1,5 @@
 -- `link_window::fill`: line by line.
-use mathlib.Core.Path.{_≡_, refl, sym, ap, ap₂, _∙_}
+use mathlib.Core.Path.{refl, sym, _∙_}
 use native.Mathlib.Omega.{arith}
 use Prim.Native.Nat.{_-_}
 use Rattle.tree_survey_lines.proofs.Counting.{items-next, items-last, items-broken, next-in}

@@ -1,6 +1,5 @@
 -- `link_window::lower`: by both.
-use mathlib.Core.Path.{_≡_, refl, sym, ap, ap₂, _∙_}
-use native.Mathlib.Omega.{arith}
+use mathlib.Core.Path.{sym, ap₂, _∙_}
 use Rattle.link_window.specs.Windows.{faultLines}
 use Rattle.link_window.proofs.Laws.{lower-question, lower-node}
 use borrow.Author.Needs.{needs}

@@ -1,11 +1,9 @@
 -- `load_choose::choose` meets its contract.
 use borrow.Author.Needs.{needs}
 use Rattle.load_choose.proofs.Texts.{measured}
-use Rattle.load_choose.specs.Chosen.{chosenOf}
 use mathlib.Core.Path.{_∙_}
 use Rattle.load_choose.proofs.choose.Statement.{statement}
 use Rattle.load_choose.proofs.choose.Tie as tie
-use Rattle.load_choose.proofs.place.Reads as place-reads
 
 place-requires : tie.Need-place-requires
 place-requires c κs = search needs

@@ -7,9 +7,6 @@ use Prim.Native.Nat.{_<_}
 use native.Mathlib.Omega.{arith}
 use Rattle.load_choose.proofs.choose_stream.Statement.{statement}
 use Rattle.load_choose.proofs.choose_stream.Tie as tie
-use Rattle.load_choose.proofs.entries_model.Reads as entries-model-reads
-use Rattle.load_choose.proofs.find_position.Reads as find-position-reads
-use Rattle.load_choose.proofs.find_stream.Reads as find-stream-reads
 
 -- the counts of the record are within their limits
 limits : (c : tie.Start) → Counts (c .args .words .now)

@@ -3,7 +3,6 @@ use borrow.Author.Needs.{needs}
 use Rattle.load_choose.specs.Chosen.{textChosen}
 use Rattle.load_choose.proofs.choose_text.Statement.{statement}
 use Rattle.load_choose.proofs.choose_text.Tie as tie
-use Rattle.load_choose.proofs.place.Reads as place-reads
 
 place-requires : tie.Need-place-requires
 place-requires c κs = search needs

@@ -6,8 +6,6 @@ use mathlib.Core.Bool.{Bool}
 use mathlib.Core.Path.{ap, sym, _∙_}
 use Rattle.load_choose.proofs.entries_model.Statement.{statement}
 use Rattle.load_choose.proofs.entries_model.Tie as tie
-use Rattle.load_choose.proofs.gv_model.Reads as gv-model-reads
-use Rattle.load_choose.proofs.stream_model.Reads as stream-model-reads
 
 gv-model-requires : tie.Need-gv-model-requires
 gv-model-requires c κs = search needs

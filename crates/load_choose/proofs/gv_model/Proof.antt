@@ -9,9 +9,6 @@ use Prim.Native.Nat.{ℕ, _+_, _*_}
 use borrow.Author.Tests.{not-true, not-false}
 use Rattle.load_choose.proofs.gv_model.Statement.{statement}
 use Rattle.load_choose.proofs.gv_model.Tie as tie
-use Rattle.load_choose.proofs.counted.Reads as counted-reads
-use Rattle.load_choose.proofs.has_gv.Reads as has-gv-reads
-use Rattle.load_choose.proofs.model.Reads as model-reads
 
 has-gv-requires : tie.Need-has-gv-requires
 has-gv-requires c κs = search needs

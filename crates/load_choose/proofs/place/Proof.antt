@@ -9,10 +9,6 @@ use Prim.Native.Nat.{ℕ, _+_, _*_}
 use borrow.Author.Tests.{not-true, not-false}
 use Rattle.load_choose.proofs.place.Statement.{statement}
 use Rattle.load_choose.proofs.place.Tie as tie
-use Rattle.head_words_fit.proofs.record_fits.Reads as record-fits-reads
-use Rattle.load_choose.proofs.choose_stream.Reads as choose-stream-reads
-use Rattle.load_choose.proofs.counted.Reads as counted-reads
-use Rattle.load_choose.proofs.model.Reads as model-reads
 
 record-fits-requires : tie.Need-record-fits-requires
 record-fits-requires c κs = search needs

@@ -8,8 +8,6 @@ use mathlib.Core.Path.{_≡_, refl, ap, _∙_}
 use Prim.Native.Nat.{ℕ, _+_, _*_}
 use Rattle.load_choose.proofs.stream_model.Statement.{statement}
 use Rattle.load_choose.proofs.stream_model.Tie as tie
-use Rattle.load_choose.proofs.counted.Reads as counted-reads
-use Rattle.load_choose.proofs.model.Reads as model-reads
 
 -- a flag that counts only where the width is asked for
 flagged : (m : Bool) (n : ℕ) → not (eqb (cond m n 0) 0) ≡ (m && not (eqb n 0))

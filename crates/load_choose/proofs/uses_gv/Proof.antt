@@ -6,7 +6,6 @@ use Prim.Native.Nat.{_<_}
 use native.Mathlib.Omega.{arith}
 use Rattle.load_choose.proofs.uses_gv.Statement.{statement}
 use Rattle.load_choose.proofs.uses_gv.Tie as tie
-use Rattle.load_choose.proofs.find_stream.Reads as find-stream-reads
 
 -- the counts of the record are within their limits
 limits : (c : tie.Start) → Counts (c .args .words .now)

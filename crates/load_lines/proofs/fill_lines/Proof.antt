@@ -1,5 +1,5 @@
 -- `load_lines::fill_lines`: what is left, stored and counted, gives the work and the count with all of them.
-use mathlib.Core.Path.{_≡_, sym, ap, refl, _∙_}
+use mathlib.Core.Path.{sym, refl, _∙_}
 use Prim.Native.Nat.{_-_}
 use native.Mathlib.Omega.{arith}
 use lib.ListN.{length}
@@ -9,12 +9,6 @@ use Rattle.tree_survey_lines.proofs.Counting.{line-few, next-in, last-in, Count
 use Rattle.load_lines.proofs.Laws.{Lining, line-none, next-room, line-more, last-room, line-last, line-broken}
 use Rattle.load_lines.proofs.fill_lines.Statement.{statement}
 use Rattle.load_lines.proofs.fill_lines.Tie as tie
-use Rattle.load_lines.proofs.fill_lines.Reads as reads
-use Rattle.load_lines.proofs.fill_lines.Lts as lts
-use Rattle.tree_survey_lines.proofs.line_pdfs.Reads as line-pdfs-reads
-use Rattle.load_lines.proofs.asked.Reads as asked-reads
-use Rattle.load_lines.proofs.put_line.Reads as put-line-reads
-use Rattle.tree_line.proofs.next_line.Reads as next-line-reads
 
 abbrev Inv-loop : tie.InvT-loop
 Inv-loop s at questions index work₀ i₀ word₀ n₀ m₀ work i word n m = (Lining s questions (length index) at work₀ work i word) × Counting s at i n m

@@ -4,8 +4,6 @@ use Rattle.load_model.specs.Load.{answerFor}
 use borrow.Author.Needs.{needs}
 use Rattle.load_model.proofs.answer.Statement.{statement}
 use Rattle.load_model.proofs.answer.Tie as tie
-use Rattle.load_model.proofs.answer.Reads as reads
-use Rattle.load_model.proofs.answer.Lts as lts
 
 enum-told : tie.Need-enum-told
 enum-told c = search needs

@@ -3,10 +3,6 @@ use Rattle.load_model.proofs.Laws.{rows-fit, values-fit}
 use borrow.Author.Needs.{needs}
 use Rattle.load_model.proofs.fill_block.Statement.{statement}
 use Rattle.load_model.proofs.fill_block.Tie as tie
-use Rattle.load_model.proofs.fill_block.Reads as reads
-use Rattle.load_model.proofs.fill_block.Lts as lts
-use Rattle.pdf_values.proofs.fill_blocks.Reads as fill-blocks-reads
-use Rattle.pdf_values.proofs.fill_values.Reads as fill-values-reads
 
 mul-first : tie.Need-mul-first
 mul-first c = search needs

@@ -4,11 +4,6 @@ use Rattle.load_plan.proofs.Laws.{block-refused, block-outside, block-i
 use borrow.Author.Needs.{needs}
 use Rattle.load_plan.proofs.plan_block.Statement.{statement}
 use Rattle.load_plan.proofs.plan_block.Tie as tie
-use Rattle.load_plan.proofs.plan_block.Reads as reads
-use Rattle.load_plan.proofs.plan_block.Lts as lts
-use Rattle.text_parts.proofs.up_to.Reads as up-to-reads
-use Rattle.load_plan.proofs.plan_entries.Reads as plan-entries-reads
-use Rattle.load_range.proofs.within.Reads as within-reads
 
 enum-known-text : tie.Need-enum-known-text
 enum-known-text c = search needs

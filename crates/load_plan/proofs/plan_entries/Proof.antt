@@ -4,9 +4,6 @@ use Rattle.load_plan.specs.Plans.{entriesFor, entriesOf}
 use borrow.Author.Needs.{needs}
 use Rattle.load_plan.proofs.plan_entries.Statement.{statement}
 use Rattle.load_plan.proofs.plan_entries.Tie as tie
-use Rattle.load_plan.proofs.plan_entries.Reads as reads
-use Rattle.load_plan.proofs.plan_entries.Lts as lts
-use Rattle.pdf_blocks.proofs.check_block.Reads as check-block-reads
 
 check-block-requires : tie.Need-check-block-requires
 check-block-requires c κs = search needs

@@ -4,12 +4,6 @@ use Rattle.load_plan.proofs.Laws.{plan-outside, plan-inside}
 use borrow.Author.Needs.{needs}
 use Rattle.load_plan.proofs.plan_model.Statement.{statement}
 use Rattle.load_plan.proofs.plan_model.Tie as tie
-use Rattle.load_plan.proofs.plan_model.Reads as reads
-use Rattle.load_plan.proofs.plan_model.Lts as lts
-use Rattle.text_parts.proofs.up_to.Reads as up-to-reads
-use Rattle.load_plan.proofs.plan_block.Reads as plan-block-reads
-use Rattle.load_plan.proofs.read_text.Reads as read-text-reads
-use Rattle.load_range.proofs.within.Reads as within-reads
 
 within-requires : tie.Need-within-requires
 within-requires c κs = search needs

@@ -5,10 +5,6 @@ use Rattle.load_plan.proofs.Laws.{text-read, text-state, text-broken, t
 use borrow.Author.Needs.{needs}
 use Rattle.load_plan.proofs.read_text.Statement.{statement}
 use Rattle.load_plan.proofs.read_text.Tie as tie
-use Rattle.load_plan.proofs.read_text.Reads as reads
-use Rattle.load_plan.proofs.read_text.Lts as lts
-use Rattle.tree_survey_questions.proofs.survey_questions.Reads as survey-questions-reads
-use Rattle.tree_survey.proofs.survey_trees.Reads as survey-trees-reads
 
 survey-questions-requires : tie.Need-survey-questions-requires
 survey-questions-requires c κs = search needs

@@ -8,10 +8,6 @@ use Rattle.tree_survey_questions.proofs.Counting.{next-in, last-in, Counting, c
 use Rattle.load_questions.proofs.Patterns.{Matching, matching-none, next-fits, matching-more, last-fits, matching-last, matching-broken}
 use Rattle.load_questions.proofs.fill_patterns.Statement.{statement}
 use Rattle.load_questions.proofs.fill_patterns.Tie as tie
-use Rattle.load_questions.proofs.fill_patterns.Reads as reads
-use Rattle.load_questions.proofs.fill_patterns.Lts as lts
-use Rattle.tree_question.proofs.next_pattern.Reads as next-pattern-reads
-use Rattle.table_put.proofs.put2.Reads as put2-reads
 
 abbrev Inv-loop : tie.InvT-loop
 Inv-loop s at patterns₀ from i₀ word₀ n₀ patterns i word n = (Matching s at from patterns₀ patterns i word) × Counting s at i n

@@ -10,11 +10,6 @@ use Rattle.load_questions.proofs.Laws.{told-of, row-next, row-last, row
 use Rattle.load_questions.proofs.Patterns.{Listing, listing-none, next-word, listing-more, listing-last, listing-broken, standing-room, never-broken, done-next}
 use Rattle.load_questions.proofs.fill_patterns_from.Statement.{statement}
 use Rattle.load_questions.proofs.fill_patterns_from.Tie as tie
-use Rattle.load_questions.proofs.fill_patterns_from.Reads as reads
-use Rattle.load_questions.proofs.fill_patterns_from.Lts as lts
-use Rattle.load_questions.proofs.fill_patterns.Reads as fill-patterns-reads
-use Rattle.tree_question.proofs.after_question.Reads as after-question-reads
-use Rattle.tree_question.proofs.question_head.Reads as question-head-reads
 
 abbrev Inv-loop : tie.InvT-loop
 Inv-loop s at patterns₀ i₀ word₀ patterns i word = (Listing s at patterns₀ patterns i word) × Done (questions-from s i)

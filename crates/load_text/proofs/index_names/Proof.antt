@@ -1,5 +1,4 @@
 -- `load_text::index_names`: the rows' numbers, sorted where they stand.
-use Prim.Native.Nat.{_+_}
 use native.Mathlib.Omega.{arith}
 use Rattle.link_order.specs.Keys.{keyOf, nameKey, nameAt}
 use Rattle.link_search.specs.Found.{countFrom}
@@ -8,10 +7,6 @@ use Rattle.link_tree.proofs.Whole.{sorted-part}
 use borrow.Author.Needs.{needs}
 use Rattle.load_text.proofs.index_names.Statement.{statement}
 use Rattle.load_text.proofs.index_names.Tie as tie
-use Rattle.load_text.proofs.index_names.Reads as reads
-use Rattle.load_text.proofs.index_names.Lts as lts
-use Rattle.link_targets.proofs.number_lines.Reads as number-lines-reads
-use Rattle.link_sort.proofs.sort_names.Reads as sort-names-reads
 
 number-lines-requires : tie.Need-number-lines-requires
 number-lines-requires c κs = search needs

@@ -1,18 +1,12 @@
 -- `load_text::link_text`: the trees are linked by the words of the text's questions and the index of their names.
-use mathlib.Core.Path.{refl, sym, ap, _∙_}
+use mathlib.Core.Path.{refl, ap, _∙_}
 use native.Mathlib.Omega.{arith}
 use lib.Seq.{sets}
-use lib.ListN.{length}
 use Rattle.load_text.specs.Text.{nameIndex}
-use Rattle.load_text.proofs.Laws.{asked-of, index-room, asked-words, name-index, index-count, is-index, linked-as, rows-as, records-as, work-as}
+use Rattle.load_text.proofs.Laws.{asked-of, index-room, asked-words, index-count, is-index, linked-as, rows-as, records-as, work-as}
 use borrow.Author.Needs.{needs}
 use Rattle.load_text.proofs.link_text.Statement.{statement}
 use Rattle.load_text.proofs.link_text.Tie as tie
-use Rattle.load_text.proofs.link_text.Reads as reads
-use Rattle.load_text.proofs.link_text.Lts as lts
-use Rattle.load_questions.proofs.fill_questions.Reads as fill-questions-reads
-use Rattle.load_text.proofs.index_names.Reads as index-names-reads
-use Rattle.load_trees.proofs.fill_trees.Reads as fill-trees-reads
 
 fill-questions-requires : tie.Need-fill-questions-requires
 fill-questions-requires c κs = search needs

@@ -10,12 +10,6 @@ use borrow.Author.Needs.{needs}
 use borrow.Author.Needs.{needs}
 use Rattle.load_tree.proofs.fill_braces.Statement.{statement}
 use Rattle.load_tree.proofs.fill_braces.Tie as tie
-use Rattle.load_tree.proofs.fill_braces.Reads as reads
-use Rattle.load_tree.proofs.fill_braces.Lts as lts
-use Rattle.load_lines.proofs.fill_lines.Reads as fill-lines-reads
-use Rattle.load_tree.proofs.fill_leaf.Reads as fill-leaf-reads
-use Rattle.load_tree.proofs.link_lines.Reads as link-lines-reads
-use Rattle.load_tree.proofs.single_of.Reads as single-of-reads
 
 fill-lines-requires : tie.Need-fill-lines-requires
 fill-lines-requires c κs = search needs

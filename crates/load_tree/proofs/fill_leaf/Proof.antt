@@ -1,5 +1,5 @@
 -- `load_tree::fill_leaf`: by the reference.
-use mathlib.Core.Path.{_≡_, refl, sym, ap, ap₂, _∙_}
+use mathlib.Core.Path.{sym, ap, _∙_}
 use mathlib.Core.List.{[], _∷_}
 use lib.Seq.{sets}
 use Rattle.laws.proofs.Signed.{back}

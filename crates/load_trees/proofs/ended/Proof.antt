@@ -4,8 +4,6 @@ use Rattle.load_trees.specs.Trees.{endedAt}
 use borrow.Author.Needs.{needs}
 use Rattle.load_trees.proofs.ended.Statement.{statement}
 use Rattle.load_trees.proofs.ended.Tie as tie
-use Rattle.load_trees.proofs.ended.Reads as reads
-use Rattle.load_trees.proofs.ended.Lts as lts
 
 enum-told : tie.Need-enum-told
 enum-told c = search needs

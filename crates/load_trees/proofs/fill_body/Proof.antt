@@ -1,17 +1,12 @@
 -- `load_trees::fill_body`: each head by its own reader.
-use Prim.Native.Nat.{_*_}
 use lib.ListN.{length}
-use mathlib.Core.Path.{refl, sym, ap, _∙_}
+use mathlib.Core.Path.{refl}
 use Rattle.load_trees.proofs.Laws.{by-head, empty-head, no-head, whole-lines, room-by}
 use native.Mathlib.Omega.{arith}
 use borrow.Author.Needs.{needs}
 use borrow.Author.Needs.{needs}
 use Rattle.load_trees.proofs.fill_body.Statement.{statement}
 use Rattle.load_trees.proofs.fill_body.Tie as tie
-use Rattle.load_trees.proofs.fill_body.Reads as reads
-use Rattle.load_trees.proofs.fill_body.Lts as lts
-use Rattle.load_tree.proofs.fill_braces.Reads as fill-braces-reads
-use Rattle.load_tree.proofs.fill_leaf.Reads as fill-leaf-reads
 
 enum-known-head : tie.Need-enum-known-head
 enum-known-head c = search needs

@@ -6,9 +6,6 @@ use Rattle.load_trees.specs.Trees.{headState}
 use borrow.Author.Needs.{needs}
 use Rattle.load_trees.proofs.state_of.Statement.{statement}
 use Rattle.load_trees.proofs.state_of.Tie as tie
-use Rattle.load_trees.proofs.state_of.Reads as reads
-use Rattle.load_trees.proofs.state_of.Lts as lts
-use Rattle.text_parts.proofs.natural.Reads as natural-reads
 
 enum-known-head : tie.Need-enum-known-head
 enum-known-head c = search needs

@@ -2,8 +2,6 @@
 use borrow.Author.Needs.{needs}
 use Rattle.load_voice.specs.Voice.{InTypes, nextModel}
 use Rattle.load_choose.proofs.Words.{counts}
-use Rattle.load_choose.specs.declared.Which.the-variants.{Stream, Gv}
-use Rattle.load_choose.specs.declared.Which.{Which}
 use Rattle.head_words.specs.Words.{wordAt, globalAt, headerAt}
 use Prim.Native.Nat.{_<_}
 use mathlib.Core.Path.{sym, ap, _∙_, subst}

@@ -1,15 +1,15 @@
 -- `pdf_blocks::check_block`: each way out is the answer by the words that are left behind the counts.
-use mathlib.Core.Path.{_≡_, refl, sym, ap, _∙_}
-use mathlib.Core.Bool.{Bool, true, false, cond}
+use mathlib.Core.Path.{_≡_, sym, ap, _∙_}
+use mathlib.Core.Bool.{cond}
 use mathlib.Core.List.{List}
-use Prim.Native.Nat.{ℕ, zero, suc, _+_, _-_, _*_, _<_}
+use Prim.Native.Nat.{ℕ, _*_, _<_}
 use native.Mathlib.Nat.{zero-mul}
 use native.Mathlib.Omega.{arith}
 use native.Mathlib.Decide.{ℕ-discrete}
 use borrow.Author.Tests.{eq-eqb, ne-eqb}
 use lib.Dec.{eqb}
 use lib.ListN.{length}
-use Rattle.pdf_blocks.specs.Values.{wordsAt, blockAt}
+use Rattle.pdf_blocks.specs.Values.{blockAt}
 use Rattle.pdf_blocks.specs.declared.Block.{Block}
 use Rattle.pdf_blocks.specs.declared.Block.the-variants.{Fits, Wrong}
 use Rattle.pdf_blocks.proofs.Counts.{total-none, block-short, block-other, block-fits, flat-fits, flat-left, flat-counts, not-whole, not-many, just-fits}

@@ -1,6 +1,6 @@
 -- `pdf_blocks::count_entries`: the sum so far and that of what is left is the whole.
-use mathlib.Core.Path.{_≡_, refl, sym, ap, _∙_}
-use Prim.Native.Nat.{ℕ, _+_, _-_, _*_, _≤_}
+use mathlib.Core.Path.{_≡_, _∙_}
+use Prim.Native.Nat.{_+_, _*_, _≤_}
 use native.Mathlib.Omega.{arith}
 use Rattle.written.specs.Blocks.{total}
 use Rattle.pdf_blocks.specs.Values.{wordsAt}

@@ -1,5 +1,4 @@
 -- `pdf_values::fill_blocks`: what is left, stored, gives the table with all rows.
-use mathlib.Core.Path.{_≡_}
 use Prim.Native.Nat.{_-_}
 use native.Mathlib.Omega.{arith}
 use Rattle.pdf_values.proofs.Laws.{Setting, set-none, row-room, set-more, set-done}

@@ -1,7 +1,6 @@
 -- `pdf_values::fill_entry`: the pairs, and an odd last number behind them.
-use mathlib.Core.Path.{_≡_, ap, sym}
+use mathlib.Core.Path.{ap}
 use native.Mathlib.Omega.{arith}
-use lib.ListN.{length-set}
 use Rattle.pdf_values.proofs.Laws.{bit, length-entry, entry-even, entry-odd}
 use borrow.Author.Needs.{needs}
 use Rattle.pdf_values.proofs.fill_entry.Statement.{statement}

@@ -1,5 +1,4 @@
 -- `pdf_values::fill_pairs`: what is left, stored, gives the table with all of them.
-use mathlib.Core.Path.{_≡_}
 use Prim.Native.Nat.{_-_}
 use native.Mathlib.Omega.{arith}
 use Rattle.pdf_values.proofs.Laws.{Pairing, pair-none, pair-more, pair-done}

@@ -1,5 +1,4 @@
 -- `pdf_values::fill_values`: what is left, stored, gives the table with all of them.
-use mathlib.Core.Path.{_≡_}
 use native.Mathlib.Omega.{arith}
 use Rattle.pdf_values.proofs.Laws.{Storing, store-none, entry-room, next-room, store-more, store-done}
 use Rattle.pdf_values.proofs.fill_values.Statement.{statement}

@@ -1,6 +1,6 @@
 -- `pdf_widen::widen` meets its contract: a normal number by one shift, any other by its fields.
 use mathlib.Core.Path.{_≡_, sym, _∙_}
-use Prim.Native.Nat.{ℕ, _+_, _-_, _*_, _/_, _%_, _^_, _≤_, _<_}
+use Prim.Native.Nat.{ℕ, _+_, _*_, _/_, _%_, _≤_, _<_}
 use native.Mathlib.Omega.{arith}
 use borrow.Author.Needs.{needs}
 use Rattle.written.specs.Interchange.{bias, join, signOf, exponentOf, fractionOf}

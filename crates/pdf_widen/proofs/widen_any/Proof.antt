@@ -1,19 +1,15 @@
 -- `pdf_widen::widen_any` meets its contract: each return is one case of `widenFields` at 8, 23, 11 and 52.
-use mathlib.Core.Path.{_≡_, sym, ap, ap₂, _∙_, subst}
-use Prim.Native.Nat.{ℕ, _+_, _-_, _*_, _/_, _%_, _^_, _≤_, _<_}
-use native.Mathlib.Nat.{lt-of-lt-of-le}
+use mathlib.Core.Path.{_≡_, sym, _∙_}
+use Prim.Native.Nat.{ℕ, _+_, _-_, _*_, _%_, _^_, _<_}
 use native.Mathlib.Omega.{arith}
 use borrow.Author.Needs.{needs}
 use lib.Count.{leadingZeros}
-use Rattle.written.specs.Interchange.{bias, join, quiet}
+use Rattle.written.specs.Interchange.{bias, join}
 use Rattle.pdf_widen.specs.Widening.{widenOf, normalised}
 use Rattle.pdf_widen.proofs.Leading.{Normal, normal, leading-more}
 use Rattle.pdf_widen.proofs.Cases.{wide-infinite, wide-nan, wide-zero, wide-subnormal, wide-normal}
 use Rattle.pdf_widen.proofs.widen_any.Statement.{statement}
 use Rattle.pdf_widen.proofs.widen_any.Tie as tie
-use Rattle.pdf_widen.proofs.widen_any.Reads as reads
-use Rattle.pdf_widen.proofs.widen_any.Lts as lts
-use Rattle.pdf_widen.proofs.joined.Reads as joined-reads
 
 -- what the code's shift is, and what it gives, for a fraction t that is not 0
 record Moved (t : ℕ) : Type 0 where

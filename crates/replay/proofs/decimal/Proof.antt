@@ -1,5 +1,5 @@
 -- `replay::decimal`: a digit a turn.
-use Prim.Native.Nat.{_-_, _≤_}
+use Prim.Native.Nat.{_≤_}
 use borrow.Author.Needs.{needs}
 use Rattle.replay.proofs.decimal.Statement.{statement}
 use Rattle.replay.proofs.decimal.Tie as tie

@@ -1,8 +1,6 @@
 -- `table_put::zero`: what is left to store gives the whole.
-use mathlib.Core.Path.{_≡_, sym}
 use Prim.Native.Nat.{_-_}
 use native.Mathlib.Omega.{arith}
-use borrow.Author.Needs.{needs}
 use lib.ListN.{length}
 use Rattle.laws.proofs.Tables.{Filling, filling-none, filling-more, filling-done}
 use Rattle.table_put.proofs.zero.Statement.{statement}

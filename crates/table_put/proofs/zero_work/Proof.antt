@@ -1,8 +1,6 @@
 -- `table_put::zero_work`: what is left to store gives the whole.
-use mathlib.Core.Path.{_≡_, sym}
 use Prim.Native.Nat.{_-_}
 use native.Mathlib.Omega.{arith}
-use borrow.Author.Needs.{needs}
 use lib.ListN.{length}
 use lib.IntN.{pos}
 use Rattle.laws.proofs.Tables.{Filling, filling-none, filling-more, filling-done}

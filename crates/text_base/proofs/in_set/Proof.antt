@@ -1,12 +1,12 @@
 -- `text_base::in_set`: the bit of the byte, in the first or the second half.
-use mathlib.Core.Path.{_≡_, sym, ap, _∙_}
-use mathlib.Core.Bool.{Bool, cond}
+use mathlib.Core.Path.{_≡_, ap, _∙_}
+use mathlib.Core.Bool.{Bool}
 use mathlib.Core.Logic.{⊎-elim}
 use Prim.Native.Nat.{ℕ, _/_, _^_, _<_, _≤_}
 use native.Mathlib.Omega.{arith}
 use borrow.Author.Tests.{le-ltb, lt-ltb}
 use lib.Bits.{bitAnd, and-le-r}
-use lib.Dec.{eqb, ltb}
+use lib.Dec.{eqb}
 use Rattle.text_base.specs.Classes.{inSet}
 use Rattle.text_base.proofs.in_set.Statement.{statement}
 use Rattle.text_base.proofs.in_set.Tie as tie

@@ -1,12 +1,11 @@
 -- `text_base::is_name`: printed ASCII at once, and of the other bytes all that are below the space but for the newline.
-use mathlib.Core.Path.{_≡_, refl, sym, ap}
-use mathlib.Core.Bool.{Bool, true, false, not, _&&_, _||_}
+use mathlib.Core.Path.{_≡_, sym}
+use mathlib.Core.Bool.{true, not}
 use mathlib.Core.Logic.{_⊎_, ⊎-elim, inl, inr}
 use Prim.Native.Nat.{ℕ, _≤_, _<_}
 use native.Mathlib.Omega.{arith}
 use borrow.Author.Tests.{le-leb, lt-leb, le-ltb, leb-true, leb-false, ne-eqb}
 use lib.Dec.{eqb, ltb}
-use native.Mathlib.Decide.{decLt, ℕ-discrete}
 use Rattle.written.specs.Bytes.{inName, blank}
 use Rattle.text_base.proofs.is_name.Statement.{statement}
 use Rattle.text_base.proofs.is_name.Tie as tie

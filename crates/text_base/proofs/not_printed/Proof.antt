@@ -1,5 +1,4 @@
 -- `text_base::not_printed`: the difference that wraps is the definition's.
-use native.Mathlib.Omega.{arith}
 use borrow.Author.Needs.{needs}
 use Rattle.text_base.proofs.Ahead.{is-unprinted}
 use Rattle.text_base.proofs.not_printed.Statement.{statement}

@@ -1,9 +1,9 @@
 -- `text_numbers::negative`: the number of each case.
 use mathlib.Core.Path.{_≡_, refl, sym, ap, ap₂, _∙_}
 use mathlib.Core.Bool.{Bool, true, false, cond}
-use Prim.Native.Nat.{ℕ, _^_, _<_, _≤_}
+use Prim.Native.Nat.{ℕ, _^_}
 use borrow.Author.Tests.{le-leb, lt-leb}
-use lib.Dec.{ltb, leb}
+use lib.Dec.{leb}
 use lib.IntN.{ℤ, pos, negℤ}
 use Rattle.laws.proofs.Signed.{back}
 use Rattle.text_numbers.specs.Answers.{signedOf}

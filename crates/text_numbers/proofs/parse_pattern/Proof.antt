@@ -1,10 +1,9 @@
 -- `text_numbers::parse_pattern`: each way out is an arm of `patternAt`.
-use mathlib.Core.Path.{_≡_, refl, sym, ap, _∙_}
+use mathlib.Core.Path.{_≡_, sym, _∙_}
 use mathlib.Core.List.{List}
-use Prim.Native.Nat.{ℕ, _+_, _<_}
+use Prim.Native.Nat.{ℕ, _+_}
 use native.Mathlib.Omega.{arith}
 use borrow.Author.Tests.{eq-eqb, ne-eqb}
-use lib.ListN.{length}
 use Rattle.written.specs.Bytes.{byteAt, inPattern}
 use Rattle.laws.specs.Runs.{stop}
 use Rattle.laws.proofs.Runs.{read-in}

@@ -1,10 +1,10 @@
 -- `text_numbers::positive`: the number of each case.
 use mathlib.Core.Path.{_≡_, refl, sym, ap, ap₂, _∙_}
 use mathlib.Core.Bool.{Bool, true, false, cond}
-use Prim.Native.Nat.{ℕ, _^_, _<_, _≤_}
+use Prim.Native.Nat.{ℕ, _^_}
 use borrow.Author.Tests.{lt-ltb, le-ltb}
-use lib.Dec.{ltb, leb}
-use lib.IntN.{ℤ, pos, negℤ}
+use lib.Dec.{ltb}
+use lib.IntN.{ℤ, pos}
 use Rattle.laws.proofs.Signed.{back}
 use Rattle.text_numbers.specs.Answers.{signedOf}
 use Rattle.text_numbers.specs.declared.Signed.{Signed}

@@ -1,10 +1,7 @@
 -- `text_parts::natural`: by cases on the sign.
-use mathlib.Core.Path.{_≡_, refl, sym, ap, _∙_}
-use Prim.Native.Nat.{_<_}
+use mathlib.Core.Path.{sym, ap, _∙_}
 use native.Mathlib.Omega.{arith}
-use lib.IntN.{ℤ, natAbs}
-use mir.Val.{toZ, ofZ}
-use mir.Syntax.{w64}
+use lib.IntN.{natAbs}
 use Rattle.laws.proofs.Signed.{back, negative, not-negative}
 use Rattle.text_parts.specs.Parts.{natOf}
 use Rattle.text_parts.proofs.natural.Statement.{statement}

@@ -1,11 +1,10 @@
 -- `text_parts::part_of` meets its contract.
-use mathlib.Core.List.{List}
 use native.Mathlib.Nat.{add-sub-cancel-left}
 use lib.Seq.{take-nil, take-all}
 use lib.ListN.{length, take, drop, drop-of-length-le, length-drop}
-use Prim.Native.Nat.{ℕ, _+_, _-_, _≤_}
+use Prim.Native.Nat.{ℕ, _-_, _≤_}
 use native.Mathlib.Omega.{arith}
-use mathlib.Core.Path.{_≡_, refl, sym, ap, ap₂, _∙_}
+use mathlib.Core.Path.{sym, ap, _∙_}
 use borrow.Author.Needs.{needs}
 use Rattle.text_parts.proofs.part_of.Statement.{statement}
 use Rattle.text_parts.proofs.part_of.Tie as tie

@@ -1,7 +1,6 @@
 -- `text_utf8::two` meets its contract: the bytes are tested one after the other, as the row is.
-use mathlib.Core.Path.{_≡_, sym, _∙_}
+use mathlib.Core.Path.{sym, _∙_}
 use borrow.Author.Needs.{needs}
-use Rattle.text_utf8.proofs.Rows.{split-at}
 use Rattle.text_utf8.proofs.two.Statement.{statement}
 use Rattle.text_utf8.proofs.two.Tie as tie
 

@@ -1,5 +1,5 @@
 -- `text_utf8::width_at` meets its contract: each arm is a row of the table.
-use mathlib.Core.Path.{_≡_, refl, sym, _∙_}
+use mathlib.Core.Path.{refl, sym, _∙_}
 use mathlib.Core.List.{[], _∷_}
 use native.Mathlib.Omega.{arith}
 use Rattle.written.specs.Rfc3629.{_⋯_, tail, table}
@@ -8,11 +8,6 @@ use Rattle.text_utf8.proofs.Rows.{arm, nowhere}
 use borrow.Author.Needs.{needs}
 use Rattle.text_utf8.proofs.width_at.Statement.{statement}
 use Rattle.text_utf8.proofs.width_at.Tie as tie
-use Rattle.text_utf8.proofs.width_at.Reads as reads
-use Rattle.text_utf8.proofs.width_at.Lts as lts
-use Rattle.text_utf8.proofs.four.Reads as four-reads
-use Rattle.text_utf8.proofs.three.Reads as three-reads
-use Rattle.text_utf8.proofs.two.Reads as two-reads
 
 shared-slice-read-match : tie.Need-shared-slice-read-match
 shared-slice-read-match c = search needs

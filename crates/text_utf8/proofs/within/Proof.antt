@@ -1,6 +1,5 @@
 -- `text_utf8::within` meets its contract.
-use mathlib.Core.Path.{_≡_, sym}
-use mathlib.Core.Bool.{and-true, and-false}
+use mathlib.Core.Bool.{and-true}
 use borrow.Author.Needs.{needs}
 use borrow.Author.Tests.{le-leb, lt-leb}
 use lib.ListN.{drop-of-length-le}

@@ -1,5 +1,4 @@
 -- `trail_bytes::same_words`: each number at its place.
-use mathlib.Core.Path.{_≡_, sym, _∙_}
 use Rattle.trail_bytes.proofs.Numbers.{first-other, second-other, third-as}
 use borrow.Author.Needs.{needs}
 use Rattle.trail_bytes.proofs.same_words.Statement.{statement}

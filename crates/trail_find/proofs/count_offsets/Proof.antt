@@ -1,16 +1,13 @@
 -- `trail_find::count_offsets`: the rows so far and those of what is left are all.
 use mathlib.Core.Path.{_≡_}
 use mathlib.Core.Logic.{⊎-elim, inl, inr}
-use Prim.Native.Nat.{ℕ, _+_, _*_, _≤_}
+use Prim.Native.Nat.{_+_, _*_, _≤_}
 use native.Mathlib.Omega.{arith}
 use lib.ListN.{length}
 use Rattle.trail_find.specs.Rows.{offsetsAt}
 use Rattle.trail_find.proofs.Laws.{counted-on, counted-none}
 use Rattle.trail_find.proofs.count_offsets.Statement.{statement}
 use Rattle.trail_find.proofs.count_offsets.Tie as tie
-use Rattle.trail_find.proofs.count_offsets.Reads as reads
-use Rattle.trail_find.proofs.count_offsets.Lts as lts
-use Rattle.pdf_blocks.proofs.word.Reads as word-reads
 
 abbrev Inv-loop : tie.InvT-loop
 Inv-loop s begin count model i₀ left₀ n₀ i left n = (n + length (offsetsAt s model i left) ≡ length (offsetsAt s model begin count)) × (i + 12 * left ≤ length s) × (12 * (n + left) ≤ length s)

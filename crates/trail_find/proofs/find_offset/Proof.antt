@@ -1,16 +1,13 @@
 -- `trail_find::find_offset`: among the rows that are left, so many of the model before it.
 use mathlib.Core.Path.{_≡_, refl}
 use mathlib.Core.Logic.{⊎-elim, inl, inr}
-use Prim.Native.Nat.{ℕ, _+_, _*_, _≤_}
+use Prim.Native.Nat.{_+_, _*_, _≤_}
 use native.Mathlib.Omega.{arith}
 use lib.ListN.{length}
 use Rattle.trail_find.specs.Rows.{offsetsAt, nthOf}
 use Rattle.trail_find.proofs.Laws.{found-here, found-on, found-none}
 use Rattle.trail_find.proofs.find_offset.Statement.{statement}
 use Rattle.trail_find.proofs.find_offset.Tie as tie
-use Rattle.trail_find.proofs.find_offset.Reads as reads
-use Rattle.trail_find.proofs.find_offset.Lts as lts
-use Rattle.pdf_blocks.proofs.word.Reads as word-reads
 
 abbrev Inv-loop : tie.InvT-loop
 Inv-loop s begin count model k i₀ left₀ before₀ i left before = (nthOf (offsetsAt s model i left) before ≡ nthOf (offsetsAt s model begin count) k) × (i + 12 * left ≤ length s)

@@ -1,13 +1,9 @@
 -- `trail_find::find_trail`: by the count and the beginning in the last 12 bytes.
-use native.Mathlib.Omega.{arith}
 use mathlib.Core.Path.{refl}
 use Rattle.trail_find.proofs.Laws.{trail-short, trail-rows, trail-elsewhere}
 use borrow.Author.Needs.{needs}
 use Rattle.trail_find.proofs.find_trail.Statement.{statement}
 use Rattle.trail_find.proofs.find_trail.Tie as tie
-use Rattle.trail_find.proofs.find_trail.Reads as reads
-use Rattle.trail_find.proofs.find_trail.Lts as lts
-use Rattle.pdf_blocks.proofs.word.Reads as word-reads
 
 returns : tie.Need-returns
 returns c = trail-short _ _ (c .if1 .taken)

@@ -3,13 +3,6 @@ use Rattle.trail_link.proofs.Laws.{one-kept, one-zero}
 use borrow.Author.Needs.{needs}
 use Rattle.trail_link.proofs.fill_one.Statement.{statement}
 use Rattle.trail_link.proofs.fill_one.Tie as tie
-use Rattle.trail_link.proofs.fill_one.Reads as reads
-use Rattle.trail_link.proofs.fill_one.Lts as lts
-use Rattle.load_questions.proofs.fill_all_patterns.Reads as fill-all-patterns-reads
-use Rattle.load_text.proofs.zero_text.Reads as zero-text-reads
-use Rattle.load_trees.proofs.all_linked.Reads as all-linked-reads
-use Rattle.table_put.proofs.zero_work.Reads as zero-work-reads
-use Rattle.trail_link.proofs.link_one.Reads as link-one-reads
 
 link-one-requires : tie.Need-link-one-requires
 link-one-requires c κs = search needs

@@ -8,12 +8,6 @@ use Rattle.trail_link.proofs.Laws.{asked-of, ended-as, row-as, records-
 use borrow.Author.Needs.{needs}
 use Rattle.trail_link.proofs.link_one.Statement.{statement}
 use Rattle.trail_link.proofs.link_one.Tie as tie
-use Rattle.trail_link.proofs.link_one.Reads as reads
-use Rattle.trail_link.proofs.link_one.Lts as lts
-use Rattle.load_questions.proofs.fill_questions.Reads as fill-questions-reads
-use Rattle.load_text.proofs.index_names.Reads as index-names-reads
-use Rattle.load_trees.proofs.ended.Reads as ended-reads
-use Rattle.load_trees.proofs.fill_tree.Reads as fill-tree-reads
 
 fill-questions-requires : tie.Need-fill-questions-requires
 fill-questions-requires c κs = search needs

@@ -3,10 +3,6 @@ use Rattle.trail_load.proofs.Laws.{values-fit, row-filled}
 use borrow.Author.Needs.{needs}
 use Rattle.trail_load.proofs.fill_entries.Statement.{statement}
 use Rattle.trail_load.proofs.fill_entries.Tie as tie
-use Rattle.trail_load.proofs.fill_entries.Reads as reads
-use Rattle.trail_load.proofs.fill_entries.Lts as lts
-use Rattle.pdf_values.proofs.fill_values.Reads as fill-values-reads
-use Rattle.table_put.proofs.put_block.Reads as put-block-reads
 
 put-block-requires : tie.Need-put-block-requires
 put-block-requires c κs = search needs

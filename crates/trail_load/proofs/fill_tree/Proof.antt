@@ -6,14 +6,6 @@ use Rattle.trail_load.proofs.Laws.{text-fits, values-room, small-values
 use borrow.Author.Needs.{needs}
 use Rattle.trail_load.proofs.fill_tree.Statement.{statement}
 use Rattle.trail_load.proofs.fill_tree.Tie as tie
-use Rattle.trail_load.proofs.fill_tree.Reads as reads
-use Rattle.trail_load.proofs.fill_tree.Lts as lts
-use Rattle.text_parts.proofs.up_to.Reads as up-to-reads
-use Rattle.load_model.proofs.answer.Reads as answer-reads
-use Rattle.load_trees.proofs.all_linked.Reads as all-linked-reads
-use Rattle.table_put.proofs.zero.Reads as zero-reads
-use Rattle.trail_link.proofs.fill_one.Reads as fill-one-reads
-use Rattle.trail_load.proofs.fill_entries.Reads as fill-entries-reads
 
 up-to-requires : tie.Need-up-to-requires
 up-to-requires c κs = search needs

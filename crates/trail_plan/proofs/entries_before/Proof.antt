@@ -1,15 +1,12 @@
 -- `trail_plan::entries_before`: the sum so far and that of what is left is the whole.
 use mathlib.Core.Path.{_≡_}
-use Prim.Native.Nat.{ℕ, _+_, _*_}
+use Prim.Native.Nat.{_+_, _*_}
 use native.Mathlib.Omega.{arith}
 use Rattle.written.specs.Blocks.{total}
 use Rattle.pdf_blocks.specs.Values.{wordsAt}
 use Rattle.pdf_blocks.proofs.Counts.{total-on, total-none}
 use Rattle.trail_plan.proofs.entries_before.Statement.{statement}
 use Rattle.trail_plan.proofs.entries_before.Tie as tie
-use Rattle.trail_plan.proofs.entries_before.Reads as reads
-use Rattle.trail_plan.proofs.entries_before.Lts as lts
-use Rattle.pdf_blocks.proofs.word.Reads as word-reads
 
 abbrev Inv-loop : tie.InvT-loop
 Inv-loop s at k i₀ left₀ sum₀ i left sum = (sum + total (wordsAt s i left) ≡ total (wordsAt s at k)) × (i + 4 * left ≡ at + 4 * k)

@@ -4,11 +4,6 @@ use Rattle.trail_plan.proofs.Laws.{block-refused, block-outside, block-
 use borrow.Author.Needs.{needs}
 use Rattle.trail_plan.proofs.plan_block.Statement.{statement}
 use Rattle.trail_plan.proofs.plan_block.Tie as tie
-use Rattle.trail_plan.proofs.plan_block.Reads as reads
-use Rattle.trail_plan.proofs.plan_block.Lts as lts
-use Rattle.text_parts.proofs.up_to.Reads as up-to-reads
-use Rattle.load_range.proofs.within.Reads as within-reads
-use Rattle.trail_plan.proofs.plan_entries.Reads as plan-entries-reads
 
 enum-known-text : tie.Need-enum-known-text
 enum-known-text c = search needs

@@ -6,11 +6,6 @@ use Rattle.trail_plan.proofs.Laws.{block-size, entries-wrong, entries-f
 use borrow.Author.Needs.{needs}
 use Rattle.trail_plan.proofs.plan_entries.Statement.{statement}
 use Rattle.trail_plan.proofs.plan_entries.Tie as tie
-use Rattle.trail_plan.proofs.plan_entries.Reads as reads
-use Rattle.trail_plan.proofs.plan_entries.Lts as lts
-use Rattle.pdf_blocks.proofs.check_block.Reads as check-block-reads
-use Rattle.pdf_blocks.proofs.word.Reads as word-reads
-use Rattle.trail_plan.proofs.entries_before.Reads as entries-before-reads
 
 check-block-requires : tie.Need-check-block-requires
 check-block-requires c κs = search needs

@@ -4,12 +4,6 @@ use Rattle.trail_plan.proofs.Laws.{tree-outside, tree-nowhere, tree-the
 use borrow.Author.Needs.{needs}
 use Rattle.trail_plan.proofs.plan_tree.Statement.{statement}
 use Rattle.trail_plan.proofs.plan_tree.Tie as tie
-use Rattle.trail_plan.proofs.plan_tree.Reads as reads
-use Rattle.trail_plan.proofs.plan_tree.Lts as lts
-use Rattle.text_parts.proofs.up_to.Reads as up-to-reads
-use Rattle.load_range.proofs.within.Reads as within-reads
-use Rattle.trail_plan.proofs.plan_block.Reads as plan-block-reads
-use Rattle.trail_plan.proofs.read_tree.Reads as read-tree-reads
 
 within-requires : tie.Need-within-requires
 within-requires c κs = search needs

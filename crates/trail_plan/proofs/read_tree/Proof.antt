@@ -4,11 +4,6 @@ use Rattle.trail_plan.proofs.Laws.{text-asked, text-broken}
 use borrow.Author.Needs.{needs}
 use Rattle.trail_plan.proofs.read_tree.Statement.{statement}
 use Rattle.trail_plan.proofs.read_tree.Tie as tie
-use Rattle.trail_plan.proofs.read_tree.Reads as reads
-use Rattle.trail_plan.proofs.read_tree.Lts as lts
-use Rattle.trail_plan.proofs.tree_read.Reads as tree-read-reads
-use Rattle.tree_survey.proofs.survey_tree.Reads as survey-tree-reads
-use Rattle.tree_survey_questions.proofs.survey_questions.Reads as survey-questions-reads
 
 survey-questions-requires : tie.Need-survey-questions-requires
 survey-questions-requires c κs = search needs

@@ -10,15 +10,6 @@ use Rattle.trail_plan.proofs.Laws.{row-of, rows-inside, needs-unfit, ne
 use borrow.Author.Needs.{needs}
 use Rattle.trail_plan.proofs.tree_needs.Statement.{statement}
 use Rattle.trail_plan.proofs.tree_needs.Tie as tie
-use Rattle.trail_plan.proofs.tree_needs.Reads as reads
-use Rattle.trail_plan.proofs.tree_needs.Lts as lts
-use Rattle.head_words_fit.proofs.record_fits.Reads as record-fits-reads
-use Rattle.load_choose.proofs.choose.Reads as choose-reads
-use Rattle.load_plan.proofs.data_of.Reads as data-of-reads
-use Rattle.trail_find.proofs.count_offsets.Reads as count-offsets-reads
-use Rattle.trail_find.proofs.find_offset.Reads as find-offset-reads
-use Rattle.trail_find.proofs.find_trail.Reads as find-trail-reads
-use Rattle.trail_plan.proofs.plan_tree.Reads as plan-tree-reads
 
 record-fits-requires : tie.Need-record-fits-requires
 record-fits-requires c κs = search needs

@@ -1,9 +1,6 @@
 -- `trail_plan::tree_read`: a state below 0 is 18.
-use mathlib.Core.Path.{refl}
 use Rattle.trail_plan.proofs.tree_read.Statement.{statement}
 use Rattle.trail_plan.proofs.tree_read.Tie as tie
-use Rattle.trail_plan.proofs.tree_read.Reads as reads
-use Rattle.trail_plan.proofs.tree_read.Lts as lts
 
 returns : tie.Need-returns
 returns c = rw (c .if1 .taken)

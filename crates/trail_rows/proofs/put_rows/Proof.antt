@@ -1,10 +1,8 @@
 -- `trail_rows::put_rows`: the rows that are left, stored where the loop is, are all of them.
-use mathlib.Core.Path.{refl, sym, ap, _∙_}
+use mathlib.Core.Path.{refl, sym, _∙_}
 use Prim.Native.Nat.{_-_}
 use native.Mathlib.Omega.{arith}
 use lib.ListN.{length}
-use lib.Seq.{length-sets}
-use Rattle.written.specs.Blocks.{littleEndian}
 use Rattle.trail_rows.proofs.Laws.{rows-next, rows-last, Storing, storing-more, stored-last, stored-none}
 use borrow.Author.Needs.{needs}
 use Rattle.trail_rows.proofs.put_rows.Statement.{statement}

@@ -1,5 +1,5 @@
 -- `trail_voice::number_of` meets its contract.
-use mathlib.Core.Path.{sym, ap, _∙_}
+use mathlib.Core.Path.{sym, ap}
 use native.Mathlib.Omega.{arith}
 use Rattle.trail_voice.specs.Voice.{whichNumber}
 use borrow.Author.Needs.{needs}

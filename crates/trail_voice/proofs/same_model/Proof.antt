@@ -1,13 +1,7 @@
 -- `trail_voice::same_model`: the rows of its text.
-use mathlib.Core.Path.{refl, sym, ap, ap₂, _∙_}
-use mathlib.Core.List.{List, []}
-use Prim.Native.Nat.{ℕ, _+_, _-_, _*_}
+use mathlib.Core.Path.{sym, _∙_}
 use native.Mathlib.Omega.{arith}
-use lib.ListN.{length}
-use lib.Seq.{sets}
-use Rattle.written.specs.Blocks.{littleEndian}
 use Rattle.head_words.specs.Words.{headerAt}
-use Rattle.trail_voice.specs.Voice.{whichNumber, modelRows, comparedAs}
 use Rattle.trail_voice.proofs.Laws.{text-room, text-rows, rows-refused, same-as, other-as, none-as}
 use borrow.Author.Needs.{needs}
 use Rattle.trail_voice.proofs.same_model.Statement.{statement}

@@ -1,5 +1,5 @@
 -- `walk_accepts::accepted_of`: by what was judged.
-use mathlib.Core.Path.{_≡_, sym, ap, _∙_}
+use mathlib.Core.Path.{sym, ap, _∙_}
 use mathlib.Core.Bool.{Bool, cond}
 use Rattle.error.specs.declared.Refusal.the-variants as refusal
 use Rattle.walk_accepts.specs.Accepting.{acceptedOf}

@@ -1,5 +1,5 @@
 -- `walk_accepts::accepts`: the tree, and then its rows.
-use mathlib.Core.Path.{_≡_, sym, ap, _∙_}
+use mathlib.Core.Path.{sym, ap, _∙_}
 use Rattle.walk_accepts.specs.Accepting.{acceptedOf, acceptsAt, acceptsOf}
 use borrow.Author.Needs.{needs}
 use Rattle.walk_accepts.proofs.accepts.Statement.{statement}

@@ -1,5 +1,5 @@
 -- `walk_accepts::accepts_said`: in numbers.
-use mathlib.Core.Path.{_≡_, sym, ap, _∙_}
+use mathlib.Core.Path.{sym, ap, _∙_}
 use Rattle.walk_accepts.specs.Accepting.{acceptsTold}
 use borrow.Author.Needs.{needs}
 use Rattle.walk_accepts.proofs.accepts_said.Statement.{statement}

@@ -1,5 +1,5 @@
 -- `walk_accepts::choose_tree`: by the survey of the text.
-use mathlib.Core.Path.{_≡_, sym, ap, _∙_}
+use mathlib.Core.Path.{sym, ap, _∙_}
 use Rattle.walk_accepts.specs.Accepting.{surveyed, chosenTree}
 use borrow.Author.Needs.{needs}
 use Rattle.walk_accepts.proofs.choose_tree.Statement.{statement}

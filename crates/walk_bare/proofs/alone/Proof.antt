@@ -1,5 +1,5 @@
 -- `walk_bare::alone`: a PDF, or a node.
-use mathlib.Core.Path.{_≡_, refl, sym, ap, ap₂, _∙_}
+use mathlib.Core.Path.{sym, ap, _∙_}
 use Prim.Native.Nat.{ℕ}
 use Rattle.laws.proofs.Signed.{back}
 use Rattle.text_parts.specs.Parts.{natOf}

@@ -1,5 +1,5 @@
 -- `walk_bare::ask`: the line that was found.
-use mathlib.Core.Path.{_≡_, refl, sym, ap, ap₂, _∙_}
+use mathlib.Core.Path.{sym, ap, _∙_}
 use Rattle.tree_question.specs.Questions.{questionsAt}
 use Rattle.walk_bare.specs.Bare.{replyBorne}
 use borrow.Author.Needs.{needs}

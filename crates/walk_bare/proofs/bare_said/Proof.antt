@@ -1,5 +1,5 @@
 -- `walk_bare::bare_said`: too short, or told.
-use mathlib.Core.Path.{_≡_, refl, sym, ap, ap₂, _∙_}
+use mathlib.Core.Path.{refl, ap, _∙_}
 use lib.Seq.{sets}
 use Rattle.walk_bare.specs.Bare.{bareNumbers, BareTells}
 use Rattle.walk_bare.specs.declared.Meter.{Meter}

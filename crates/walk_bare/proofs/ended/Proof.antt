@@ -1,6 +1,5 @@
 -- `walk_bare::ended`: a PDF, or refused.
-use mathlib.Core.Path.{_≡_, refl, sym, ap, ap₂, _∙_}
-use Prim.Native.Nat.{ℕ}
+use mathlib.Core.Path.{sym, ap, _∙_}
 use Rattle.walk_bare.specs.Bare.{endedOf}
 use Rattle.walk_bare.proofs.Laws.{ended-pdf}
 use borrow.Author.Needs.{needs}

@@ -1,5 +1,5 @@
 -- `walk_bare::follow`: what is left of the walk, with so many questions more, is the answer.
-use mathlib.Core.Path.{_≡_, refl, sym, ap, ap₂, _∙_}
+use mathlib.Core.Path.{sym, _∙_}
 use native.Mathlib.Omega.{arith}
 use Prim.Native.Nat.{_-_}
 use Rattle.tree_question.specs.Questions.{questionsAt}

@@ -1,5 +1,5 @@
 -- `walk_bare::line_at`: the first line from the place on.
-use mathlib.Core.Path.{_≡_, refl, sym, ap, ap₂, _∙_}
+use mathlib.Core.Path.{sym, ap, _∙_}
 use Rattle.tree_survey_lines.proofs.Counting.{items-next, items-last, items-broken}
 use Rattle.walk_bare.specs.Bare.{firstOf}
 use borrow.Author.Needs.{needs}

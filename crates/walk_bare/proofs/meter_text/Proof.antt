@@ -1,5 +1,5 @@
 -- `walk_bare::meter_text`: the tree that is chosen, or why there is none.
-use mathlib.Core.Path.{_≡_, refl, sym, ap, ap₂, _∙_}
+use mathlib.Core.Path.{sym, _∙_}
 use Rattle.walk_bare.proofs.Laws.{bare-so}
 use borrow.Author.Needs.{needs}
 use Rattle.walk_bare.proofs.meter_text.Statement.{statement}

@@ -1,5 +1,5 @@
 -- `walk_bare::meter_tree`: linked, or the fault.
-use mathlib.Core.Path.{_≡_, refl, sym, ap, ap₂, _∙_}
+use mathlib.Core.Path.{_≡_, sym, ap, _∙_}
 use Prim.Native.Nat.{ℕ}
 use Rattle.walk_bare.specs.Bare.{meteredOf, refusedBy}
 use Rattle.walk_bare.specs.declared.Meter.{Meter}

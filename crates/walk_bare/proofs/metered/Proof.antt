@@ -1,5 +1,5 @@
 -- `walk_bare::metered`: a PDF, or refused.
-use mathlib.Core.Path.{_≡_, refl, sym, ap, ap₂, _∙_}
+use mathlib.Core.Path.{sym, ap, _∙_}
 use Prim.Native.Nat.{ℕ}
 use Rattle.walk_bare.specs.Bare.{refusedBy, meteredOf}
 use borrow.Author.Needs.{needs}

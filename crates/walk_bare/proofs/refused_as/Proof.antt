@@ -1,5 +1,5 @@
 -- `walk_bare::refused_as`: by what it tells.
-use mathlib.Core.Path.{_≡_, refl, sym, ap, ap₂, _∙_}
+use mathlib.Core.Path.{ap, _∙_}
 use Rattle.error.specs.declared.Told.{Told}
 use Rattle.walk_bare.specs.Bare.{refusedBy}
 use borrow.Author.Needs.{needs}

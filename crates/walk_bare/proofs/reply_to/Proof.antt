@@ -1,5 +1,5 @@
 -- `walk_bare::reply_to`: by the question that is found.
-use mathlib.Core.Path.{_≡_, refl, sym, ap, ap₂, _∙_}
+use mathlib.Core.Path.{refl, sym, ap, _∙_}
 use mathlib.Core.List.{List}
 use Prim.Native.Nat.{ℕ}
 use Rattle.tree_question.specs.Questions.{questionsAt}

@@ -1,5 +1,5 @@
 -- `walk_bare::seek`: by what is sought.
-use mathlib.Core.Path.{_≡_, refl, sym, ap, ap₂, _∙_}
+use mathlib.Core.Path.{sym, ap, _∙_}
 use Rattle.tree_line.specs.Lines.{linesAt}
 use Rattle.walk_bare.specs.Bare.{soughtIn}
 use borrow.Author.Needs.{needs}

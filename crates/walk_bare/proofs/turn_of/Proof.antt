@@ -1,5 +1,5 @@
 -- `walk_bare::turn_of`: by the reference's kind.
-use mathlib.Core.Path.{_≡_, refl, sym, ap, ap₂, _∙_}
+use mathlib.Core.Path.{sym, ap, _∙_}
 use Rattle.laws.proofs.Signed.{back}
 use Rattle.link_order.specs.Keys.{idKey}
 use Rattle.text_parts.specs.Parts.{natOf}

@@ -1,5 +1,4 @@
 -- `walk_depth::judge`: a record that isn't good, the depth, or a path that goes round.
-use mathlib.Core.Path.{sym, _∙_}
 use native.Mathlib.Omega.{arith}
 use lib.ListN.{length}
 use borrow.Author.Needs.{needs}

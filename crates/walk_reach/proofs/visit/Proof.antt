@@ -1,6 +1,4 @@
 -- `walk_reach::visit`: a leaf, a line whose sides go to the queue, or a record that is not good.
-use mathlib.Core.Path.{sym, _∙_}
-use native.Mathlib.Omega.{arith}
 use borrow.Author.Needs.{needs}
 use Rattle.walk_reach.proofs.Visiting.{visited-leaf, visited-wrong, yes-outside, no-outside, yes-asks, no-asks, visited-line}
 use Rattle.walk_reach.proofs.visit.Statement.{statement}

@@ -3,7 +3,7 @@ use Prim.Native.Nat.{ℕ}
 use Rattle.write_bytes.specs.Tests.{fits, every, nameFits}
 use Rattle.written.specs.Bytes.{part}
 use borrow.Author.Needs.{needs}
-use mathlib.Core.Bool.{true, false}
+use mathlib.Core.Bool.{true}
 use mathlib.Core.Path.{ap₂, _∙_}
 use Rattle.write_bytes.proofs.name_fits.Statement.{statement}
 use Rattle.write_bytes.proofs.name_fits.Tie as tie

@@ -1,5 +1,4 @@
 -- `write_counts::due`: the run of the first leaf of a number, else none.
-use Prim.Native.Nat.{_-_}
 use Rattle.write_counts.proofs.Laws.{due-first, due-none}
 use borrow.Author.Needs.{needs}
 use Rattle.write_counts.proofs.due.Statement.{statement}

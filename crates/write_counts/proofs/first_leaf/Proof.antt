@@ -1,5 +1,4 @@
 -- `write_counts::first_leaf`: the first of all leaves, or another number before it.
-use Prim.Native.Nat.{_-_}
 use Rattle.write_counts.proofs.Laws.{first-here, first-later}
 use borrow.Author.Needs.{needs}
 use Rattle.write_counts.proofs.first_leaf.Statement.{statement}

@@ -1,5 +1,4 @@
 -- `write_counts::window_counted`: counts from 0, then the references, then what is due.
-use Prim.Native.Nat.{_-_}
 use Rattle.write_counts.proofs.Laws.{zeros-of}
 use borrow.Author.Needs.{needs}
 use native.Mathlib.Omega.{arith}

@@ -2,7 +2,7 @@
 use Prim.Native.Nat.{ℕ, _+_, min}
 use Rattle.write_figures.proofs.Digits.{Storing, storing-none, storing-more, storing-done, put-out}
 use borrow.Author.Needs.{needs}
-use mathlib.Core.Path.{_≡_, refl, sym, ap, _∙_}
+use mathlib.Core.Path.{ap, _∙_}
 use native.Mathlib.Omega.{arith}
 use Rattle.write_figures.proofs.put_figures.Statement.{statement}
 use Rattle.write_figures.proofs.put_figures.Tie as tie

@@ -1,13 +1,9 @@
 -- `write_links::bare_in`: each way through.
-use Prim.Native.Nat.{ℕ, _+_, _-_, _*_}
 use Rattle.laws.proofs.Every.{not-first, then-second}
-use Rattle.write_links.proofs.Ways.{is, is-not, is-below, not-below, or-first, or-second}
+use Rattle.write_links.proofs.Ways.{or-first, or-second}
 use Rattle.write_links.specs.Tests.{bareIn}
 use borrow.Author.Needs.{needs}
-use borrow.Author.Tests.{not-true, not-false, lt-ltb, le-ltb, le-leb, lt-leb, eq-eqb, ne-eqb}
-use lib.Dec.{ltb, leb, eqb}
-use mathlib.Core.Bool.{not}
-use mathlib.Core.Path.{_≡_, refl, sym, ap, ap₂, _∙_}
+use borrow.Author.Tests.{eq-eqb, ne-eqb}
 use Rattle.write_links.proofs.bare_in.Statement.{statement}
 use Rattle.write_links.proofs.bare_in.Tie as tie
 

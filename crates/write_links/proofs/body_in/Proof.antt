@@ -1,5 +1,4 @@
 -- `write_links::body_in`: without lines, or with some.
-use Prim.Native.Nat.{_-_}
 use Rattle.write_links.proofs.Ways.{body-bare, body-lines}
 use borrow.Author.Needs.{needs}
 use mathlib.Core.Path.{_∙_}

@@ -1,13 +1,11 @@
 -- `write_links::leaf_at`: number by number.
-use Prim.Native.Nat.{ℕ, _+_, _-_, _*_}
+use Prim.Native.Nat.{ℕ}
 use Rattle.laws.proofs.Every.{not-first, then-second}
-use Rattle.write_links.proofs.Ways.{is, is-not, is-below, not-below, or-first, or-second}
+use Rattle.write_links.proofs.Ways.{is, is-not, is-below, not-below}
 use Rattle.write_links.specs.Tests.{leafAt}
 use borrow.Author.Needs.{needs}
-use borrow.Author.Tests.{not-true, not-false, lt-ltb, le-ltb, le-leb, lt-leb, eq-eqb, ne-eqb}
-use lib.Dec.{ltb, leb, eqb}
-use mathlib.Core.Bool.{not}
-use mathlib.Core.Path.{_≡_, refl, sym, ap, ap₂, _∙_}
+use lib.Dec.{eqb}
+use mathlib.Core.Path.{ap}
 use Rattle.write_links.proofs.leaf_at.Statement.{statement}
 use Rattle.write_links.proofs.leaf_at.Tie as tie
 

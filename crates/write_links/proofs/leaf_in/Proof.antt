@@ -1,5 +1,4 @@
 -- `write_links::leaf_in`: a leaf, and its number.
-use Prim.Native.Nat.{_-_}
 use Rattle.write_links.proofs.Ways.{leaf-off, leaf-first, leaf-later}
 use borrow.Author.Needs.{needs}
 use borrow.Author.Tests.{not-true, not-false}

@@ -1,5 +1,4 @@
 -- `write_links::line_in`: its kind, then where it goes.
-use Prim.Native.Nat.{_-_}
 use Rattle.write_links.proofs.Ways.{line-other, line-yes, line-no}
 use borrow.Author.Needs.{needs}
 use borrow.Author.Tests.{not-true, not-false}

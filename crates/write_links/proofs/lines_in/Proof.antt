@@ -1,5 +1,4 @@
 -- `write_links::lines_in`: one test after the other.
-use Prim.Native.Nat.{_-_}
 use Rattle.write_links.proofs.Ways.{lines-short, lines-like, lines-off, leaves-off, lines-counted}
 use borrow.Author.Needs.{needs}
 use borrow.Author.Tests.{not-true, not-false}

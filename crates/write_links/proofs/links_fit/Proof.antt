@@ -1,5 +1,4 @@
 -- `write_links::links_fit`: one test after the other.
-use Prim.Native.Nat.{_-_}
 use Rattle.laws.proofs.Every.{not-first, then-second}
 use Rattle.table_rows.specs.Rows.{treeRows}
 use Rattle.write_links.specs.Tests.{linksFit}

@@ -1,5 +1,4 @@
 -- `write_links::ref_in`: past the records, a line, or a leaf.
-use Prim.Native.Nat.{_-_}
 use Rattle.write_links.proofs.Ways.{ref-past, ref-line, ref-leaf}
 use borrow.Author.Needs.{needs}
 use Rattle.write_links.proofs.ref_in.Statement.{statement}

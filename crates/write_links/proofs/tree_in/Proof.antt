@@ -1,5 +1,4 @@
 -- `write_links::tree_in`: one test after the other.
-use Prim.Native.Nat.{_-_}
 use Rattle.write_links.proofs.Ways.{tree-large, tree-apart, tree-short, tree-body}
 use borrow.Author.Needs.{needs}
 use native.Mathlib.Omega.{arith}

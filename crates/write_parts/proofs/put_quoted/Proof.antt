@@ -2,7 +2,6 @@
 use Rattle.write_put.proofs.Puts.{put-then, put-as}
 use Rattle.write_parts.specs.Parts.{quoted, patternOf}
 use borrow.Author.Needs.{needs}
-use mathlib.Core.Bool.{Bool, true, false}
 use mathlib.Core.Path.{sym, ap}
 use Rattle.write_parts.proofs.put_quoted.Statement.{statement}
 use Rattle.write_parts.proofs.put_quoted.Tie as tie

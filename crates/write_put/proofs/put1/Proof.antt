@@ -1,7 +1,7 @@
 -- `write_put::put1`: stored where the buffer reaches, else nothing.
 use borrow.Author.Needs.{needs}
 use lib.Seq.{set-out}
-use mathlib.Core.Path.{_≡_, refl, sym}
+use mathlib.Core.Path.{sym}
 use native.Mathlib.Omega.{arith}
 use Rattle.write_put.proofs.put1.Statement.{statement}
 use Rattle.write_put.proofs.put1.Tie as tie

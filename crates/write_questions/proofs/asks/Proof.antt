@@ -1,5 +1,4 @@
 -- `write_questions::asks`: its kind, then its question.
-use Prim.Native.Nat.{_-_}
 use Rattle.write_questions.proofs.Hidden.{asks-line, asks-no-line}
 use borrow.Author.Needs.{needs}
 use Rattle.write_questions.proofs.asks.Statement.{statement}

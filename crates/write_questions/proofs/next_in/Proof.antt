@@ -3,9 +3,8 @@ use Prim.Native.Nat.{ℕ, _-_}
 use Rattle.table_rows.specs.Rows.{patternRows, questionPatterns}
 use Rattle.write_questions.proofs.Chain.{left-of, next-unnamed, next-none, next-apart, next-left}
 use borrow.Author.Needs.{needs}
-use borrow.Author.Tests.{not-true, not-false}
 use lib.Dec.{leb}
-use mathlib.Core.Path.{sym, ap, ap₂, _∙_}
+use mathlib.Core.Path.{sym, ap₂, _∙_}
 use native.Mathlib.Omega.{arith}
 use Rattle.write_questions.proofs.next_in.Statement.{statement}
 use Rattle.write_questions.proofs.next_in.Tie as tie

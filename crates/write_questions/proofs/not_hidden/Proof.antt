@@ -1,5 +1,4 @@
 -- `write_questions::not_hidden`: the last of its name, or by the records.
-use Prim.Native.Nat.{_-_}
 use Rattle.write_questions.proofs.Hidden.{is-last, not-last}
 use borrow.Author.Needs.{needs}
 use Rattle.write_questions.proofs.not_hidden.Statement.{statement}

@@ -1,7 +1,7 @@
 -- `write_rows::question_in`: its name, then its patterns.
 use Prim.Native.Nat.{ℕ}
 use Rattle.laws.proofs.Every.{not-first, then-second}
-use Rattle.table_rows.specs.Rows.{questionStart, questionLen, questionFirst, questionPatterns, patternRows}
+use Rattle.table_rows.specs.Rows.{questionFirst, questionPatterns}
 use Rattle.write_rows.specs.Tests.{among, questionIn}
 use borrow.Author.Needs.{needs}
 use borrow.Author.Tests.{not-true, not-false}

@@ -1,14 +1,14 @@
 -- `head_de::Cursor::delimiter` meets its contract.
 use mathlib.Core.List.{List}
 use Prim.Native.Nat.{ℕ, _<_}
-use Rattle.written.specs.Bytes.{oneOf, byteAt}
+use Rattle.written.specs.Bytes.{byteAt}
 use lib.ListN.{length}
 use native.Mathlib.Decide.{decLt}
 use Rattle.laws.proofs.Runs.{byte-out}
 use Rattle.head_de.specs.Values.{delimiterAt}
 use borrow.Author.Tests.{eq-eqb, ne-eqb}
 use native.Mathlib.Omega.{arith}
-use mathlib.Core.Path.{_≡_, refl, sym, ap, ap₂, _∙_}
+use mathlib.Core.Path.{_≡_, sym, _∙_}
 use borrow.Author.Needs.{needs}
 use Rattle.head_de.proofs.Cursor.delimiter.Statement.{statement}
 use Rattle.head_de.proofs.Cursor.delimiter.Tie as tie

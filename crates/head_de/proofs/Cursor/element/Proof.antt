@@ -1,6 +1,6 @@
 -- `head_de::Cursor::element` meets its contract.
 use Rattle.head_de.specs.Values.{elementAt, elementOf}
-use mathlib.Core.Path.{_≡_, refl, sym, ap, ap₂, _∙_}
+use mathlib.Core.Path.{sym, ap, _∙_}
 use borrow.Author.Needs.{needs}
 use Rattle.head_de.proofs.Cursor.element.Statement.{statement}
 use Rattle.head_de.proofs.Cursor.element.Tie as tie

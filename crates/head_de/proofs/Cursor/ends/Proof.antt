@@ -2,7 +2,7 @@
 use Rattle.written.specs.Bytes.{oneOf}
 use Rattle.head_de.specs.Values.{endsAt}
 use borrow.Author.Tests.{eq-eqb, ne-eqb}
-use mathlib.Core.Path.{_≡_, refl, sym, ap, ap₂, _∙_}
+use mathlib.Core.Path.{sym, ap, _∙_}
 use borrow.Author.Needs.{needs}
 use Rattle.head_de.proofs.Cursor.ends.Statement.{statement}
 use Rattle.head_de.proofs.Cursor.ends.Tie as tie

@@ -3,7 +3,7 @@ use Rattle.laws.proofs.Runs.{read-in}
 use Rattle.head_de.specs.Values.{flagAt}
 use borrow.Author.Tests.{eq-eqb, ne-eqb}
 use native.Mathlib.Omega.{arith}
-use mathlib.Core.Path.{_≡_, refl, sym, ap, ap₂, _∙_}
+use mathlib.Core.Path.{sym, _∙_}
 use borrow.Author.Needs.{needs}
 use Rattle.head_de.proofs.Cursor.flag.Statement.{statement}
 use Rattle.head_de.proofs.Cursor.flag.Tie as tie

@@ -1,7 +1,7 @@
 -- `head_de::Cursor::number` meets its contract.
 use Rattle.head_de.specs.Values.{numberAt, numberOf}
 use borrow.Author.Tests.{eq-eqb, ne-eqb}
-use mathlib.Core.Path.{_≡_, refl, sym, ap, ap₂, _∙_}
+use mathlib.Core.Path.{sym, ap, _∙_}
 use borrow.Author.Needs.{needs}
 use Rattle.head_de.proofs.Cursor.number.Statement.{statement}
 use Rattle.head_de.proofs.Cursor.number.Tie as tie

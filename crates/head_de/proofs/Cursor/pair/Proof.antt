@@ -1,6 +1,6 @@
 -- `head_de::Cursor::pair` meets its contract.
 use Rattle.head_de.specs.Values.{pairAt}
-use mathlib.Core.Path.{_≡_, refl, sym, ap, ap₂, _∙_}
+use mathlib.Core.Path.{sym, _∙_}
 use borrow.Author.Needs.{needs}
 use Rattle.head_de.proofs.Cursor.pair.Statement.{statement}
 use Rattle.head_de.proofs.Cursor.pair.Tie as tie

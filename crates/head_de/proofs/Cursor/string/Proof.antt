@@ -1,9 +1,9 @@
 -- `head_de::Cursor::string` meets its contract.
 use Rattle.laws.proofs.Runs.{read-in, stop-from}
 use Rattle.head_de.specs.Values.{textAt}
-use borrow.Author.Tests.{eq-eqb, ne-eqb, lt-ltb, le-ltb}
+use borrow.Author.Tests.{ne-eqb, lt-ltb, le-ltb}
 use native.Mathlib.Omega.{arith}
-use mathlib.Core.Path.{_≡_, refl, sym, ap, ap₂, _∙_}
+use mathlib.Core.Path.{sym, _∙_}
 use borrow.Author.Needs.{needs}
 use Rattle.head_de.proofs.Cursor.string.Statement.{statement}
 use Rattle.head_de.proofs.Cursor.string.Tie as tie

@@ -4,11 +4,10 @@ use Rattle.laws.proofs.Runs.{byte-is, stop-on, stop-here, stop-end}
 use Rattle.laws.specs.Runs.{stop}
 use lib.ListN.{length}
 use Prim.Native.Nat.{_-_}
-use mathlib.Core.Bool.{Bool, true, false, not}
+use mathlib.Core.Bool.{not}
 use Rattle.written.specs.Bytes.{oneOf, noneOf}
 use Rattle.head_de.specs.Values.{cursor, delimitersOf}
-use borrow.Author.Tests.{eq-eqb, ne-eqb}
-use mathlib.Core.Path.{_≡_, refl, sym, ap, ap₂, _∙_}
+use mathlib.Core.Path.{_≡_, sym, ap, _∙_}
 use Rattle.head_de.proofs.Cursor.until.Statement.{statement}
 use Rattle.head_de.proofs.Cursor.until.Tie as tie
 

@@ -1,7 +1,7 @@
 -- `head_de_lists::Ranges::none` meets its contract.
 use Rattle.head_record.specs.Lists.{filled}
 use Rattle.head_de_lists.specs.Lists.{rangesOf}
-use mathlib.Core.Path.{_≡_, refl, sym, ap, ap₂, _∙_}
+use mathlib.Core.Path.{refl}
 use Rattle.head_de_lists.proofs.Ranges.none.Statement.{statement}
 use Rattle.head_de_lists.proofs.Ranges.none.Tie as tie
 

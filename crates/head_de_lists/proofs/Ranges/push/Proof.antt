@@ -1,7 +1,6 @@
 -- `head_de_lists::Ranges::push` meets its contract.
 use Rattle.head_de_lists.specs.Lists.{rangesWith}
 use borrow.Author.Tests.{lt-ltb, le-ltb}
-use mathlib.Core.Path.{_≡_, refl, sym, ap, ap₂, _∙_}
 use borrow.Author.Needs.{needs}
 use Rattle.head_de_lists.proofs.Ranges.push.Statement.{statement}
 use Rattle.head_de_lists.proofs.Ranges.push.Tie as tie

@@ -1,7 +1,7 @@
 -- `head_de_lists::Spans::none` meets its contract.
 use Rattle.head_record.specs.Lists.{filled}
 use Rattle.head_de_lists.specs.Lists.{spansOf}
-use mathlib.Core.Path.{_≡_, refl, sym, ap, ap₂, _∙_}
+use mathlib.Core.Path.{refl}
 use Rattle.head_de_lists.proofs.Spans.none.Statement.{statement}
 use Rattle.head_de_lists.proofs.Spans.none.Tie as tie
 

@@ -1,9 +1,4 @@
 -- `head_de_values::Around::inner` meets its contract.
-use Prim.Native.Nat.{ℕ}
-use Rattle.head_de_values.specs.Values.{aroundOf}
-use Rattle.written.specs.Bytes.{comma}
-use mathlib.Core.List.{List, _∷_}
-use mathlib.Core.Path.{_≡_, refl, sym, ap, ap₂, _∙_}
 use borrow.Author.Needs.{needs}
 use Rattle.head_de_values.proofs.Around.inner.Statement.{statement}
 use Rattle.head_de_values.proofs.Around.inner.Tie as tie

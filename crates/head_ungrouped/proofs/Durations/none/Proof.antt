@@ -1,6 +1,6 @@
 -- `head_ungrouped::Durations::none` meets its contract.
 use Rattle.head_ungrouped.specs.Ungrouped.{noDurations}
-use mathlib.Core.Path.{_≡_, refl, sym, ap, ap₂, _∙_}
+use mathlib.Core.Path.{refl}
 use Rattle.head_ungrouped.proofs.Durations.none.Statement.{statement}
 use Rattle.head_ungrouped.proofs.Durations.none.Tie as tie
 
