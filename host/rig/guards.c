@@ -38,7 +38,7 @@ static size_t place_of(uint64_t len) {
     return GUARD + (guard() == ABOVE ? room_for(len) - (size_t)len : 0);
 }
 
-/* Rooms with their guards that were given back, for the next slices of their size: a run lends millions of slices, and a third of its time went into mapping them. */
+/* Rooms with their guards that were given back, for the next slices of their size: a run lends millions of slices, and half of its time went into mapping them. */
 enum { KEPT = 64, KEPT_ROOM = 16 * GUARD };
 
 static struct {
