@@ -1,11 +1,13 @@
 // After header/error.rs: why a call refuses. `Refusal` has a case for each of 01's numbers from 1 to 25 but 11, with the place that 01 gives it (one for
 // linking's three, 21 to 23, with its fault), and for those of 02 that have one. 11 is retired (02, Wish 14): no input gave it, and it is not given again.
 // Only this crate and the C boundary look into its cases; all others build a case or pass it on.
+#![tactic(auto)]
+
 ghost use Rattle.std.specs.Prelude.{◌≡◌};
 ghost use Rattle.error.specs.Numbers.{fault_number, told_of, number_of, place_of, line_of};
 
 // Why a tree can't be linked: what is wrong with one of its lines (01, 'Linking and tables').
-#[derive(Drop)]
+#[derive(Clone, Copy)]
 pub enum LinkFault {
     // 21: a line refers to an id that no line bears
     NodeRef,
@@ -28,7 +30,7 @@ impl LinkFault {
 }
 
 // A place is a file offset, that of 17 an offset into the data (02, Wish 2); `tree` and `line` are counted from 0.
-#[derive(Drop)]
+#[derive(Clone, Copy)]
 pub enum Refusal {
     // 1: the file doesn't split into its four sections
     Split,
@@ -91,7 +93,7 @@ pub enum Refusal {
 }
 
 // What a refusal says in numbers: 01's number; the place, an offset or the tree of 21 to 23, 0 where there is none; the line of 21 to 23, else 0.
-#[derive(Drop)]
+#[derive(Clone, Copy)]
 pub struct Told {
     pub number: u64,
     pub place: usize,

@@ -1,6 +1,8 @@
 // A voice judged by the house's rules, the call in numbers (02, Wish 11; host/larsavim.h). Order: 20 for slices that are too short; 29; 24; opening as `larsavim_open`
 // has it; the loads of all models; 30, 31; the first rule that a model breaks. On 0 and 30 to 36 the last model stays loaded, and the task's bounds are its rows.
 // Any file, any words, any bounds, any tables, any numbers.
+#![tactic(auto)]
+
 ghost use Rattle.std.specs.Prelude.{◌≡◌, ◌≤◌, length};
 ghost use Rattle.std.proofs.lemmas.List.Edits.{sets};
 ghost use Rattle.load_model.specs.Load.{lent};

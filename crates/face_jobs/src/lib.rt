@@ -1,5 +1,7 @@
 // A job of a sentence (02, Wish 5): which tree to walk, with what limit, from which answer byte on, and room for how the walk ends. `walk_job` fills one. It takes the job by
 // value and hands it back, so that the loop over the lent jobs, which is proved by hand (`larsavim`), has nothing to do but call it.
+#![tactic(auto)]
+
 ghost use Rattle.std.specs.Prelude.{◌≡◌};
 ghost use Rattle.face_jobs.specs.Done.{job_done};
 
@@ -7,7 +9,7 @@ use face_model::{Ended, walk_said};
 
 // Six numbers, 48 bytes in C.
 #[repr(C)]
-#[derive(Drop)]
+#[derive(Clone, Copy)]
 pub struct Job {
     pub tree: u64,
     pub limit: u64,

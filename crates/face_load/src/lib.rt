@@ -1,4 +1,6 @@
 // A load by the words of a record into one task's rows, its answer in numbers (host/larsavim.h). Any file, any words, any bounds, any tables, any numbers.
+#![tactic(auto)]
+
 ghost use Rattle.std.specs.Prelude.{◌≡◌};
 ghost use Rattle.load_model.specs.Load.{lent};
 ghost use Rattle.load_bounds.specs.Bounds.{side_of, held_of};

@@ -1,5 +1,7 @@
 // The calls on a model and on loaded tables, their answers in numbers (host/larsavim.h): what a model needs, a load, a walk. The exports of `larsavim` write
 // these answers out. Any file, any words, any tables, any numbers.
+#![tactic(auto)]
+
 ghost use Rattle.std.specs.Prelude.{◌≡◌, ◌*◌, ◌<◌, ◌^◌};
 ghost use Rattle.face_model.specs.Answers.{which_of, work_for, not_needed, needed_for, needed_of, ended_of};
 
@@ -11,7 +13,7 @@ use walk::{Walked, walk};
 
 // What a model needs: rows of each table, values, numbers of work, and the values in an entry.
 #[repr(C)]
-#[derive(Drop)]
+#[derive(Clone, Copy)]
 pub struct Needed {
     pub number: u64,
     pub place: u64,
@@ -27,7 +29,7 @@ pub struct Needed {
 
 // The rows of a load, and its values.
 #[repr(C)]
-#[derive(Drop)]
+#[derive(Clone, Copy)]
 pub struct Rows {
     pub number: u64,
     pub place: u64,
@@ -41,7 +43,7 @@ pub struct Rows {
 
 // How a walk ended.
 #[repr(C)]
-#[derive(Drop)]
+#[derive(Clone, Copy)]
 pub struct Ended {
     pub number: u64,
     pub pdf: u64,

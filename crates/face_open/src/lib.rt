@@ -1,4 +1,6 @@
 // Opening in numbers (host/larsavim.h). Any file, any words.
+#![tactic(auto)]
+
 ghost use Rattle.std.specs.Prelude.{◌≡◌, length};
 ghost use Rattle.error.specs.Numbers.{number_of, place_of};
 ghost use Rattle.face_record.specs.Answers.{said};

@@ -1,4 +1,6 @@
 // How answers are put to the front of lent slices: three numbers, why a load is refused or its rows, what a model needs, a task's bounds.
+#![tactic(auto)]
+
 ghost use Rattle.std.specs.Prelude.{◌≡◌, [], ◌∷◌, ◌≤◌, length};
 ghost use Rattle.std.proofs.lemmas.List.Edits.{sets};
 ghost use Rattle.face_put.specs.Put.{rows_numbers, needed_numbers, held_left};

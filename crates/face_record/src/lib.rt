@@ -1,4 +1,6 @@
 // The calls on the words of a record, their answers in numbers (host/larsavim.h): COMMENT, and the record's fields. Any words, any numbers.
+#![tactic(auto)]
+
 ghost use Rattle.std.specs.Prelude.{◌≡◌};
 ghost use Rattle.face_record.specs.Answers.{part_of, judged_of, comment_in, comment_said, get_said, pair_said};
 
@@ -6,7 +8,7 @@ use head_words::{COMMENT, HAS_COMMENT, WORDS, flags_fit};
 
 // 01's number, and its place; of a field, its value.
 #[repr(C)]
-#[derive(Drop)]
+#[derive(Clone, Copy)]
 pub struct Said {
     pub number: u64,
     pub place: u64,
@@ -14,7 +16,7 @@ pub struct Said {
 
 // A part of the file (slice 0) or of the fallback (slice 1).
 #[repr(C)]
-#[derive(Drop)]
+#[derive(Clone, Copy)]
 pub struct Part {
     pub number: u64,
     pub slice: u64,
@@ -24,7 +26,7 @@ pub struct Part {
 
 // A string or a range.
 #[repr(C)]
-#[derive(Drop)]
+#[derive(Clone, Copy)]
 pub struct Pair {
     pub number: u64,
     pub first: u64,

@@ -1,4 +1,6 @@
 // What is told of a voice that is judged by the house's rules (02, Wish 11): why it is refused, or the first rule that it breaks.
+#![tactic(auto)]
+
 ghost use Rattle.std.specs.Prelude.{◌≡◌, ◌≤◌, length};
 ghost use Rattle.head_words.specs.Words.{word_at, header_at};
 ghost use Rattle.house_types.specs.Types.{types_rule};
@@ -10,7 +12,7 @@ use house_voice::Broken;
 
 // 01's number, its place and line, and the number of the model that was refused or that breaks a rule.
 #[repr(C)]
-#[derive(Drop)]
+#[derive(Clone, Copy)]
 pub struct House {
     pub number: u64,
     pub place: u64,

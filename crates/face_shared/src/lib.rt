@@ -1,5 +1,7 @@
 // Two tasks in one set of tables (02, Wish 9), the calls in numbers (host/larsavim.h): a load into one task's rows and an unload, by each task's bounds as five numbers.
 // A side is 0, the bottom, or 1, the top. Order of a load: 29; 24; then as without the other. Any file, any words, any tables, any numbers.
+#![tactic(auto)]
+
 ghost use Rattle.std.specs.Prelude.{◌≡◌, ◌&&◌, ◌≤◌, leb, length};
 ghost use Rattle.load_model.specs.Load.{lent};
 ghost use Rattle.load_bounds.specs.Bounds.{held_of, stands_at};

@@ -1,5 +1,7 @@
 // The calls on a voice's trailer, their answers in numbers (02, Wish 7; host/larsavim.h): writing one into a lent buffer, and reading the one that a file ends in.
 // Both open the file themselves, with the record into the words as `larsavim_open` has it. Any file, any words, any buffer.
+#![tactic(auto)]
+
 ghost use Rattle.std.specs.Prelude.{◌≡◌, ◌+◌, ◌-◌, ◌*◌, ◌≤◌, length};
 ghost use Rattle.head_words.specs.Words.{header_at};
 ghost use Rattle.load_voice.specs.Voice.{models_of};
@@ -21,7 +23,7 @@ const LAST: usize = 12;
 
 // 01's number, its place, and the bytes of the trailer.
 #[repr(C)]
-#[derive(Drop)]
+#[derive(Clone, Copy)]
 pub struct Written {
     pub number: u64,
     pub place: u64,
@@ -30,7 +32,7 @@ pub struct Written {
 
 // 01's number, its place, the rows of the trailer, and where they begin.
 #[repr(C)]
-#[derive(Drop)]
+#[derive(Clone, Copy)]
 pub struct Found {
     pub number: u64,
     pub place: u64,

@@ -1,5 +1,7 @@
 // One tree of a model loaded through a trailer into the rows of one task (02, Wishes 7 and 9), the call in numbers (host/larsavim.h). Order: 29; 24; then as the load
 // of a model, with 26 and 28 behind 16 for the record, and 24 for no such row behind 16 for the tree text. Any file, any words, any bounds, any tables, any numbers.
+#![tactic(auto)]
+
 ghost use Rattle.std.specs.Prelude.{◌≤◌, length};
 ghost use Rattle.load_model.specs.Load.{lent};
 ghost use Rattle.load_bounds.specs.Bounds.{side_of, held_of};

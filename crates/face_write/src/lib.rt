@@ -1,12 +1,14 @@
 // Tree text out of the rows of lent tables (02, Wish 6), in numbers (host/larsavim.h): 24, 22, 17 and 20 in this order, or the text's length.
 // Any data, any tables, any buffer.
+#![tactic(auto)]
+
 ghost use Rattle.std.specs.Prelude.{◌≡◌};
 ghost use Rattle.face_write.specs.Answers.{wrote_by, length_said, WriteSaid};
 
 use write_tables::{Answer, measure, write_tables};
 
 // 0 and the length, or why nothing is written and 0.
-#[derive(Drop)]
+#[derive(Clone, Copy)]
 pub struct Wrote {
     pub number: u64,
     pub len: u64,

@@ -1,5 +1,7 @@
 // After header/deserialize_hashmap.rs: the lines of [STREAM] and [POSITION] that belong to bracketed groups (01, 'Header text', its third paragraph).
 // The lines are known to be whole when they are gone through by groups; one that is not ends them.
+#![tactic(auto)]
+
 ghost use Rattle.std.specs.Prelude.{◌≡◌, ◌+◌};
 ghost use Rattle.head_fields.specs.Fields.{fields_of};
 ghost use Rattle.head_lines.specs.Lines.{line_in};
@@ -15,14 +17,14 @@ use text_base::byte_at;
 use text_parts::{Span, part_of, up_to};
 
 // A key that names a group: the lengths of the field's name before the bracket and of the group's name inside.
-#[derive(Drop)]
+#[derive(Clone, Copy)]
 pub enum Split {
     Bracketed { field: usize, name: usize },
     Plain,
 }
 
 // A line of a group: where the field's and the group's names stand, and its value's start and end.
-#[derive(Drop)]
+#[derive(Clone, Copy)]
 pub struct Row {
     pub field: Span,
     pub name: Span,
@@ -30,7 +32,7 @@ pub struct Row {
     pub end: usize,
 }
 
-#[derive(Drop)]
+#[derive(Clone, Copy)]
 pub enum RowAt {
     Found(Row),
     // a line of no group, up to there
@@ -39,7 +41,7 @@ pub enum RowAt {
 }
 
 // The names of the groups found, as contracts speak of them: the first 8 of them; 9 counts for more.
-#[derive(Drop)]
+#[derive(Clone, Copy)]
 pub struct Names {
     pub items: [Span; 8],
     pub count: usize,

@@ -1,6 +1,8 @@
 // After header/de.rs: the values of header text (01, 'Header text'), read by a cursor that is passed by value and handed back.
 // A reader gets the file up to the end of the section or of the group value, so that a place is a file offset. It takes any bytes and any place.
 //
+#![tactic(auto)]
+
 ghost use Rattle.std.specs.Prelude.{◌≡◌};
 ghost use Rattle.written.specs.Bytes.{one_of, none_of};
 ghost use Rattle.laws.specs.Runs.{stop};
@@ -10,13 +12,13 @@ use error::Refusal;
 use text_base::byte_at;
 use text_numbers::{Unsigned, parse_unsigned};
 
-#[derive(Drop)]
+#[derive(Clone, Copy)]
 pub struct Cursor {
     pub at: usize,
 }
 
 // The delimiters now open, two at most: what a string without quotes runs up to.
-#[derive(Drop)]
+#[derive(Clone, Copy)]
 pub enum Delimiters {
     Nothing,
     Newline,
@@ -30,7 +32,7 @@ pub enum Delimiters {
 }
 
 // A string: a part of the file, without quotes.
-#[derive(Drop)]
+#[derive(Clone, Copy)]
 pub enum Text {
     Read {
         start: usize,
@@ -40,26 +42,26 @@ pub enum Text {
     Refused(Refusal),
 }
 
-#[derive(Drop)]
+#[derive(Clone, Copy)]
 pub enum Number {
     Read(u64, Cursor),
     Refused(Refusal),
 }
 
-#[derive(Drop)]
+#[derive(Clone, Copy)]
 pub enum Flag {
     Read(bool, Cursor),
     Refused(Refusal),
 }
 
-#[derive(Drop)]
+#[derive(Clone, Copy)]
 pub enum Pair {
     Read { from: u64, to: u64, next: Cursor },
     Refused(Refusal),
 }
 
 // What stands where a sequence may go on.
-#[derive(Drop)]
+#[derive(Clone, Copy)]
 pub enum Delimiter {
     // its own delimiter, now passed
     Passed(Cursor),

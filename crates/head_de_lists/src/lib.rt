@@ -1,5 +1,7 @@
 // After header/de.rs, `List`: comma lists of strings and of pairs (01, 'Header text', its second paragraph). A list keeps as many items as the longest
 // limit on it, and counts them all.
+#![tactic(auto)]
+
 ghost use Rattle.std.specs.Prelude.{◌≡◌, ◌+◌, ◌<◌, ◌^◌, []};
 ghost use Rattle.head_de.specs.Values.{delimiters_of, text_at, pair_at};
 ghost use Rattle.head_de.specs.Readings.{of_text, of_pair};
@@ -11,33 +13,33 @@ use head_record::Range;
 use text_parts::Span;
 
 // The first 32 strings of a list, and how many it has.
-#[derive(Drop)]
+#[derive(Clone, Copy)]
 pub struct Spans {
     pub items: [Span; 32],
     pub count: usize,
 }
 
 // The first 8 pairs of a list, and how many it has.
-#[derive(Drop)]
+#[derive(Clone, Copy)]
 pub struct Ranges {
     pub items: [Range; 8],
     pub count: usize,
 }
 
-#[derive(Drop)]
+#[derive(Clone, Copy)]
 pub enum Outcome {
     Read(Cursor),
     Refused(Refusal),
 }
 
 // A list; where it is refused, the empty one.
-#[derive(Drop)]
+#[derive(Clone, Copy)]
 pub struct StringList {
     pub outcome: Outcome,
     pub list: Spans,
 }
 
-#[derive(Drop)]
+#[derive(Clone, Copy)]
 pub struct PairList {
     pub outcome: Outcome,
     pub list: Ranges,

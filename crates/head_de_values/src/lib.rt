@@ -1,5 +1,7 @@
 // After header/de.rs: a value of any kind, as its field says (01, 'Header text'). A line's value is read with the newline open, a group's alone.
 //
+#![tactic(auto)]
+
 ghost use Rattle.std.specs.Prelude.{◌≡◌, ◌∷◌};
 ghost use Rattle.written.specs.Bytes.{comma};
 ghost use Rattle.written.specs.HeaderText.{a_string, a_number, a_bool, strings, a_pair, pairs, perhaps_a_pair, anything};
@@ -13,7 +15,7 @@ use head_record::Range;
 use text_parts::Span;
 
 // How the value of a field is read.
-#[derive(Drop)]
+#[derive(Clone, Copy)]
 pub enum Kind {
     Text,
     Number,
@@ -28,14 +30,14 @@ pub enum Kind {
 }
 
 // What is open around a value: the newline, or nothing.
-#[derive(Drop)]
+#[derive(Clone, Copy)]
 pub enum Around {
     Line,
     Alone,
 }
 
 // A value; the parts that its kind does not have are zero, and so are all where it is refused. `flag` says too whether a perhaps absent pair is there.
-#[derive(Drop)]
+#[derive(Clone, Copy)]
 pub struct Value {
     pub outcome: Outcome,
     pub number: u64,

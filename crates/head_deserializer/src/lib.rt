@@ -1,6 +1,8 @@
 // After header/de.rs, `Deserializer<'de>`: a reader that holds its section, the cursor in it and the delimiters now open (01, 'Header text').
 // Each function over a struct that holds a slice is proved by hand, so there are few and they are thin: a method takes it apart and calls the one of `head_de`.
 // Whoever reads a section calls `scalar_in`, whose parameters are plain.
+#![tactic(auto)]
+
 ghost use Rattle.std.specs.Prelude.{◌≡◌, false};
 ghost use Rattle.head_record.specs.Empty.{no_span, no_range};
 ghost use Rattle.head_de.specs.Values.{cursor, delimiters_of, text_at, number_at, flag_at, delimiter_at, pair_at};
@@ -11,7 +13,7 @@ use head_de_lists::Outcome;
 use head_record::Range;
 use text_parts::Span;
 
-#[derive(Drop)]
+#[derive(Clone, Copy)]
 pub struct Deserializer<'de> {
     pub section: &'de [u8],
     pub cursor: Cursor,
@@ -19,7 +21,7 @@ pub struct Deserializer<'de> {
 }
 
 // What is asked for: a value that is no list.
-#[derive(Drop)]
+#[derive(Clone, Copy)]
 pub enum Asked {
     Text,
     Number,
@@ -28,7 +30,7 @@ pub enum Asked {
 }
 
 // A value that is no list; the parts that its kind does not have are zero, and so are all where it is refused.
-#[derive(Drop)]
+#[derive(Clone, Copy)]
 pub struct Scalar {
     pub outcome: Outcome,
     pub number: u64,

@@ -1,5 +1,7 @@
 // After header/mod.rs, what serde derives: which field a key names, how its value is read, and which fields must be there (01, 'Header text', its third
 // paragraph). A field's number is its place in its table; a key that names none has the number behind the last.
+#![tactic(auto)]
+
 ghost use Rattle.std.specs.Prelude.{◌≡◌, ◌≤◌};
 ghost use Rattle.written.specs.Record.{global_fields, stream_group, position_fields, position_group};
 ghost use Rattle.head_de_values.specs.Values.{kind_from};
@@ -9,7 +11,7 @@ ghost use Rattle.head_fields.specs.Fields.{fields_of, field_index, kind_at, any_
 use head_de_values::Kind;
 
 // The fields of a section, or of the groups of one.
-#[derive(Drop)]
+#[derive(Clone, Copy)]
 pub enum Table {
     Global,
     // none: each field stands in a group

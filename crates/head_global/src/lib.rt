@@ -1,4 +1,6 @@
 // After header/mod.rs, `Global`: the fields of [GLOBAL], line by line into the words of the record (01, 'Header text').
+#![tactic(auto)]
+
 ghost use Rattle.std.specs.Prelude.{◌≡◌, ◌≤◌, length};
 ghost use Rattle.written.specs.Record.{global_fields};
 ghost use Rattle.std.proofs.lemmas.List.Edits.{sets};
@@ -21,7 +23,7 @@ use head_words::{
 };
 
 // What [GLOBAL] says, as contracts speak of it; where it is refused, the empty struct.
-#[derive(Drop)]
+#[derive(Clone, Copy)]
 pub struct GlobalRead {
     pub verdict: Verdict,
     pub global: Global,

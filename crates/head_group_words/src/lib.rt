@@ -1,5 +1,7 @@
 // The groups of [STREAM] and [POSITION] while they stand in the words of the record, 8 of one width behind each other: which names are known, and the limits
 // on their counts (01, 'What the loader covers'). Any numbers in the words.
+#![tactic(auto)]
+
 ghost use Rattle.std.specs.Prelude.{◌≡◌, ◌+◌, ◌*◌, ◌≤◌, ◌<◌, length};
 ghost use Rattle.head_brackets.specs.Rows.{known_in};
 ghost use Rattle.text_parts.specs.Parts.{bytes_of};

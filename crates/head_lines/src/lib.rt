@@ -1,4 +1,6 @@
 // After header/de.rs, `NewlineSeparated`: the lines of a section, key, `:`, value (01, 'Header text').
+#![tactic(auto)]
+
 ghost use Rattle.std.specs.Prelude.{◌≡◌, ◌≤◌};
 ghost use Rattle.head_de_values.specs.Values.{kind_from, value_in};
 ghost use Rattle.head_fields.specs.Fields.{fields_of};
@@ -13,7 +15,7 @@ use text_base::{byte_at, newline_end};
 use text_parts::part_of;
 
 // The next line's key, without its quotes if it has any.
-#[derive(Drop)]
+#[derive(Clone, Copy)]
 pub enum Key {
     Read {
         start: usize,
@@ -24,7 +26,7 @@ pub enum Key {
     Refused(Refusal),
 }
 
-#[derive(Drop)]
+#[derive(Clone, Copy)]
 pub enum Step {
     Read(Cursor),
     End,
@@ -32,14 +34,14 @@ pub enum Step {
 }
 
 // How a section, or a group, was judged.
-#[derive(Drop)]
+#[derive(Clone, Copy)]
 pub enum Verdict {
     Accepted,
     Refused(Refusal),
 }
 
 // The next line: the number of the field that its key names, and its value; zero where there is none.
-#[derive(Drop)]
+#[derive(Clone, Copy)]
 pub struct Line {
     pub step: Step,
     pub field: usize,

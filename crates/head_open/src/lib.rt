@@ -1,6 +1,8 @@
 // After parser/mod.rs, `parse_htsvoice` up to its data: a file's bytes to the words of its header record, in 01's order, and COMMENT (01, 'Numbers the
 // loader gives', 'Header text'). Each reader of a section gets the file up to the section's end, so that places are file offsets; it writes what the section
 // says where the record has it (`head_words`), into words that are 0 before.
+#![tactic(auto)]
+
 ghost use Rattle.std.specs.Prelude.{◌≡◌, ◌+◌, ◌≤◌, length, replicate};
 ghost use Rattle.head_words.specs.Words.{Zeros, header_at};
 ghost use Rattle.head_open.specs.Open.{Inside, utf8_of, global_of, streams_of, positions_of, parts_of, open_of, comment_of};
@@ -20,14 +22,14 @@ use text_parts::{Span, part_of, up_to};
 use text_utf8::{Answer, check};
 
 // What opening answers, as contracts speak of it: the record, or the refusal and beside it the empty record.
-#[derive(Drop)]
+#[derive(Clone, Copy)]
 pub struct Opened {
     pub verdict: Verdict,
     pub header: Header,
 }
 
 // What [POSITION] says, as contracts speak of it: the duration ranges and the groups.
-#[derive(Drop)]
+#[derive(Clone, Copy)]
 pub struct PositionRead {
     pub verdict: Verdict,
     pub durations: Durations,

@@ -1,4 +1,6 @@
 // Values of the header into the words of its record (`head_words` says where each field stands); what is beyond stays as it was.
+#![tactic(auto)]
+
 ghost use Rattle.std.specs.Prelude.{◌≡◌, [], ◌∷◌, ◌+◌, ◌*◌, ◌≤◌, length};
 ghost use Rattle.std.proofs.lemmas.List.Edits.{sets};
 ghost use Rattle.head_words.specs.Words.{span_words, range_words, spans_words, ranges_words};

@@ -1,18 +1,20 @@
 // After header/mod.rs: the header record as structs, with the Rust's names (01, 'Numbers the loader gives'). A string is a part of the file, counted from its
 // first byte, without quotes. A list is an array as long as its limit, and a count; what stands past the count, and a value that is marked absent, is zero in
 // a record that an opening made. Contracts speak of the record in this form; the code has it in words (`head_words`).
+#![tactic(auto)]
+
 use text_parts::Span;
 
 // Bytes of the data section: the first, and the last, which belongs to it.
 #[repr(C)]
-#[derive(Drop)]
+#[derive(Clone, Copy)]
 pub struct Range {
     pub from: u64,
     pub to: u64,
 }
 
 #[repr(C)]
-#[derive(Drop)]
+#[derive(Clone, Copy)]
 pub struct Global {
     pub hts_voice_version: Span,
     pub sampling_frequency: u64,
@@ -30,7 +32,7 @@ pub struct Global {
 }
 
 #[repr(C)]
-#[derive(Drop)]
+#[derive(Clone, Copy)]
 pub struct StreamData {
     // the group's name, in its first key
     pub name: Span,
@@ -43,7 +45,7 @@ pub struct StreamData {
 }
 
 #[repr(C)]
-#[derive(Drop)]
+#[derive(Clone, Copy)]
 pub struct PositionData {
     // the group's name, in its first key
     pub name: Span,
@@ -59,7 +61,7 @@ pub struct PositionData {
 
 // What an opened file says. The groups of a section stand in the order of their first appearance.
 #[repr(C)]
-#[derive(Drop)]
+#[derive(Clone, Copy)]
 pub struct Header {
     pub global: Global,
     pub streams: [StreamData; 8],

@@ -1,4 +1,6 @@
 // After parser/mod.rs, `split_sections`: where the four sections of a file stand (01, 'Sections').
+#![tactic(auto)]
+
 ghost use Rattle.std.specs.Prelude.{◌≡◌, ◌<◌, length};
 ghost use Rattle.head_sections.specs.Split.{starts_at, break_here, break_at, section_at, split_of};
 
@@ -6,7 +8,7 @@ use text_base::{byte_at, newline_end};
 use text_parts::{Span, part_of, same_bytes};
 
 // The parts of a file: the texts of its three header sections, and its data.
-#[derive(Drop)]
+#[derive(Clone, Copy)]
 pub struct Parts {
     pub global: Span,
     pub stream: Span,
@@ -14,7 +16,7 @@ pub struct Parts {
     pub rest: Span,
 }
 
-#[derive(Drop)]
+#[derive(Clone, Copy)]
 pub enum Sections {
     Split(Parts),
     // the file doesn't split
@@ -22,7 +24,7 @@ pub enum Sections {
 }
 
 // The text of a section: from `start` up to the next "\n[".
-#[derive(Drop)]
+#[derive(Clone, Copy)]
 pub enum Section {
     Text { start: usize, end: usize },
     NoSection,

@@ -1,5 +1,7 @@
 // After header/mod.rs, `StreamData`: the fields of a group of [STREAM], row by row into the words of the record (01, 'Header text', its third paragraph).
 //
+#![tactic(auto)]
+
 ghost use Rattle.std.specs.Prelude.{◌≡◌, length, replicate};
 ghost use Rattle.head_brackets.specs.Rows.{rows_at, over, last_of};
 ghost use Rattle.text_parts.specs.Parts.{bytes_of};
@@ -18,14 +20,14 @@ use head_words::{IS_MSD, NUM_WINDOWS, OPTION, OPTION_COUNT, USE_GV, VECTOR_LENGT
 use text_parts::{Span, same_part};
 
 // A group while it is read, as the contract speaks of it: which fields stood, and their values.
-#[derive(Drop)]
+#[derive(Clone, Copy)]
 pub struct Group {
     pub seen: [bool; 10],
     pub item: StreamData,
 }
 
 // What a group says, as contracts speak of it; where it is refused, the empty struct.
-#[derive(Drop)]
+#[derive(Clone, Copy)]
 pub struct GroupRead {
     pub verdict: Verdict,
     pub item: StreamData,

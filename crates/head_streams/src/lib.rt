@@ -1,5 +1,7 @@
 // After header/mod.rs and deserialize_hashmap.rs: the groups of [STREAM] by first appearance, and the limits on their counts (01, 'What the loader
 // covers', 'Header text'). The first 8 groups are kept, in the words of the record; a row of a later one has its group read anew, for its faults alone.
+#![tactic(auto)]
+
 ghost use Rattle.std.specs.Prelude.{◌≡◌, ◌≤◌, length};
 ghost use Rattle.head_brackets.specs.Rows.{rows_at, over, last_of};
 ghost use Rattle.head_words.specs.Words.{Zeros};
@@ -15,14 +17,14 @@ use head_stream::read_group;
 use head_words::{OPTION_COUNT, STREAM_COUNT, STREAM_WORDS, STREAMS};
 
 // The groups as the contract speaks of them: their names, and what the first 8 say.
-#[derive(Drop)]
+#[derive(Clone, Copy)]
 pub struct Streams {
     pub names: Names,
     pub items: [StreamData; 8],
 }
 
 // The groups, as contracts speak of them; where they are refused, none.
-#[derive(Drop)]
+#[derive(Clone, Copy)]
 pub struct GroupsRead {
     pub verdict: Verdict,
     pub streams: Streams,

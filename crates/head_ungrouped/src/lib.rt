@@ -1,5 +1,7 @@
 // After header/mod.rs, `Stream` and `Position`: the lines of the two sections, with the fields that stand in no group (01, 'Header text').
 //
+#![tactic(auto)]
+
 ghost use Rattle.std.specs.Prelude.{◌≡◌};
 ghost use Rattle.written.specs.Record.{stream_fields, position_fields};
 ghost use Rattle.head_lines.specs.Lines.{faulty, lines_at};
@@ -13,14 +15,14 @@ use head_lines::{Step, Verdict, mark, next_line};
 use head_record::Range;
 
 // The two ranges of [POSITION] that stand in no group.
-#[derive(Drop)]
+#[derive(Clone, Copy)]
 pub struct Durations {
     pub pdf: Range,
     pub tree: Range,
 }
 
 // Where they are refused, both are zero.
-#[derive(Drop)]
+#[derive(Clone, Copy)]
 pub struct DurationsRead {
     pub verdict: Verdict,
     pub durations: Durations,

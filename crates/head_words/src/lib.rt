@@ -1,5 +1,7 @@
 // Where each field of the header record stands among the words that cross to C (host/larsavim.h names the same numbers; host/constants holds the two
 // against each other), and whether words are a record at all.
+#![tactic(auto)]
+
 ghost use Rattle.std.specs.Prelude.{◌≡◌, ◌≤◌, ◌<◌, length};
 ghost use Rattle.head_words.specs.Words.{is_flag, group_flags, flags_fit};
 

@@ -1,6 +1,8 @@
 // Whether the header record that words hold fits a file: 16 for the record (01, 'Numbers the loader gives'; docs/DECISIONS.md, 'The record'). A caller may
 // hand in any words, also those that no opening made, so nothing of them is trusted: counts come first, then the strings that they count, all in exact
 // numbers. The words are judged where they stand (`head_words` says where), for the record itself is large.
+#![tactic(auto)]
+
 ghost use Rattle.std.specs.Prelude.{◌≡◌, ◌+◌, ◌*◌, ◌≤◌, length};
 ghost use Rattle.head_record_fits.specs.Fits.{span_fits, counted, global_fits, stream_fits, position_fits, record_fits};
 ghost use Rattle.head_words.specs.Words.{word_at, span_at, spans_at, global_at, stream_at, position_at, streams_at, positions_at, header_at};

@@ -1,5 +1,7 @@
 // The first of the house's rules that a loaded model breaks (02, Wish 11): 32 to 36, each over the whole model before the next. Takes a plan in its data and the model's
 // own rows, as a load leaves them; nothing is changed in the end.
+#![tactic(auto)]
+
 ghost use Rattle.std.specs.Prelude.{◌≡◌, length};
 ghost use Rattle.house_model.specs.Model.{rule_of, Loaded};
 

@@ -1,5 +1,7 @@
 // The house's rule on question names (02, Wish 11): none stands twice in a model (33). The names are put in order in front of the model's own pattern rows, which are
 // written again afterwards, so that no two names are compared without need. For the rows and the text of a loaded model.
+#![tactic(auto)]
+
 ghost use Rattle.std.specs.Prelude.{◌≡◌, length};
 ghost use Rattle.std.proofs.lemmas.List.Edits.{sets};
 ghost use Rattle.link_order.specs.Keys.{name_key, name_at};

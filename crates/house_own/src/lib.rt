@@ -1,5 +1,7 @@
 // The first of the house's rules that the model in a task's rows breaks (02, Wishes 9 and 11): the task's own rows are cut out of the tables that two tasks share.
 // Nothing is changed in the end.
+#![tactic(auto)]
+
 ghost use Rattle.std.specs.Prelude.{◌≡◌, length};
 ghost use Rattle.load_bounds.specs.Bounds.{side_of};
 ghost use Rattle.house_own.specs.Own.{rule_in, LoadedIn};

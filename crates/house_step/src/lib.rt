@@ -1,5 +1,7 @@
 // One model of a voice by the house's rules (02, Wish 11): what the task holds is unloaded, the model is loaded into the task's rows beside the other's, and judged there.
 // Takes any bytes, any record, any bounds and tables of any length. A refused load leaves what a load leaves; a model that breaks a rule stays loaded.
+#![tactic(auto)]
+
 ghost use Rattle.std.specs.Prelude.{◌≤◌, length};
 ghost use Rattle.head_words.specs.Words.{header_at};
 ghost use Rattle.load_plan.specs.Plans.{Sound};
@@ -17,7 +19,7 @@ use load_shared::load_planned;
 use load_unload::unload;
 
 // The rule that a loaded model breaks, 0 for none, and the bounds that it stands in; or why it isn't loaded.
-#[derive(Drop)]
+#[derive(Clone, Copy)]
 pub enum Step {
     Judged { rule: u64, held: Held },
     Refused(Refusal),

@@ -1,5 +1,7 @@
 // The house's rules on a model's trees as they are written (02, Wish 11): in each tree in braces the lines bear 0, -1, -2, .. in their order (32), and every leaf is
 // one of its tree's entries, which count from 1 (34). Ids aren't in the tables, so the text is read once more. Every function takes any bytes and any place.
+#![tactic(auto)]
+
 ghost use Rattle.std.specs.Prelude.{◌≡◌, ◌≤◌, length};
 ghost use Rattle.tree_body.specs.Trees.{head_at, trees_at};
 ghost use Rattle.load_trees.specs.Trees.{head_body};

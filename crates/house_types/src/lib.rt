@@ -1,4 +1,6 @@
 // The house's two rules on a voice as a whole (02, Wish 11): NUM_STREAMS is the number of names in STREAM_TYPE (30), and no name stands twice there (31).
+#![tactic(auto)]
+
 ghost use Rattle.std.specs.Prelude.{◌≡◌, ◌+◌, ◌*◌, ◌≤◌, ◌<◌, length};
 ghost use Rattle.head_words.specs.Words.{word_at, span_at, header_at};
 ghost use Rattle.house_types.specs.Types.{new_name, types_once, types_rule};

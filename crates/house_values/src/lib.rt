@@ -1,5 +1,7 @@
 // The house's rules on an entry's values (02, Wish 11): a mean is finite (35), a variance finite and above zero (36). An entry is mean, variance, mean, variance, ..;
 // where the width is odd, its last value is free. For any values and any width.
+#![tactic(auto)]
+
 ghost use Rattle.std.specs.Prelude.{◌≡◌, ◌+◌, ◌*◌, ◌≤◌, ◌<◌, ◌/◌, length};
 ghost use Rattle.house_values.specs.Values.{good_mean, good_variance, good_value, pairs_good, values_good};
 

@@ -1,5 +1,7 @@
 // A voice's models by the house's rules, one after the other in a task's rows (02, Wish 11): each in place of the one before, the first rule that one breaks remembered.
 // A refused load ends it; a broken rule doesn't, so that the last model stays loaded. Takes any bytes, any record, any bounds and tables of any length.
+#![tactic(auto)]
+
 ghost use Rattle.std.specs.Prelude.{◌≡◌, ◌≤◌, length};
 ghost use Rattle.head_words.specs.Words.{header_at};
 ghost use Rattle.load_model.specs.Load.{lent};
@@ -14,14 +16,14 @@ use load_voice::{NextModel, next_model};
 use trail_voice::number_of;
 
 // A rule that is broken, and the number of the model that breaks it; both 0 for none.
-#[derive(Drop)]
+#[derive(Clone, Copy)]
 pub struct Broken {
     pub rule: u64,
     pub model: u64,
 }
 
 // The first broken rule, and the bounds of the last model; or the load that is refused, and its model's number.
-#[derive(Drop)]
+#[derive(Clone, Copy)]
 pub enum VoiceJudged {
     Judged { first: Broken, held: Held },
     Refused { refusal: Refusal, model: u64 },

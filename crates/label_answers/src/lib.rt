@@ -1,5 +1,7 @@
 // After voice/question.rs: the answers to all questions of a model, for one label (02, Wish 1). One byte a question row, 1 where any of its patterns matches the whole
 // label. All rows are judged before the first byte is written. Any label, any tables, any data.
+#![tactic(auto)]
+
 ghost use Rattle.std.specs.Prelude.{◌≡◌, true, ◌+◌, ◌≤◌, ◌<◌, length};
 ghost use Rattle.std.proofs.lemmas.List.Edits.{sets};
 ghost use Rattle.table_rows.specs.Rows.{question_rows};

@@ -1,6 +1,8 @@
 // Whether a whole label matches a pattern of a question (02, Wish 1): `*` stands for any run of bytes, empty too, `?` for exactly one byte, everything else for
 // itself. No search and no memory: the pattern is taken from star to star, and behind a star the first place where the part up to the next one stands is as good as
 // any later one. So the label is passed over once, and a match takes at most as many looks as the pattern's bytes times the label's. Any pattern, any label.
+#![tactic(auto)]
+
 ghost use Rattle.std.specs.Prelude.{◌≡◌, true, ◌+◌, ◌≤◌, length, drop};
 ghost use Rattle.label_match.specs.Matched.{passes, plain, front, some_end, match_of};
 ghost use Rattle.label_match.specs.Parts.{PartEnd, Finds};
@@ -10,7 +12,7 @@ const ANY_RUN: u8 = b'*';
 const ANY_ONE: u8 = b'?';
 
 // Where a part of a pattern stands in a label.
-#[derive(Drop)]
+#[derive(Clone, Copy)]
 enum Found {
     At(usize),
     Nowhere,

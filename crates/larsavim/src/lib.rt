@@ -1,5 +1,7 @@
 // The face: the public calls exported to C, on numbers and slices alone (host/larsavim.h documents each). No call has a requirement: any bytes, any words, any
 // numbers, slices of any length. A slice for an answer that is too short is 20 before all else, with nothing written.
+#![tactic(auto)]
+
 ghost use Rattle.std.specs.Prelude.{◌≡◌};
 ghost use Rattle.label_answers.specs.Answering.{Answering};
 ghost use Rattle.face_jobs.specs.Done.{jobs_done};

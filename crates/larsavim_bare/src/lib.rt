@@ -1,5 +1,7 @@
 // The library of a meter that has no room for tables (02, Wish 12): one call, the walk of one tree straight over a tree text. An archive of this crate has that call alone;
 // it is the same as in `larsavim`.
+#![tactic(auto)]
+
 ghost use Rattle.walk_bare.specs.Bare.{BareTells};
 
 use walk_bare::bare_said;

@@ -1,6 +1,8 @@
 // The linking of one tree by reading its text, without tables or work: where each reference leads, the first line with a fault (01, 'Linking and tables'), and
 // whether record rows that somebody else linked are the tree's (02, Wish 13). Linking alone is asked for with no rows.
 // Every function takes any bytes and any rows. A place is an index into the slice; the questions are those of the text that begins at `at`.
+#![tactic(auto)]
+
 ghost use Rattle.std.specs.Prelude.{◌≡◌, ◌&&◌, true, [], ◌∷◌, length};
 ghost use Rattle.tree_question.specs.Questions.{questions_at};
 ghost use Rattle.tree_line.specs.Lines.{lines_at};
@@ -21,7 +23,7 @@ use tree_reference::{TreeIndex, same_index};
 use tree_survey_lines::{LineCount, count_lines};
 
 // A line's question and where its references lead; or what is wrong with it.
-#[derive(Drop)]
+#[derive(Clone, Copy)]
 pub enum LineLink {
     Goes {
         question: u64,
@@ -32,7 +34,7 @@ pub enum LineLink {
 }
 
 // A tree that links, and whether the rows are its own; or at which line it doesn't.
-#[derive(Drop)]
+#[derive(Clone, Copy)]
 pub enum Judged {
     Told(bool),
     Refused { fault: LinkFault, line: usize },
@@ -166,7 +168,7 @@ fn judge_alone(records: &[u64], index: TreeIndex) -> Judged
 }
 
 // Whether lines are one reference.
-#[derive(Drop)]
+#[derive(Clone, Copy)]
 pub enum Single {
     One(TreeIndex),
     Several,

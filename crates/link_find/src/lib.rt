@@ -1,6 +1,8 @@
 // Finding things in a tree text by reading it, without tables: a tree by its number, the last line that bears an id, the last question of a name, and
 // whether a tree's ids run 0, -1, -2, .., so that no line need be searched for (01, 'Linking and tables'; 02, Wishes 12 and 13).
 // Every function takes any bytes and any place, also one past the end. A place is an index into the slice.
+#![tactic(auto)]
+
 ghost use Rattle.std.specs.Prelude.{◌≡◌, cond, length};
 ghost use Rattle.written.specs.Bytes.{same};
 ghost use Rattle.laws.specs.Steps.{read};
@@ -20,7 +22,7 @@ use tree_survey::{TreeSurvey, survey_tree};
 use tree_survey_questions::{Patterns, count_patterns};
 
 // A question's name, and where the next question stands; or the last one's; or no question.
-#[derive(Drop)]
+#[derive(Clone, Copy)]
 pub enum NameStep {
     Next {
         start: usize,
@@ -183,7 +185,7 @@ pub fn last_line(s: &[u8], first: usize, key: u64) -> Found
 }
 
 // A line of a tree, or none.
-#[derive(Drop)]
+#[derive(Clone, Copy)]
 pub enum Borne {
     Line(Line),
     Nothing,

@@ -1,11 +1,13 @@
 // Record rows against what a text says: where a reference leads, whether a row is a leaf, a leaf of a number, or a line's own (02, Wish 13). Any rows, any numbers.
+#![tactic(auto)]
+
 ghost use Rattle.std.specs.Prelude.{◌≡◌};
 ghost use Rattle.link_fits.specs.Fits.{nowhere, is_leaf, leaf_of, leads_to, row_fits, leaves_from};
 
 use table_rows::{record_kind, record_no, record_pdf, record_question, record_rows, record_yes};
 
 // Where a reference leads: to a line of the tree, to a leaf of a number, or nowhere.
-#[derive(Drop)]
+#[derive(Clone, Copy)]
 pub enum Target {
     Line(u64),
     Leaf(u64),

@@ -1,5 +1,7 @@
 // Which of so many names, told by where they begin, no question of a text bears: the first of them, by one pass over the questions (02, Wish 12).
 // A name's key, a byte on the stack, saves most comparisons; it is 0 once the name is met. Every function takes any bytes and any places; the questions are those of the text that begins at `at`.
+#![tactic(auto)]
+
 ghost use Rattle.std.specs.Prelude.{◌≡◌, cond, ℕ, ◌<◌, ◌≤◌, length, get_or};
 ghost use Rattle.written.specs.Bytes.{same};
 ghost use Rattle.laws.specs.Steps.{read};

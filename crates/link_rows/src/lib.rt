@@ -1,6 +1,8 @@
 // After model/mod.rs, `convert_tree`: the records of a tree, written where their parts stand (01, 'Linking and tables').
 // The rows of a tree of n lines have four numbers a line, then four a leaf. Before these functions the yes and no of line k stand at
 // 2n + 2k, and the leaves' numbers side by side from 4n on.
+#![tactic(auto)]
+
 ghost use Rattle.std.specs.Prelude.{◌≡◌, ◌+◌, ◌-◌, ◌*◌, ◌≤◌, pos, length, get_or, take, drop};
 ghost use Rattle.std.proofs.lemmas.List.Edits.{sets};
 ghost use Rattle.text_parts.specs.Parts.{nat_of};

@@ -1,5 +1,7 @@
 // Looking up ids, question names and PDF numbers by halves, in tables that `link_sort` has sorted (01, 'Linking and tables':
 // the last line with an id, the last question of a name, the first leaf with a number).
+#![tactic(auto)]
+
 ghost use Rattle.std.specs.Prelude.{◌≡◌, ◌<◌, ◌/◌, leb, ltb, eqb, length};
 ghost use Rattle.written.specs.Bytes.{same};
 ghost use Rattle.link_order.specs.Keys.{id_key, name_key, id_at, name_at};
@@ -10,7 +12,7 @@ ghost use Rattle.link_search.specs.Parted.{Falls, Parted};
 use link_order::{Side, compare_names, id_key, id_of, name_of};
 
 // A row, or none.
-#[derive(Drop)]
+#[derive(Clone, Copy)]
 pub enum Found {
     At(u64),
     Nothing,

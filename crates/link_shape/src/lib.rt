@@ -1,5 +1,7 @@
 // The shape of one tree of a text, as its linking and the walk straight over the text see it: one reference, empty braces, or lines (01, 'Linking and tables'; 02, Wish 12).
 // Every function takes any bytes and any place, also one past the end. A place is an index into the slice.
+#![tactic(auto)]
+
 ghost use Rattle.std.specs.Prelude.{◌≡◌};
 ghost use Rattle.tree_line.specs.Lines.{lines_at};
 ghost use Rattle.tree_body.specs.Trees.{head_at};
@@ -10,7 +12,7 @@ use tree_body::{TreeHead, tree_head};
 use tree_reference::TreeIndex;
 use tree_survey_lines::{LineCount, count_lines};
 
-#[derive(Drop)]
+#[derive(Clone, Copy)]
 pub enum Shape {
     // one reference, for which so many lines are read: none where it stands alone, one where that one's sides are alike
     One { index: TreeIndex, lines: u64 },

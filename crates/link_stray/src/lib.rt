@@ -1,5 +1,7 @@
 // The first line of a tree of which a reference leads nowhere, by reading the tree (01, 'Linking and tables'; 02, Wish 12).
 // Every function takes any bytes and any place, also one past the end. A place is an index into the slice.
+#![tactic(auto)]
+
 ghost use Rattle.std.specs.Prelude.{◌≡◌};
 ghost use Rattle.tree_line.specs.Lines.{line_step_at, lines_at};
 ghost use Rattle.link_find.specs.Find.{Lines};
@@ -11,7 +13,7 @@ use link_search::Found;
 use tree_line::{Line, LineStep, next_line};
 
 // A line that leads nowhere; or one that doesn't, and where the next stands, or that there is none.
-#[derive(Drop)]
+#[derive(Clone, Copy)]
 pub enum Stray {
     Astray,
     Next(usize),

@@ -1,5 +1,7 @@
 // After model/mod.rs, `convert_tree`: what linking reads of the lines in the work, and where references lead (01, 'Linking and tables').
 // Six numbers a line: id; 0 and an id, or 1 and a PDF number, for yes; the same for no; one more than the question's row, or 0 for none.
+#![tactic(auto)]
+
 ghost use Rattle.std.specs.Prelude.{◌≡◌, ◌+◌, ◌*◌, ◌<◌, ◌≤◌, eqb, length, take, drop};
 ghost use Rattle.std.proofs.lemmas.List.Edits.{sets};
 ghost use Rattle.link_order.specs.Keys.{id_key, id_at};

@@ -1,5 +1,7 @@
 // After model/mod.rs, `convert_tree`: the records of one tree out of its lines (01, 'Linking and tables').
 // A tree that is one reference is not for this crate: its record is written by whoever reads the tree.
+#![tactic(auto)]
+
 ghost use Rattle.std.specs.Prelude.{◌≡◌, cond, ◌+◌, ◌*◌, ◌≤◌, length, take, drop};
 ghost use Rattle.std.proofs.lemmas.List.Edits.{sets};
 ghost use Rattle.link_order.specs.Keys.{key_of, id_key, id_at};
@@ -20,14 +22,14 @@ use table_rows::{LINE_NO, LINE_QUESTION, LINE_YES, RECORD_ROW, WORK_A_LINE};
 use text_parts::natural;
 
 // Where a line leads: both records, or what is wrong with it.
-#[derive(Drop)]
+#[derive(Clone, Copy)]
 pub enum Step {
     Goes { yes: u64, no: u64 },
     Fails(LinkFault),
 }
 
 // How linking a tree ends; a line is counted from 0.
-#[derive(Drop)]
+#[derive(Clone, Copy)]
 pub enum Link {
     Done,
     Refused { fault: LinkFault, line: usize },

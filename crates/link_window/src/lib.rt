@@ -1,6 +1,8 @@
 // The linking of one tree by reading its text, without tables or work, and quickly: the first line with a fault (01, 'Linking and tables'; 02, Wish 12).
 // A question is looked for in the text for 40 lines at a time, their names' places and a byte of each name on the stack: reading the questions once for each line
 // would take lines times questions. Every function takes any bytes and any place, also one past the end. A place is an index into the slice; the questions are those of the text that begins at `at`.
+#![tactic(auto)]
+
 ghost use Rattle.std.specs.Prelude.{◌≡◌, ◌<◌, length, set};
 ghost use Rattle.tree_line.specs.Lines.{lines_at};
 ghost use Rattle.tree_question.specs.Questions.{questions_at};
@@ -22,21 +24,21 @@ use tree_reference::TreeIndex;
 const WINDOW: usize = 40;
 
 // Whether a tree links, or at which line it doesn't.
-#[derive(Drop)]
+#[derive(Clone, Copy)]
 pub enum Linking {
     Whole,
     Refused { fault: LinkFault, line: usize },
 }
 
 // Whether more lines follow those whose names were taken, or how many were taken in all.
-#[derive(Drop)]
+#[derive(Clone, Copy)]
 pub enum Filled {
     More(usize),
     All(usize),
 }
 
 // A window of lines: one that asks for a question that isn't there, or where the next window begins, or that there is none.
-#[derive(Drop)]
+#[derive(Clone, Copy)]
 pub enum Window {
     Missing(u64),
     Next(usize),

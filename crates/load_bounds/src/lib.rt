@@ -1,4 +1,6 @@
 // A task's bounds in tables that two share (02, Wish 9): five counts. Where its rows stand, what a plan needs, whether two tasks' rows stand beside each other. Any numbers.
+#![tactic(auto)]
+
 ghost use Rattle.std.specs.Prelude.{◌≡◌, ◌+◌, ◌*◌, ◌/◌, ◌≤◌, ◌<◌, ◌^◌, leb};
 ghost use Rattle.written.specs.Sharing.{nothing, first_row, holds};
 ghost use Rattle.load_bounds.specs.Bounds.{side_of, held_of, need_of, stands_at, Cut};
@@ -7,7 +9,7 @@ use load_plan::Plan;
 use table_rows::{PATTERN_ROW, QUESTION_ROW, RECORD_ROW, TREE_ROW};
 
 // A task's bounds: the rows that it holds of each table, and the values. All 0: it holds nothing.
-#[derive(Drop)]
+#[derive(Clone, Copy)]
 pub struct Held {
     pub questions: usize,
     pub patterns: usize,
@@ -38,7 +40,7 @@ fn first_row(top: bool, rows: usize, n: usize) -> usize
 }
 
 // A part of a table: from one number up to another.
-#[derive(Drop)]
+#[derive(Clone, Copy)]
 pub struct Part {
     pub from: usize,
     pub to: usize,

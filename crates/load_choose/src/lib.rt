@@ -1,6 +1,8 @@
 // After parser/mod.rs, `parse_data_section` up to `parse_model`: which model is asked for, where its tree and PDF stand, and how wide it is, in 01's order
 // (16 for the record, 13, 14, 15, the width's limit). Groups are found last-wins, since a record that no opening made may name one twice; no number wraps.
 //
+#![tactic(auto)]
+
 ghost use Rattle.std.specs.Prelude.{◌≡◌, true, cond, ◌+◌, ◌*◌, ◌≤◌, ◌<◌, length};
 ghost use Rattle.written.specs.Bytes.{same};
 ghost use Rattle.text_parts.specs.Parts.{bytes_of};
@@ -22,14 +24,14 @@ use load_range::{WIDTH_LIMIT, product};
 use text_parts::{Span, same_part};
 
 // The model asked for; a stream by its number in STREAM_TYPE.
-#[derive(Drop)]
+#[derive(Clone, Copy)]
 pub enum Which {
     Duration,
     Stream(usize),
     Gv(usize),
 }
 
-#[derive(Drop)]
+#[derive(Clone, Copy)]
 pub enum Chosen {
     // ranges of the data, each end included, and the numbers in an entry
     Model {

@@ -1,4 +1,6 @@
 // After model/mod.rs, `convert_tree`: the lines of a tree, out of the text into the work (01, 'Linking and tables').
+#![tactic(auto)]
+
 ghost use Rattle.std.specs.Prelude.{◌≡◌, ◌+◌, ◌*◌, ◌≤◌, ◌<◌, ◌^◌, length};
 ghost use Rattle.std.proofs.lemmas.List.Edits.{sets};
 ghost use Rattle.link_order.specs.Keys.{name_key, name_at};

@@ -1,5 +1,7 @@
 // After model/mod.rs, `parse_model`: a planned model into the lent tables, all or nothing (01, 'Linking and tables'): rows and linking (21 to 23), which leave every
 // table and the work zero where they refuse. Takes tables of any length that have room; `load_shared` cuts them to the rows needed.
+#![tactic(auto)]
+
 ghost use Rattle.std.specs.Prelude.{◌≡◌, true, ◌+◌, ◌*◌, ◌<◌, ◌^◌, length};
 ghost use Rattle.std.proofs.lemmas.List.Edits.{sets};
 ghost use Rattle.pdf_blocks.specs.Values.{values_at};
@@ -16,7 +18,7 @@ use table_put::zero;
 use text_parts::up_to;
 
 // The rows needed of each table, and the values; or the refusal.
-#[derive(Drop)]
+#[derive(Clone, Copy)]
 pub enum Loaded {
     Done {
         questions: usize,

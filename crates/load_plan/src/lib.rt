@@ -1,5 +1,7 @@
 // The stages of a load before its tables are looked at (01, 'Order when loading a model'): which model, then tree 16, 17, 18, PDF 16, 19; and what
 // the model needs of each table. Nothing lent is written here, so that builders can size their tables by it.
+#![tactic(auto)]
+
 ghost use Rattle.std.specs.Prelude.{◌≡◌, ◌≤◌, length};
 ghost use Rattle.head_words.specs.Words.{header_at};
 ghost use Rattle.load_plan.specs.Plans.{text_of, entries_of, block_of, plan_of, data_of, planned};
@@ -14,7 +16,7 @@ use tree_survey::{Trees, survey_trees};
 use tree_survey_questions::{Questions, survey_questions};
 
 // What a tree text needs; `first` is where its first tree stands.
-#[derive(Drop)]
+#[derive(Clone, Copy)]
 pub enum Text {
     Read {
         first: usize,
@@ -30,7 +32,7 @@ pub enum Text {
 // Where a model stands in the data, and the rows that it needs: the tree text from `text` up to `text_end`, its trees from `first` on, the PDF block from
 // `block` up to `block_end`; `lines` are those of its longest tree, `entries` those of all trees, of `width` values each.
 #[repr(C)]
-#[derive(Drop)]
+#[derive(Clone, Copy)]
 pub struct Plan {
     pub text: usize,
     pub text_end: usize,
@@ -46,7 +48,7 @@ pub struct Plan {
     pub entries: u64,
 }
 
-#[derive(Drop)]
+#[derive(Clone, Copy)]
 pub enum Planned {
     Model(Plan),
     Refused(Refusal),

@@ -1,6 +1,8 @@
 // After model/mod.rs, `parse_questions`: the question rows and the pattern rows of a tree text, into lent tables (01, 'Linking and tables').
 // Question rows: any bytes and any place; a text that doesn't fit gives the rows of the questions before the fault. Pattern rows: questions that can be
 // read, so that no pattern is counted once more before it is stored.
+#![tactic(auto)]
+
 ghost use Rattle.std.specs.Prelude.{◌≡◌, ◌+◌, ◌*◌, ◌≤◌, length};
 ghost use Rattle.std.proofs.lemmas.List.Edits.{sets};
 ghost use Rattle.laws.specs.Steps.{read};
@@ -17,7 +19,7 @@ use tree_question::{
 use tree_survey_questions::{Patterns, count_patterns};
 
 // A question: its name, where its first pattern stands, how many it has; and where the next question stands, if one follows.
-#[derive(Drop)]
+#[derive(Clone, Copy)]
 enum QuestionRow {
     Next {
         start: usize,

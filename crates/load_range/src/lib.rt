@@ -1,9 +1,11 @@
 // A range in the data, and a product up to the limit of an entry's width (01, 'Limits'): no number wraps.
+#![tactic(auto)]
+
 ghost use Rattle.std.specs.Prelude.{◌≡◌, ◌*◌, min};
 ghost use Rattle.load_range.specs.Ranges.{within_of};
 
 // Bytes of the data from `start` up to `end`.
-#[derive(Drop)]
+#[derive(Clone, Copy)]
 pub enum Bounds {
     Inside { start: usize, end: usize },
     Outside,

@@ -2,6 +2,8 @@
 // have exactly the rows that it needs, so that filling in front and zeroing whole slices touch nothing else. Stages of a load in 01's order: what the model needs
 // (`load_plan`: 16, 13 to 15, 12, 16 to 19), whether the rows fit beside the other task's (20), then rows and linking (21 to 23). Takes any bytes, any record,
 // any bounds and tables of any length.
+#![tactic(auto)]
+
 ghost use Rattle.std.specs.Prelude.{◌≤◌, length};
 ghost use Rattle.head_words.specs.Words.{header_at};
 ghost use Rattle.load_plan.specs.Plans.{Sound};

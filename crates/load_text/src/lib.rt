@@ -1,6 +1,8 @@
 // After model/mod.rs, `parse_model`: the rows of a whole tree text, linked, into lent tables; all or nothing (01, 'Linking and tables').
 // An index of the question names stands in front of the pattern table until the pattern rows are written: a question has a pattern at least.
 //
+#![tactic(auto)]
+
 ghost use Rattle.std.specs.Prelude.{◌≡◌, ◌≤◌, length, replicate};
 ghost use Rattle.std.proofs.lemmas.List.Edits.{sets};
 ghost use Rattle.load_text.specs.Text.{Fits, name_index, TextLinked, TextFilled};

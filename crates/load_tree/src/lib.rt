@@ -1,5 +1,7 @@
 // After model/mod.rs, `convert_tree`: the records of one tree of the text, into its part of the record table (01, 'Linking and tables').
 // A lone reference, or one braced line with equal references, is a bare leaf if it is a PDF.
+#![tactic(auto)]
+
 ghost use Rattle.std.specs.Prelude.{◌≡◌, [], ◌∷◌, ◌+◌, ◌*◌, ◌≤◌, ◌<◌, ◌^◌, length};
 ghost use Rattle.std.proofs.lemmas.List.Edits.{sets};
 ghost use Rattle.laws.specs.Steps.{done_at};
@@ -21,14 +23,14 @@ use tree_reference::{TreeIndex, same_index};
 use tree_survey_lines::LineCount;
 
 // How a tree ends: with so many records, and the lines of its row; or refused, at a line.
-#[derive(Drop)]
+#[derive(Clone, Copy)]
 pub enum Filled {
     Done { records: usize, lines: usize },
     Refused { fault: LinkFault, line: usize },
 }
 
 // How a tree ends, and the place past its body.
-#[derive(Drop)]
+#[derive(Clone, Copy)]
 pub struct TreeFill {
     pub filled: Filled,
     pub next: usize,
@@ -55,7 +57,7 @@ pub fn fill_leaf(records: &mut [u64], first: usize, index: TreeIndex) -> Filled
 }
 
 // Whether a tree of so many lines is one reference.
-#[derive(Drop)]
+#[derive(Clone, Copy)]
 pub enum Single {
     One(TreeIndex),
     Several,

@@ -2,6 +2,8 @@
 // (01, 'Linking and tables'). The first tree that linking refuses ends it. The text is known to be in the grammar, so that no tree is surveyed once more
 // before it is filled.
 //
+#![tactic(auto)]
+
 ghost use Rattle.std.specs.Prelude.{◌≡◌, ◌+◌, ◌*◌, ◌≤◌, ◌<◌, ◌^◌, length};
 ghost use Rattle.std.proofs.lemmas.List.Edits.{sets};
 ghost use Rattle.laws.specs.Totals.{total, largest};
@@ -19,7 +21,7 @@ use text_parts::natural;
 use tree_body::{TreeHead, TreeStep, after_tree, tree_head};
 
 // How linking ends: all trees have their records; or the first that is refused, and the line.
-#[derive(Drop)]
+#[derive(Clone, Copy)]
 pub enum Linked {
     Done,
     Refused {
@@ -30,7 +32,7 @@ pub enum Linked {
 }
 
 // What follows a tree that was filled: another tree, where this one has so many records; or linking ends.
-#[derive(Drop)]
+#[derive(Clone, Copy)]
 enum Following {
     Tree { at: usize, records: usize },
     End(Linked),

@@ -1,4 +1,6 @@
 // Unloading (02, Wish 9): zeros in one task's rows, and nothing else. Any bounds, tables of any length.
+#![tactic(auto)]
+
 ghost use Rattle.std.specs.Prelude.{◌≡◌, ◌-◌, ◌≤◌, length, replicate};
 ghost use Rattle.std.proofs.lemmas.List.Edits.{sets};
 ghost use Rattle.load_bounds.specs.Bounds.{side_of, held_of};

@@ -1,5 +1,7 @@
 // The models of a voice, one after the other, and the text of each, without its block and its width (02, Wishes 7 and 11): 16 for the record, 13 to 15, tree 16,
 // 17, 18. Nothing lent is written.
+#![tactic(auto)]
+
 ghost use Rattle.std.specs.Prelude.{◌≡◌, true, ◌≤◌, ◌<◌, length};
 ghost use Rattle.head_record_fits.specs.Fits.{record_fits};
 ghost use Rattle.head_words.specs.Words.{header_at};
@@ -12,14 +14,14 @@ use load_plan::{Text, data_of, read_text};
 use load_range::{Bounds, within};
 use text_parts::up_to;
 
-#[derive(Drop)]
+#[derive(Clone, Copy)]
 pub enum NextModel {
     Model(Which),
     End,
 }
 
 // A model's tree text: from `text` up to `text_end` of the data, its trees from `first` on.
-#[derive(Drop)]
+#[derive(Clone, Copy)]
 pub enum VoiceText {
     Read {
         text: usize,

@@ -1,12 +1,14 @@
 // After voice/model.rs, `from_linear`, and the blocks of model/mod.rs, `parse_model`: PDF blocks (01, 'PDF blocks').
 // The block runs from `at` to the end of the slice: a 32-bit count a tree, then the entries of each tree, `width` binary32 each, little-endian.
 //
+#![tactic(auto)]
+
 ghost use Rattle.std.specs.Prelude.{◌≡◌, cond, ◌+◌, ◌*◌, ◌≤◌, ◌<◌, ◌^◌, leb, eqb, length};
 ghost use Rattle.written.specs.Blocks.{total};
 ghost use Rattle.pdf_blocks.specs.Values.{word_at, words_at, block_at};
 
 // Whether a block is used up exactly, and its entries.
-#[derive(Drop)]
+#[derive(Clone, Copy)]
 pub enum Block {
     Fits { entries: u64 },
     Wrong,

@@ -1,5 +1,7 @@
 // After voice/model.rs, `from_linear`: what a PDF block says of each tree, into the rows of the trees, and its values (01, 'PDF blocks'; 02, Wish 10).
 // Value i of an entry pairs with value i + half: mean, variance, mean, variance, ..; an odd last one is msd.
+#![tactic(auto)]
+
 ghost use Rattle.std.specs.Prelude.{◌≡◌, ◌+◌, ◌*◌, ◌/◌, ◌%◌, ◌≤◌, ◌<◌, length};
 ghost use Rattle.std.proofs.lemmas.List.Edits.{sets};
 ghost use Rattle.written.specs.Blocks.{total, rows_from};

@@ -1,4 +1,6 @@
 // The exact widening of a binary32 pattern to a binary64 pattern, by integer arithmetic.
+#![tactic(auto)]
+
 ghost use Rattle.std.specs.Prelude.{◌≡◌, ◌<◌, ◌*◌, ◌^◌};
 ghost use Rattle.written.specs.Interchange.{join};
 ghost use Rattle.pdf_widen.specs.Widening.{widen_of};

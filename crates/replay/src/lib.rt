@@ -1,5 +1,7 @@
 // What the replaying programs share: lines of a text as hex and the numbers that are to be said of it, and how a count is said.
 //
+#![tactic(auto)]
+
 ghost use Rattle.std.specs.Prelude.{◌≤◌, ◌<◌, length};
 
 use libc::STDOUT_FILENO;
@@ -7,7 +9,7 @@ use text_numbers::{Signed, Unsigned, parse_signed, parse_unsigned};
 use text_spaces::{Place, past_byte};
 
 // Where the next of a line's numbers stands, and whether all so far were as stored.
-#[derive(Drop)]
+#[derive(Clone, Copy)]
 pub struct Stored {
     pub at: usize,
     pub same: bool,
@@ -79,7 +81,7 @@ fn two(high: u8, low: u8) -> u8 {
 }
 
 // The text of a line, and where the numbers begin.
-#[derive(Drop)]
+#[derive(Clone, Copy)]
 pub struct Text {
     pub len: usize,
     pub at: usize,

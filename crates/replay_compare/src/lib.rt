@@ -1,4 +1,6 @@
 // The two leaves that a public document defines, exported to C, so that the built code can be held against another one's (judge/compare/leaves).
+#![tactic(auto)]
+
 ghost use Rattle.std.specs.Prelude.{◌≡◌, length};
 ghost use Rattle.pdf_widen.specs.Widening.{widen_of};
 ghost use Rattle.text_utf8.specs.Check.{check_of};

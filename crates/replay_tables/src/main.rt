@@ -2,6 +2,8 @@
 // records and walks, or 1, questions, trees, records, values, width and the answer, 1 for yes. A table is its length and its
 // numbers; a walk is tree, answer bytes and limit, and then number, PDF number and questions asked.
 // Assumes that the input fits 65,536 bytes, a table 256 numbers and the answer bytes 64; what doesn't fit differs.
+#![tactic(auto)]
+
 ghost use Rattle.std.specs.Prelude.{◌≤◌};
 ghost use Rattle.io.specs.Counts.{IsPrefixLen};
 
@@ -13,21 +15,21 @@ use walk::{Walked, walk};
 use walk_leaves::leaves_fit;
 
 // A number of the input, and the place behind it.
-#[derive(Drop)]
+#[derive(Clone, Copy)]
 struct Taken {
     value: u64,
     next: usize,
 }
 
 // How many numbers were put into a table, and the place behind them.
-#[derive(Drop)]
+#[derive(Clone, Copy)]
 struct Filled {
     count: usize,
     next: usize,
 }
 
 // The place reached, how many answers were given, and how many of them differ.
-#[derive(Drop)]
+#[derive(Clone, Copy)]
 struct Tally {
     next: usize,
     given: usize,

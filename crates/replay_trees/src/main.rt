@@ -1,6 +1,8 @@
 // Replays stored answers on tree texts: a line is a text as hex, and then the numbers that are to be said of it (judge/README.md, `trees`).
 // It reads them from standard input, surveys each text, reads it again item by item as a load does, and says how many lines there are and how many differ.
 // Assumes that the lines fit its room, and a text 4,096 bytes; a line that doesn't differs.
+#![tactic(auto)]
+
 ghost use Rattle.std.specs.Prelude.{◌<◌, length};
 
 use libc::STDIN_FILENO;
@@ -31,7 +33,7 @@ fn one_line(c: Stored, s: &[u8], line: Line) -> Stored {
 }
 
 // A cursor in the text, and beside it the one in what is stored.
-#[derive(Drop)]
+#[derive(Clone, Copy)]
 struct Both {
     at: usize,
     stored: Stored,
@@ -233,7 +235,7 @@ fn replay_room(s: &[u8], at: usize, room: &[u8; 4096], n: usize) -> bool {
     }
 }
 
-#[derive(Drop)]
+#[derive(Clone, Copy)]
 struct Tally {
     cases: usize,
     differ: usize,

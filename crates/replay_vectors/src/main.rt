@@ -1,6 +1,8 @@
 // Replays the vectors of the public documents and of the scope on the lowest crates: a line is a text as hex, and then what is to be said of it (judge/README.md, `leaves`):
 // where its first bad UTF-8 sequence stands, its number without and with a sign, the class and the tests of its first byte, and the double of its first four bytes.
 // Assumes that the lines fit its room, and a text 4,096 bytes; a line that doesn't differs.
+#![tactic(auto)]
+
 ghost use Rattle.std.specs.Prelude.{◌<◌, length};
 
 use libc::STDIN_FILENO;
@@ -111,7 +113,7 @@ fn replay_room(s: &[u8], at: usize, room: &[u8; 4096], n: usize) -> bool {
     }
 }
 
-#[derive(Drop)]
+#[derive(Clone, Copy)]
 struct Tally {
     cases: usize,
     differ: usize,

@@ -1,1 +1,3 @@
 // [STREAM] answers as `written` says: its groups and their limits. No code.
+
+#![tactic(auto)]

@@ -1,4 +1,6 @@
 // Rows stored in lent tables, and tables made zero (01, 'Linking and tables'; 02, Wish 10).
+#![tactic(auto)]
+
 ghost use Rattle.std.specs.Prelude.{◌≡◌, [], ◌∷◌, ◌+◌, ◌*◌, ◌≤◌, length, replicate, pos};
 ghost use Rattle.std.proofs.lemmas.List.Edits.{sets};
 

@@ -200,6 +200,7 @@ flat_at w (r ∷ rows) f j here h =
 flat_at w (x ∷ rows) f {k = suc k} j (there n) h =
     let e : w * suc k + j ≡ length x + (w * k + j) = omega (arith, f 0 x here) in
     ap (λ (n : ℕ). get_or (x ++ flatten rows) n 0) e ∙ get_or-append-add x (flatten rows) (w * k + j) 0 ∙ flat_at w rows (wide_rest f) j n h
+flat_at w [] f {k = k} {r = r} j x3 h = elim x3 [ ]
 
 -- rows of w numbers that stand in a flat table from its row `first` on: each row inside it, number by number
 pub record Flat (w : ℕ) (R : List ℕ) (first : ℕ) (rows : List Row) : Type 0 where

@@ -1,6 +1,8 @@
 // The rows of lent tables, read by name (01, 'Linking and tables'; 02, Wish 10): question (name start, length, first pattern, patterns), pattern (start, length),
 // tree (state, first record, records, lines, first value, entries), record (0, question, yes, no) or (1, PDF number, 0, 0). A table has length div width rows; a rest is never read.
 // What reads a row requires that it stands in its table, which `tree_there` and `record_there` tell.
+#![tactic(auto)]
+
 ghost use Rattle.std.specs.Prelude.{◌≡◌, ◌+◌, ◌<◌, ltb};
 ghost use Rattle.table_rows.specs.Rows.{question_rows, pattern_rows, tree_rows, record_rows, question_there, question_start, question_len, question_first, question_patterns, pattern_start, pattern_len, tree_there, tree_state, tree_lines, record_there, records_in, tree_first, tree_records, tree_value, tree_entries, record_kind, record_question, record_pdf, record_yes, record_no};
 

@@ -1,5 +1,7 @@
 // After base.rs: classes of bytes, blanks, runs (01, 'Tree text'); numbers and patterns are in `text_numbers`. Not its `&str` twin.
 // Every function takes any bytes and any place, also one past the end. A place is an index into the slice.
+#![tactic(auto)]
+
 ghost use Rattle.std.specs.Prelude.{◌≡◌, ◌+◌, ◌<◌, ◌≤◌, length, ◌==◌, nat_lt};
 ghost use Rattle.written.specs.Bytes.{letter, digit, in_pattern, in_word, blank, space_or_tab, in_name, is_newline, byte_at};
 ghost use Rattle.laws.specs.Runs.{stop};
@@ -31,7 +33,7 @@ const USUAL_LOW: u64 = 0x27FF_AC00_0000_0000;
 const USUAL_HIGH: u64 = 0x17FF_FFFE_C7FF_FFFF;
 
 // 01's classes.
-#[derive(Drop)]
+#[derive(Clone, Copy)]
 pub enum Class {
     Letter,
     Digit,

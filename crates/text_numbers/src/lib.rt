@@ -1,12 +1,14 @@
 // After base.rs: decimal numbers, patterns, and comparing two byte strings (01, 'Tree text').
 // Every function takes any bytes and any place, also one past the end. A place is an index into the slice.
+#![tactic(auto)]
+
 ghost use Rattle.std.specs.Prelude.{◌≡◌, ◌≤◌, ◌<◌, ◌^◌, leb, ltb, pos, neg_ℤ};
 ghost use Rattle.text_numbers.specs.Answers.{unsigned_from, unsigned_at, signed_of, signed_at, pattern_of, pattern_at};
 
 use text_base::{byte_at, is_digit, pattern_end};
 
 // What decimal digits say.
-#[derive(Drop)]
+#[derive(Clone, Copy)]
 pub enum Unsigned {
     Number { value: u64, next: usize },
     // 2^64 or more
@@ -15,7 +17,7 @@ pub enum Unsigned {
 }
 
 // What decimal digits, perhaps after -, say.
-#[derive(Drop)]
+#[derive(Clone, Copy)]
 pub enum Signed {
     Number { value: i64, next: usize },
     // no digits, or a number that doesn't fit 64 bits
@@ -23,7 +25,7 @@ pub enum Signed {
 }
 
 // A pattern, without its quotes.
-#[derive(Drop)]
+#[derive(Clone, Copy)]
 pub enum Pattern {
     Found {
         start: usize,

@@ -1,12 +1,14 @@
 // Parts of slices, and what is asked of them everywhere: cut as far as there are bytes (`part_of`, `up_to`), whole or not at all (`part_inside`), compared byte by byte.
 // Any bytes, any numbers.
+#![tactic(auto)]
+
 ghost use Rattle.std.specs.Prelude.{◌≡◌, take};
 ghost use Rattle.written.specs.Bytes.{part, same};
 ghost use Rattle.text_parts.specs.Parts.{bytes_of, part_inside, nat_of};
 
 // A part of the file.
 #[repr(C)]
-#[derive(Drop)]
+#[derive(Clone, Copy)]
 pub struct Span {
     pub start: usize,
     pub len: usize,

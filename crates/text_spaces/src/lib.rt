@@ -1,5 +1,7 @@
 // After base.rs, `sp` and `sp1`, and what the readers build of them: a name between blanks, what parts two items, what closes braces (01, 'Tree text').
 // Every function takes any bytes and any place, also one past the end. A place is an index into the slice.
+#![tactic(auto)]
+
 ghost use Rattle.std.specs.Prelude.{◌≡◌};
 ghost use Rattle.written.specs.Bytes.{blank};
 ghost use Rattle.laws.specs.Runs.{stop};
@@ -8,14 +10,14 @@ ghost use Rattle.text_spaces.specs.Spaces.{past_byte, name_of, name_at, newline_
 use text_base::{blank_end, byte_at, name_end, space_or_tab_end};
 
 // Where reading goes on, if what was looked for stands there.
-#[derive(Drop)]
+#[derive(Clone, Copy)]
 pub enum Place {
     At(usize),
     Nowhere,
 }
 
 // The name of a question, and the place past the blanks behind it.
-#[derive(Drop)]
+#[derive(Clone, Copy)]
 pub enum Name {
     Found {
         start: usize,

@@ -1,10 +1,12 @@
 // Whether bytes are UTF-8, by RFC 3629, and where the first bad sequence starts.
+#![tactic(auto)]
+
 ghost use Rattle.std.specs.Prelude.{◌≡◌, cond, [], ◌∷◌, ◌+◌, ◌<◌, ◌≤◌, length, drop};
 ghost use Rattle.written.specs.Rfc3629.{◌⋯◌, tail, table};
 ghost use Rattle.text_utf8.specs.Widths.{starts, width};
 ghost use Rattle.text_utf8.specs.Check.{check_of};
 
-#[derive(Drop)]
+#[derive(Clone, Copy)]
 pub enum Answer {
     Valid,
     // the place where the first bad sequence starts

@@ -1,12 +1,14 @@
 // The rows of a trailer at a file's end (02, Wish 7): where they begin and how many there are, by the last 12 bytes; and those of one model. A row is three 32-bit
 // numbers, little-endian: the model, the offset of the tree's `{*}` from the first data byte, the lines of its row. Any bytes; only the rows and the last 12 are read.
+#![tactic(auto)]
+
 ghost use Rattle.std.specs.Prelude.{◌≡◌, ◌+◌, ◌*◌, ◌≤◌, length};
 ghost use Rattle.trail_find.specs.Rows.{trail_at, offsets_at, nth_of};
 
 use link_search::Found;
 use pdf_blocks::word;
 
-#[derive(Drop)]
+#[derive(Clone, Copy)]
 pub enum Trail {
     Rows { begin: usize, count: usize },
     // 26: there are fewer than 12 data bytes

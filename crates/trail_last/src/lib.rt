@@ -1,4 +1,6 @@
 // The end of a trailer (02, Wish 7): whether there is room for one, the three numbers behind its rows, and whether a file's last four bytes are the sum of every earlier one.
+#![tactic(auto)]
+
 ghost use Rattle.std.specs.Prelude.{◌≡◌, [], ◌∷◌, ◌++◌, ◌+◌, ◌*◌, ◌≤◌, length, take};
 ghost use Rattle.std.proofs.lemmas.List.Edits.{sets};
 ghost use Rattle.written.specs.Blocks.{little_endian};

@@ -1,5 +1,7 @@
 // One tree of a text and all questions of it (02, Wish 7), linked, into lent tables; all or nothing, as `load_text` does it for all trees. The text is uncut: the
 // tree is read where its row says that it stands.
+#![tactic(auto)]
+
 ghost use Rattle.std.specs.Prelude.{length};
 ghost use Rattle.trail_link.specs.One.{Fits, OneLinked, OneFilled};
 

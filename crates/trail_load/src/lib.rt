@@ -1,6 +1,8 @@
 // One tree of a model loaded through a trailer (02, Wish 7) into one task's rows (02, Wish 9), all or nothing: all questions and patterns, one tree row, the tree's
 // records and the values of its entries. Stages: what the tree needs (`trail_plan`), whether the rows fit beside the other task's (20), then rows and linking (21 to 23).
 // Any bytes, any record, any bounds and tables of any length.
+#![tactic(auto)]
+
 ghost use Rattle.std.specs.Prelude.{◌≡◌, true, ◌≤◌, length};
 ghost use Rattle.std.proofs.lemmas.List.Edits.{sets};
 ghost use Rattle.pdf_blocks.specs.Values.{values_at};

@@ -1,5 +1,7 @@
 // One tree of a model reached through a trailer's rows (02, Wish 7): the stages before tables are looked at, and what the tree needs of each table. Read are the last
 // 12 bytes, the rows, the model's questions, that tree and the counts of the block; no other tree. Nothing lent is written. Any bytes, any record, any numbers.
+#![tactic(auto)]
+
 ghost use Rattle.std.specs.Prelude.{◌≡◌, cond, ◌+◌, ◌*◌, ◌≤◌, ◌<◌, ◌^◌, length};
 ghost use Rattle.written.specs.Blocks.{total};
 ghost use Rattle.pdf_blocks.specs.Values.{words_at};

@@ -1,5 +1,7 @@
 // The rows that a trailer has for the trees of one text (02, Wish 7): the model's number, the offset of the tree's {*} from the first data byte, the lines of
 // its row. The text is a prefix of the data, its trees are read from `at` on, up to its end or to what can't be read. A place is an index into the slice.
+#![tactic(auto)]
+
 ghost use Rattle.std.specs.Prelude.{◌≡◌, [], ◌∷◌, ◌+◌, ◌*◌, ◌≤◌, length};
 ghost use Rattle.std.proofs.lemmas.List.Edits.{sets};
 ghost use Rattle.written.specs.Blocks.{little_endian};
@@ -18,7 +20,7 @@ use tree_survey::{TreeSurvey, survey_tree};
 const ROW: usize = 12;
 
 // The lines of a tree's row, and where the next tree stands; or the text's last tree; or none that can be read.
-#[derive(Drop)]
+#[derive(Clone, Copy)]
 pub enum RowStep {
     Next { lines: u64, next: usize },
     Last { lines: u64 },

@@ -1,5 +1,7 @@
 // The rows that a trailer has for a whole voice (02, Wish 7): model by model, the trees of each text in order. All texts are judged and their trees counted
 // before a row is stored or compared.
+#![tactic(auto)]
+
 ghost use Rattle.std.specs.Prelude.{◌≡◌, true, ◌+◌, ◌*◌, ◌≤◌, length};
 ghost use Rattle.std.proofs.lemmas.List.Edits.{sets};
 ghost use Rattle.written.specs.Blocks.{little_endian};
@@ -20,14 +22,14 @@ use trail_rows::{put_rows, same_rows};
 const ROW: usize = 12;
 
 // The trees of all models; or why a text has none.
-#[derive(Drop)]
+#[derive(Clone, Copy)]
 pub enum VoiceTrees {
     Trees(usize),
     Refused(Refusal),
 }
 
 // Whether the rows of a model stand in a file, and the place behind them.
-#[derive(Drop)]
+#[derive(Clone, Copy)]
 enum Compared {
     Same(usize),
     Other,

@@ -2,6 +2,8 @@
 // `{*}`, `[state]` with blanks around it, then one reference, or `{` lines `}` with possibly no line. Lines are read by `tree_line`.
 // A caller reads in order: `tree_head`; where it has lines, these up to the last; then `after_tree`.
 // Every function takes any bytes and any place, also one past the end. A place is an index into the slice.
+#![tactic(auto)]
+
 ghost use Rattle.std.specs.Prelude.{◌≡◌};
 ghost use Rattle.tree_body.specs.Trees.{past_star, number_at, state_at, body_at, head_at, after_tree};
 
@@ -11,7 +13,7 @@ use text_spaces::{Place, past_brace, past_byte, past_parting};
 use tree_reference::{Reference, TreeIndex, parse_tree_index};
 
 // A tree's state and what its body is: a reference alone, braces with no line, or braces whose first line stands at `first`.
-#[derive(Drop)]
+#[derive(Clone, Copy)]
 pub enum TreeHead {
     Lone {
         state: i64,
@@ -30,7 +32,7 @@ pub enum TreeHead {
 }
 
 // What follows a tree: where the next one stands, the end of the text, or a byte that is neither.
-#[derive(Drop)]
+#[derive(Clone, Copy)]
 pub enum TreeStep {
     Next(usize),
     End,

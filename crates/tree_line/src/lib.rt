@@ -1,6 +1,8 @@
 // After model/tree.rs, `parse_node`: the lines of a tree (01, 'Tree text'). Id, question name, no reference, yes reference: on the page no stands before yes.
 // A caller reads the lines of a tree in order, by `next_line` from the place of the first up to the last.
 // Every function takes any bytes and any place, also one past the end. A place is an index into the slice.
+#![tactic(auto)]
+
 ghost use Rattle.std.specs.Prelude.{◌≡◌};
 ghost use Rattle.tree_line.specs.Lines.{branches_at, yes_at, line_at, after_line, line_step_at};
 
@@ -10,7 +12,7 @@ use text_spaces::{Name, Place, line_parting, name_between, past_byte};
 use tree_reference::{Reference, TreeIndex, parse_tree_index};
 
 // A line; `start` and `len` say where its question's name stands.
-#[derive(Drop)]
+#[derive(Clone, Copy)]
 pub struct Line {
     pub id: i64,
     pub start: usize,
@@ -20,7 +22,7 @@ pub struct Line {
 }
 
 // The two references of a line, no and yes.
-#[derive(Drop)]
+#[derive(Clone, Copy)]
 pub enum Branches {
     Found {
         no: TreeIndex,
@@ -30,14 +32,14 @@ pub enum Branches {
     NoBranches,
 }
 
-#[derive(Drop)]
+#[derive(Clone, Copy)]
 pub enum ReadLine {
     Found { line: Line, next: usize },
     NoLine,
 }
 
 // A line, and where the next one stands; or the tree's last, and the place past its `}`.
-#[derive(Drop)]
+#[derive(Clone, Copy)]
 pub enum LineStep {
     Next { line: Line, next: usize },
     Last { line: Line, next: usize },

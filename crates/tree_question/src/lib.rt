@@ -1,6 +1,8 @@
 // After model/question.rs: the questions of a tree text (01, 'Tree text'). `QS`, blanks, a name, blanks, `{`, patterns parted by commas, `}`.
 // A caller reads in order: `first_item`; for each question its `question_head`, then `next_pattern` up to the last, then `after_question`.
 // Every function takes any bytes and any place, also one past the end. A place is an index into the slice.
+#![tactic(auto)]
+
 ghost use Rattle.std.specs.Prelude.{◌≡◌};
 ghost use Rattle.tree_question.specs.Questions.{past_qs, starts_question, head_at, after_pattern, pattern_step_at, item_at, after_question};
 
@@ -9,7 +11,7 @@ use text_numbers::{Pattern, parse_pattern};
 use text_spaces::{Name, Place, name_between, past_brace, past_byte, past_parting};
 
 // A question's name, and where its first pattern stands.
-#[derive(Drop)]
+#[derive(Clone, Copy)]
 pub enum QuestionHead {
     Named {
         start: usize,
@@ -20,7 +22,7 @@ pub enum QuestionHead {
 }
 
 // A pattern, without its quotes, and where the next one stands; or the question's last, and the place past its `}`.
-#[derive(Drop)]
+#[derive(Clone, Copy)]
 pub enum PatternStep {
     Next {
         start: usize,
@@ -36,7 +38,7 @@ pub enum PatternStep {
 }
 
 // Where the next question stands, or where the first tree does.
-#[derive(Drop)]
+#[derive(Clone, Copy)]
 pub enum Item {
     Question(usize),
     Tree(usize),

@@ -1,6 +1,8 @@
 // After model/tree.rs, `parse_tree_index`: references (01, 'Tree text').
 // A reference is bare or in `"`: a number that fits signed 64 bits is a node; failing that, letters, digits and `_` are a PDF, by the digits at their end.
 // Every function takes any bytes and any place, also one past the end. A place is an index into the slice.
+#![tactic(auto)]
+
 ghost use Rattle.std.specs.Prelude.{◌≡◌};
 ghost use Rattle.tree_reference.specs.declared.Reference.TheVariants.{Found};
 ghost use Rattle.tree_reference.specs.References.{pdf_of, pdf_at, bare_at, quoted_at, reference_at, same_index, pdf_count};
@@ -10,13 +12,13 @@ use text_numbers::{Signed, parse_signed};
 use text_spaces::{Place, past_byte};
 
 // Where a line leads: to the line that bears an id, or to the PDF of a number.
-#[derive(Drop)]
+#[derive(Clone, Copy)]
 pub enum TreeIndex {
     Node(i64),
     Pdf(i64),
 }
 
-#[derive(Drop)]
+#[derive(Clone, Copy)]
 pub enum Reference {
     Found { index: TreeIndex, next: usize },
     NoReference,

@@ -1,6 +1,8 @@
 // The survey of a whole tree text (01, 'Tree text'): whether it is in the grammar (17) and its states are not negative (18), and what it needs of each table.
 // It reads the text once, by the readers that a load fills its tables with. The text is a prefix of the data, read from `at` on.
 // Every function takes any bytes and any place, also one past the end. A place is an index into the slice.
+#![tactic(auto)]
+
 ghost use Rattle.std.specs.Prelude.{◌≡◌, false, ◌||◌};
 ghost use Rattle.laws.specs.Totals.{larger};
 ghost use Rattle.tree_body.specs.Trees.{head_at, tree_step_at, trees_at};
@@ -11,7 +13,7 @@ use tree_survey_lines::{LineSurvey, survey_lines};
 use tree_survey_questions::{Questions, survey_questions};
 
 // What a tree needs, and the place past it.
-#[derive(Drop)]
+#[derive(Clone, Copy)]
 pub enum TreeCount {
     Counted {
         negative: bool,
@@ -23,7 +25,7 @@ pub enum TreeCount {
 }
 
 // The same, and where the next tree stands; or the text's last; or the start of the one that doesn't fit, or of other text behind a tree.
-#[derive(Drop)]
+#[derive(Clone, Copy)]
 pub enum TreeSurvey {
     Next {
         negative: bool,
@@ -40,7 +42,7 @@ pub enum TreeSurvey {
 }
 
 // All trees; `lines` is that of the longest.
-#[derive(Drop)]
+#[derive(Clone, Copy)]
 pub enum Trees {
     Counted {
         negative: bool,
@@ -52,7 +54,7 @@ pub enum Trees {
 }
 
 // A whole text.
-#[derive(Drop)]
+#[derive(Clone, Copy)]
 pub enum Survey {
     // the rows needed, and the lines of the longest tree
     Counted {

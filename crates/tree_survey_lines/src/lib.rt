@@ -2,6 +2,8 @@
 // A tree needs a record for each line and each PDF reference. One line with equal references is a bare leaf and needs one; where these are nodes, linking
 // refuses the tree, and the count is one too, so that it asks for no more room than any tree of one line that links.
 // Every function takes any bytes and any place, also one past the end. A place is an index into the slice.
+#![tactic(auto)]
+
 ghost use Rattle.std.specs.Prelude.{◌≡◌};
 ghost use Rattle.tree_line.specs.Lines.{lines_at};
 ghost use Rattle.tree_survey_lines.specs.Counts.{line_pdfs, line_records, lines_counted, lines_surveyed};
@@ -10,7 +12,7 @@ use tree_line::{Line, LineStep, next_line};
 use tree_reference::{pdf_count, same_index};
 
 // How many lines there are, how many of their references are PDFs, and the place past the `}` behind them.
-#[derive(Drop)]
+#[derive(Clone, Copy)]
 pub enum LineCount {
     Counted {
         lines: usize,
@@ -21,7 +23,7 @@ pub enum LineCount {
 }
 
 // A tree's lines, the records that they need, and the place past the `}` behind them.
-#[derive(Drop)]
+#[derive(Clone, Copy)]
 pub enum LineSurvey {
     Counted {
         lines: usize,

@@ -1,5 +1,7 @@
 // The survey of a tree text's questions: how many there are, how many patterns they have, and where the first tree is to stand (01, 'Tree text').
 // Every function takes any bytes and any place, also one past the end. A place is an index into the slice.
+#![tactic(auto)]
+
 ghost use Rattle.std.specs.Prelude.{◌≡◌, length};
 ghost use Rattle.tree_question.specs.Questions.{patterns_at, question_step_at, questions_at};
 ghost use Rattle.laws.specs.Steps.{read};
@@ -10,14 +12,14 @@ use tree_question::{
 };
 
 // How many patterns there are, and the place past the `}` behind them.
-#[derive(Drop)]
+#[derive(Clone, Copy)]
 pub enum Patterns {
     Counted { patterns: usize, next: usize },
     Broken,
 }
 
 // A question: how many patterns it has, and where the next question, or after the last one the first tree, stands.
-#[derive(Drop)]
+#[derive(Clone, Copy)]
 pub enum QuestionSurvey {
     Next { patterns: usize, next: usize },
     Last { patterns: usize, next: usize },
@@ -25,7 +27,7 @@ pub enum QuestionSurvey {
 }
 
 // All questions; or the start of the one that doesn't fit.
-#[derive(Drop)]
+#[derive(Clone, Copy)]
 pub enum Questions {
     Counted {
         questions: usize,

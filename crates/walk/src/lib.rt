@@ -1,5 +1,7 @@
 // After voice/tree.rs, `search_node`: the walk over loaded tables (01, 'Linking and tables'). Only records met are judged, in this
 // order: inside the tree's records and the table, kind, answer byte, limit. Any tables, any lengths, any tree.
+#![tactic(auto)]
+
 ghost use Rattle.std.specs.Prelude.{◌≡◌, ◌<◌};
 ghost use Rattle.table_rows.specs.Rows.{record_rows};
 ghost use Rattle.walk.specs.Walking.{line_at, meet_at, walk_from, walk_of};
@@ -11,14 +13,14 @@ use table_rows::{
 };
 
 // How a walk ends: at a PDF, after so many questions; or refused, by 24 or 25.
-#[derive(Drop)]
+#[derive(Clone, Copy)]
 pub enum Walked {
     Pdf { number: u64, asked: u64 },
     Refused(Refusal),
 }
 
 // What stands where the walk is.
-#[derive(Drop)]
+#[derive(Clone, Copy)]
 pub enum Met {
     // a leaf: its PDF number
     Leaf(u64),

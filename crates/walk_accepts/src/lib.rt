@@ -1,5 +1,7 @@
 // One tree of a tree text, chosen by its number, and whether record rows that somebody else linked are its own (02, Wish 13).
 // Every function takes any bytes, any number and any rows. Nothing lent is written.
+#![tactic(auto)]
+
 ghost use Rattle.std.specs.Prelude.{◌≡◌};
 ghost use Rattle.tree_question.specs.Questions.{questions_at};
 ghost use Rattle.walk_accepts.specs.Accepting.{in_text, chosen_tree, accepted_of, accepts_of, accepts_told};
@@ -12,13 +14,13 @@ use tree_survey::{Survey, survey_text};
 use tree_survey_questions::{Questions, survey_questions};
 
 // Where the chosen tree stands; or why it can't be chosen: 17, 18, 24.
-#[derive(Drop)]
+#[derive(Clone, Copy)]
 pub enum Choice {
     Tree(usize),
     Refused(Refusal),
 }
 
-#[derive(Drop)]
+#[derive(Clone, Copy)]
 pub enum Accepted {
     Yes,
     Refused(Refusal),

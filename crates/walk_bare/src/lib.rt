@@ -1,5 +1,7 @@
 // The walk straight over a tree text, without tables (02, Wish 12): a tree is chosen by its number, linked alone, and walked line by line; each line is found
 // again by reading the tree. Every function takes any bytes, any number, any answers and any limit.
+#![tactic(auto)]
+
 ghost use Rattle.std.specs.Prelude.{◌≡◌, [], ◌∷◌, ◌≤◌, length};
 ghost use Rattle.std.proofs.lemmas.List.Edits.{sets};
 ghost use Rattle.tree_question.specs.Questions.{questions_at};
@@ -27,14 +29,14 @@ const ROOM: u64 = 20;
 const BARE_OUT: usize = 6;
 
 // Where the answer to a line's question leads; or there is none.
-#[derive(Drop)]
+#[derive(Clone, Copy)]
 pub enum Reply {
     Goes(TreeIndex),
     Missing,
 }
 
 // How the walk of a tree ends: at a PDF, after so many questions and lines read; or refused, by 24 or 25.
-#[derive(Drop)]
+#[derive(Clone, Copy)]
 pub enum Bare {
     Pdf { number: u64, asked: u64, read: u64 },
     Refused(Refusal),
@@ -72,7 +74,7 @@ fn reply_to(s: &[u8], at: usize, answers: &[u8], line: Line) -> Reply
 // ---- which line is asked
 
 // The first line of a tree, or the last that bears the id of a key.
-#[derive(Drop)]
+#[derive(Clone, Copy)]
 pub enum Sought {
     First,
     Bearing(u64),
@@ -114,7 +116,7 @@ fn ask(s: &[u8], at: usize, first: usize, answers: &[u8], sought: Sought) -> Rep
 // ---- line after line
 
 // Where a reference leads: to a PDF, or to the last line that bears the id of a key.
-#[derive(Drop)]
+#[derive(Clone, Copy)]
 pub enum Turn {
     Leaf(u64),
     Line(u64),
@@ -226,7 +228,7 @@ fn walk_tree(s: &[u8], at: usize, star: usize, answers: &[u8], limit: u64) -> Ba
 // ---- the call
 
 // Number, place and line of a refusal, else 0; PDF number, questions asked and lines read, or 0.
-#[derive(Drop)]
+#[derive(Clone, Copy)]
 pub struct Meter {
     pub number: u64,
     pub place: u64,

@@ -1,5 +1,7 @@
 // How many questions a walk of one tree can ask, whatever the answers (02, Wish 8). First `walk_reach` judges every record that a path can meet; then depths are found from the
 // leaves up, along one way of records from the first on that is kept in the lent work: no recursion, each record settled once. Any tables, any work.
+#![tactic(auto)]
+
 ghost use Rattle.std.specs.Prelude.{◌≡◌, ◌+◌, ◌*◌, ◌<◌, ◌≤◌, pos, length, replicate};
 ghost use Rattle.written.specs.Depths.{Met};
 ghost use Rattle.table_rows.specs.Rows.{records_in};
@@ -21,7 +23,7 @@ const OUTSIDE: u64 = 24;
 
 // Number; 1 where no path meets a record twice; the greatest number of questions on any path.
 #[repr(C)]
-#[derive(Drop)]
+#[derive(Clone, Copy)]
 pub struct Depth {
     pub number: u64,
     pub answer: u64,
@@ -29,7 +31,7 @@ pub struct Depth {
 }
 
 // What is next at the last record of a way.
-#[derive(Drop)]
+#[derive(Clone, Copy)]
 enum Next {
     // its depth is known now: one more than it
     Settled(u64),
@@ -38,7 +40,7 @@ enum Next {
 }
 
 // How the way ended.
-#[derive(Drop)]
+#[derive(Clone, Copy)]
 enum Ended {
     // it is empty: the depth of the first record
     Found(u64),

@@ -1,5 +1,7 @@
 // The leaf check (01, 'Linking and tables'; 02, Wishes 3 and 10): whether every leaf of loaded tables has its entry, and all that the tables refer to stands
 // inside them. For any tables and any width.
+#![tactic(auto)]
+
 ghost use Rattle.std.specs.Prelude.{◌≡◌, ◌<◌};
 ghost use Rattle.table_rows.specs.Rows.{tree_rows, record_rows};
 ghost use Rattle.laws.specs.Every.{all};

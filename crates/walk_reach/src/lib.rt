@@ -1,5 +1,7 @@
 // Which records of a tree paths can meet, each branch taken freely, and whether all of them are lines or leaves of the tree (02, Wish 8). Breadth first, with a mark and a
 // place in a queue for each record in the lent work, so that every record is looked at once. Any tables.
+#![tactic(auto)]
+
 ghost use Rattle.std.specs.Prelude.{◌≡◌, ◌+◌, ◌*◌, ◌<◌, ◌≤◌, pos, length, set, replicate};
 ghost use Rattle.written.specs.Depths.{Met};
 ghost use Rattle.table_rows.specs.Rows.{records_in};
@@ -22,7 +24,7 @@ pub const KNOWN: usize = 2;
 pub const WAY: usize = 3;
 
 // What stands at a record.
-#[derive(Drop)]
+#[derive(Clone, Copy)]
 pub enum Seen {
     Leaf,
     Line { yes: u64, no: u64 },
@@ -31,7 +33,7 @@ pub enum Seen {
 }
 
 // What a visit leaves: where the queue ends, or that a record isn't there or of another kind.
-#[derive(Drop)]
+#[derive(Clone, Copy)]
 enum Visited {
     Tail(u64),
     Outside,

@@ -1,5 +1,7 @@
 // Whether the names and patterns of question and pattern rows have no byte that the grammar doesn't (02, Wish 6: 22). Any tables; of a row that points
 // outside the data the bytes inside count.
+#![tactic(auto)]
+
 ghost use Rattle.std.specs.Prelude.{◌≡◌, ◌<◌};
 ghost use Rattle.written.specs.Bytes.{part};
 ghost use Rattle.laws.specs.Every.{all};

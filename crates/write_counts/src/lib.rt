@@ -1,5 +1,7 @@
 // Whether lines refer to each leaf of a tree as often as they have to (02, Wish 6: 17). References are counted for 128 leaves at a time, the counts on the
 // stack: no memory is lent, and counting for one leaf at a time would take lines times leaves.
+#![tactic(auto)]
+
 ghost use Rattle.std.specs.Prelude.{◌≡◌, ◌+◌, ◌-◌, ◌<◌, ◌≤◌, length};
 ghost use Rattle.laws.specs.Every.{all};
 ghost use Rattle.table_rows.specs.Rows.{record_rows, record_pdf};

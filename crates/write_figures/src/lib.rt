@@ -1,5 +1,7 @@
 // Decimal digits of a number, without zeros in front (02, Wish 6): how many, and stored from the last to the first. Any number and any place.
 //
+#![tactic(auto)]
+
 ghost use Rattle.std.specs.Prelude.{◌≡◌, length};
 ghost use Rattle.written.specs.Writing.{figures};
 ghost use Rattle.write_put.specs.Puts.{Put};

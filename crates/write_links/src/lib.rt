@@ -1,4 +1,6 @@
 // Whether some text reads back to the rows of lent tables (02, Wish 6: 17). Any tables; of tables whose rows point inside it is the whole answer.
+#![tactic(auto)]
+
 ghost use Rattle.std.specs.Prelude.{◌≡◌, ◌-◌, ◌<◌, ◌≤◌};
 ghost use Rattle.laws.specs.Every.{all};
 ghost use Rattle.table_rows.specs.Rows.{tree_rows, record_rows};

@@ -1,5 +1,7 @@
 // The parts of a tree text out of the rows of lent tables (02, Wish 6): names, patterns, references, lines. Any tables: a row that isn't there says
 // nothing, so that nothing is required here; whether the rows can be written is judged before.
+#![tactic(auto)]
+
 ghost use Rattle.std.specs.Prelude.{pos, neg_ℤ};
 ghost use Rattle.written.specs.Said.{pdf};
 ghost use Rattle.written.specs.Writing.{spelled_number, spelled_ref, spelled_line};

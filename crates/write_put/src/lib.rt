@@ -1,5 +1,7 @@
 // Bytes put into a lent buffer at a place (02, Wish 6). What doesn't fit isn't stored, and the place goes on, up to 2^64 - 1: so one walk both
 // measures a text, with no buffer at all, and stores it. Any place and any bytes; every function answers the place behind its bytes.
+#![tactic(auto)]
+
 ghost use Rattle.std.specs.Prelude.{◌≡◌, [], ◌∷◌, ◌+◌, min};
 ghost use Rattle.written.specs.Bytes.{part};
 ghost use Rattle.write_put.specs.Puts.{Put};

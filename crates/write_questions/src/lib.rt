@@ -1,4 +1,6 @@
 // Whether some text reads back to question and pattern rows (02, Wish 6: 17), and which question a line can ask: the last of its name. Any tables.
+#![tactic(auto)]
+
 ghost use Rattle.std.specs.Prelude.{◌≡◌, not, ◌<◌, ◌≤◌};
 ghost use Rattle.written.specs.Bytes.{same};
 ghost use Rattle.laws.specs.Every.{all};

@@ -1,5 +1,7 @@
 // The numbers of a tree's records, by their place in the tree whose first record stands in row `first` (02, Wish 6). Any tables: a record that isn't
 // there says 0, so that nothing is required here.
+#![tactic(auto)]
+
 ghost use Rattle.std.specs.Prelude.{◌≡◌};
 ghost use Rattle.table_rows.specs.Rows.{record_kind, record_question, record_pdf, record_yes, record_no};
 ghost use Rattle.write_records.specs.Records.{of_record};

@@ -1,4 +1,6 @@
 // Whether all that the rows of lent tables point at stands inside its table or the data (02, Wish 6: 24). Any tables.
+#![tactic(auto)]
+
 ghost use Rattle.std.specs.Prelude.{◌≡◌, ◌<◌};
 ghost use Rattle.laws.specs.Every.{all};
 ghost use Rattle.table_rows.specs.Rows.{question_rows, pattern_rows, tree_rows, record_rows};

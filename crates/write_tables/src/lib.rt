@@ -1,5 +1,7 @@
 // Tree text written out of the rows of lent tables (02, Wish 6). Everything is judged and measured before the first byte is stored, so that a refusal
 // leaves the buffer as it was. Any data, any tables, any buffer.
+#![tactic(auto)]
+
 ghost use Rattle.std.specs.Prelude.{◌≡◌, min, length};
 ghost use Rattle.write_tables.specs.Answers.{judged_of, bytes_of, measure_of, Answered};
 
@@ -8,7 +10,7 @@ use write_links::links_fit;
 use write_rows::rows_in;
 use write_text::put_text;
 
-#[derive(Drop)]
+#[derive(Clone, Copy)]
 pub enum Judged {
     Fits,
     // 24: a row points outside its table or the data
@@ -19,7 +21,7 @@ pub enum Judged {
     Unread,
 }
 
-#[derive(Drop)]
+#[derive(Clone, Copy)]
 pub enum Answer {
     // how many bytes the text has
     Done(usize),

@@ -1,5 +1,7 @@
 // The tree text of all rows of lent tables (02, Wish 6), put into a buffer from a place on; the place behind it says its length, also without a
 // buffer. Any tables; whether they can be written is judged before.
+#![tactic(auto)]
+
 ghost use mathlib.Core.List.{map, flatten};
 ghost use Rattle.std.specs.Prelude.{◌<◌};
 ghost use Rattle.written.specs.Writing.{spelled_patterns, spelled_question, spelled_line, spelled_body, spelled_tree, spelled};

@@ -34,3 +34,4 @@ model_refused_once (later r w) (later q v) = let z = model_refused_once w v in (
 pub model_never_both : {qs : List Question} {f : ℕ} {ts : List Tree} {trees records : List Row} {c a k : ℕ} → TreeRows qs f ts trees records → ModelRefused qs ts c a k → ⊥
 model_never_both (more s r l w) (here h) = refused_no_records h r
 model_never_both (more s r l w) (later q v) = model_never_both w v
+model_never_both {qs = qs} {c = c} {a = a} {k = k} (none {f = f}) x6 = elim x6 [ ]

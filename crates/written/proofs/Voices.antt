@@ -28,6 +28,7 @@ module _ {s : List ℕ} {h : Header} where
   gv_used (StreamModels.alone l u r) (there n) e = gv_used r n e
   gv_used (StreamModels.unnamed l r) here e = let z : ◌≡◌ {A = ℕ} 0 1 = cc in absurd (omega arith)
   gv_used (StreamModels.unnamed l r) (there n) e = gv_used r n e
+  gv_used {j = j} {k = k} {m = m} (Rattle.written.specs.Models.end {i = i}) x9 e = elim x9 [ ]
 
 -- ---- the house's rules
 

@@ -184,6 +184,7 @@ module _ (D s : List ℕ) (c : Around D) where
       c.commaless _ _ _ _ _ a b
   reads_never (is_absent a) (no_present f b) = f a
   reads_never (is_present e a) (no_present f b) = pair_never D s c.proper _ _ _ _ _ a b
+  reads_never {i = i} {j = j} {n = n} {p = p} (Rattle.written.specs.HeaderText.is_unknown _) x11 = elim x11 [ ]
 
   pub unreadable_one : {i n m p q : ℕ} {t : Kind} → Unreadable D s i t n p → Unreadable D s i t m q → Same n m p q
   unreadable_one (no_string a) (no_string b) = no_text_one s _ _ _ _ _ a b

@@ -244,6 +244,7 @@ groups_never :
     → {gs : List Group} {ds : List D} {n p : ℕ} → Pointwise (GroupSays T Say s) gs ds → NoGroups T s gs n p → ⊥
 groups_never T Say s w (H.Pointwise.more {a = g} {b = d} r q) (NoGroups.here a) = sound_never T s g (record { xs = r.xs; entries = r.entries; whole = w g r.xs d r.says }) a
 groups_never T Say s w (H.Pointwise.more r q) (NoGroups.later a b) = groups_never T Say s w q b
+groups_never {D = D} T Say s w {n = n} {p = p} H.none x4 = elim x4 [ ]
 
 -- ---- UTF-8
 

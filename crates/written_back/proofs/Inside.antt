@@ -34,6 +34,7 @@ nth_parts (y ∷ xs) (Nth.there h) = ⊎_elim (λ a. inl (Nth.there a)) (λ b. i
 nth-paired : {A B : Type 0} {R : A → B → Type 0} {xs : List A} {ys : List B} {k : ℕ} {y : B} → Forall₂ R xs ys → Nth ys k y → (x : A) × R x y
 nth-paired (Forall₂.cons {a = x} r rs) Nth.here = (x, r)
 nth-paired (Forall₂.cons r rs) (Nth.there h) = nth-paired rs h
+nth-paired {A = A} {B = B} {R = R} {k = k} {y = y} mathlib.Core.List.Forall₂.nil x4 = elim x4 [ ]
 
 nth-map : {A B : Type 0} (f : A → B) (xs : List A) {k : ℕ} {y : B} → Nth (map f xs) k y → (x : A) × (y ≡ f x)
 nth-map f [] h = absurd (omega (arith, nth_inside h))
@@ -75,6 +76,7 @@ module _ (d : List ℕ) where
       let v : m ≡ n = cc in
       record { w = w; spells = subst (λ (x : ℕ). Spells d x n w) u (subst (λ (x : ℕ). Spells d b x w) v s); every = f.bytes_in }
   patterns_row (PatternsSay.more s p) (All.more f g) (Nth.there h) e = patterns_row p g h e
+  patterns_row {i = i} {a = a} {n = n} {r = r} PatternsSay.none _ x11 e = elim x11 [ ]
 
   pattern_row : {k i a n : ℕ} {Q P : List Row} {qs : List Question} {r : Row} → QuestionsSay d k Q P qs → All QuestionFits qs → Nth P i r → r ≡ a ∷ n ∷ [] → Spelt in_pattern a n
   pattern_row QuestionsSay.none All.none h e = absurd (omega (arith, nth_inside h))
@@ -91,6 +93,7 @@ module _ (d : List ℕ) where
       )
   question_row (QuestionsSay.more {own = own} {rest = rest} s p x) (All.more g o) (Nth.there h) e =
       let r = question_row x o h e in (r.0, omega (arith, r.1, length-append own rest))
+  question_row {i = i} {a = a} {n = n} {f = f} {m = m} {r = r} (QuestionsSay.none {k = k}) _ x17 e = elim x17 [ ]
 
   questions_many : {k : ℕ} {Q P : List Row} {qs : List Question} → QuestionsSay d k Q P qs → length Q ≡ length qs
   questions_many QuestionsSay.none = refl
@@ -122,6 +125,7 @@ module _ {qs : List Question} where
     where
       alone : {x k m q y n : ℕ} {r : Row} → Nth (leaf x ∷ []) k r → r ≡ branch q y n → LineIn (length qs) m q y n
       alone Nth.here e = absurd (omega (arith, ap (at 0) e))
+      alone {m = m} {r = r} (Rattle.written.specs.Linking.there x13) e = elim x13 [ ]
   record_inside {k = k} {q = q} {y = y} {n = n} (Records.lines {ls = ls} {rows = rows} {front = front} leaves ns asc tm f e) h =
       let long : length rows ≡ length ls + length leaves = ap length e ∙ length-append front (map leaf leaves) ∙ ap₂ ◌+◌ (paired_long f) (length-map leaves leaf) in
       ⊎_elim (λ a. line_inside (nth-paired f a).1 refl long) (λ a. absurd (omega (arith, ap (at 0) (nth-map leaf leaves a.stands).1)))
@@ -135,6 +139,7 @@ module _ {qs : List Question} where
     where
       alone : {x k q y n : ℕ} {r : Row} → Nth (leaf x ∷ []) k r → r ≡ branch q y n → ⊥
       alone Nth.here e = omega (arith, ap (at 0) e)
+      alone {r = r} (Rattle.written.specs.Linking.there x13) e = elim x13 [ ]
   record_asks {k = k} {q = q} {y = y} {n = n} (Records.lines {front = front} leaves ns asc tm f e) h =
       ⊎_elim (λ a. line_asks (nth-paired f a).1 refl) (λ a. absurd (omega (arith, ap (at 0) (nth-map leaf leaves a.stands).1)))
       (nth_parts front (subst (λ (l : List Row). Nth l k (branch q y n)) e h))
@@ -144,6 +149,7 @@ module _ {qs : List Question} where
   tree_room (TreeRows.more {rows = rows} {records = records} s r l w) Nth.here e = (omega (arith, ap (at 1) e), omega (arith, ap (at 1) e, ap (at 2) e, length-append rows records))
   tree_room (TreeRows.more {rows = rows} {records = records} s r l w) (Nth.there a) e =
       let t = tree_room w a e in (omega (arith, t.0), omega (arith, t.1, length-append rows records))
+  tree_room {i = i} {g = g} {m = m} {h = h} {r = r} (Rattle.written.specs.Tables.none {f = f}) x14 e = elim x14 [ ]
 
   -- a record of a line asks the last question of its name
   pub asks_last : {f i q y n : ℕ} {ts : List Tree} {T R : List Row} → TreeRows qs f ts T R → Nth R i (branch q y n) → (w : List ℕ) × LastQuestion qs w q
@@ -162,6 +168,7 @@ module _ {qs : List Question} where
       (λ z. absurd (omega (arith, z.from, ap (at 1) e, ap (at 2) e))) (nth_parts rows a)
   tree_goes (TreeRows.more {rows = rows} s r l w) (Nth.there b) e c p a =
       ⊎_elim (λ z. absurd (omega (arith, nth_inside z, (tree_room w b e).0))) (λ z. tree_goes {j = z.j} w b e c (omega (arith, z.from)) z.stands) (nth_parts rows a)
+  tree_goes {i = i} {g = g} {m = m} {h = h} {j = j} {k = k} {q = q} {y = y} {n = n} {r = r} (Rattle.written.specs.Tables.none {f = f}) x29 e c p a = elim x29 [ ]
 
 -- ---- all of them
 

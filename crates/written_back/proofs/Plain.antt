@@ -39,6 +39,7 @@ id_once a b e = sym (deep a) ∙ ap depth e ∙ deep b
 numbered_at : {j k : ℕ} {ls : List Line} {l : Line} → Numbered j ls → Nth ls k l → l.id ≡ id_of (j + k)
 numbered_at {j = j} (Numbered.more e n) Nth.here = e ∙ ap id_of (let u : j ≡ j + 0 = omega arith in u)
 numbered_at {j = j} (Numbered.more e n) (Nth.there {k = k} s) = numbered_at n s ∙ ap id_of (let u : suc j + k ≡ j + suc k = omega arith in u)
+numbered_at {l = l} (Numbered.none {k = k}) x4 = elim x4 [ ]
 
 nth_there : {A : Type 0} (xs : List A) (k : ℕ) → k < length xs → (x : A) × Nth xs k x
 nth_there [] k h = absurd (omega arith)
@@ -109,6 +110,7 @@ module _ (qs : List Question) (ls : List Line) (leaves : List ℕ) where
 
 nth_only : {A : Type 0} {l a : A} {k : ℕ} → Nth (l ∷ []) k a → a ≡ l
 nth_only Nth.here = refl
+nth_only {A = A} {l = l} {a = a} (linking.there {k = k} x7) = elim x7 [ ]
 
 differ : {x : ℤ} {n : ℕ} → node x ≡ pdf n → ⊥
 differ e = let u : ◌≡◌ {A = ℕ} 0 1 = cc in omega arith

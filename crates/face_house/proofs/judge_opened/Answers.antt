@@ -1,0 +1,25 @@
+-- `face_house::judge_opened`: a load that is refused, or the rules.
+use mathlib.Core.Path.{sym, ◌∙◌}
+use Rattle.load_model.specs.Load.{lent}
+use Rattle.load_bounds.specs.Bounds.{side_of, held_of}
+use Rattle.face_house.proofs.Laws.{opened_refused, few_types, opened-judged}
+use borrow.Author.Rules.{rules}
+use Rattle.face_house.proofs.judge_opened.Goals as goal
+
+pub put_bounds-requires : goal.put_bounds-requires
+put_bounds-requires c = c.requires.1
+
+pub ruled-requires : goal.ruled-requires
+ruled-requires c =
+    let a = c.args in
+    (c.requires.0, few_types (side_of a.top) a.file.now a.words.now a.held.now (held_of a.other) (lent a.questions.now a.patterns.now a.trees.now a.records.now a.values.now a.work.now) c.judge_voice.ensures.1 (sym c.in-Judged.is ∙ c.judge_voice.ensures.0))
+
+pub returns-in-Refused : goal.returns-in-Refused
+returns-in-Refused c =
+    let a = c.args in
+    opened_refused (side_of a.top) a.file.now a.words.now a.held.now (held_of a.other) (lent a.questions.now a.patterns.now a.trees.now a.records.now a.values.now a.work.now) c.judge_voice.ensures.1 (sym c.in-Refused.is ∙ c.judge_voice.ensures.0) c.refused_as.ensures
+
+pub returns-in-Judged : goal.returns-in-Judged
+returns-in-Judged c =
+    let a = c.args in
+    opened-judged (side_of a.top) a.file.now a.words.now a.held.now (held_of a.other) (lent a.questions.now a.patterns.now a.trees.now a.records.now a.values.now a.work.now) c.judge_voice.ensures.1 (sym c.in-Judged.is ∙ c.judge_voice.ensures.0) c.put_bounds.ensures c.ruled.ensures

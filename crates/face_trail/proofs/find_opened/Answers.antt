@@ -1,0 +1,29 @@
+-- `face_trail::find_opened`: 26, 27, then by what was counted.
+use mathlib.Core.Path.{sym, ap₂, ◌∙◌}
+use native.Mathlib.Omega.{arith}
+use borrow.Author.Tests.{not-true, not-false}
+use Rattle.head_words.specs.Words.{header_at}
+use Rattle.face_trail.specs.Answers.{found}
+use Rattle.face_trail.proofs.Laws.{data_short, found_short, found-sum, found_by_lem}
+use borrow.Author.Rules.{rules}
+use Rattle.face_trail.proofs.find_opened.Goals as goal
+
+pub returns-then-data_of-lt-LAST : goal.returns-then-data_of-lt-LAST
+returns-then-data_of-lt-LAST c = c.not_found.ensures ∙ found_short c.args.file.now (header_at c.args.words.now) c.data_of.ensures c.if-data_of-lt-LAST.true
+
+pub summed-requires : goal.summed-requires
+summed-requires c = omega (arith, data_short c.args.file.now (header_at c.args.words.now) c.data_of.ensures, c.if-data_of-lt-LAST.false)
+
+pub returns-then-not-summed : goal.returns-then-not-summed
+returns-then-not-summed c = c.not_found-then-not-summed.ensures ∙ found-sum c.args.file.now (header_at c.args.words.now) c.data_of.ensures c.if-data_of-lt-LAST.false c.summed.ensures (not-true _ c.if-not-summed.true-raw)
+
+pub find_rows-requires : goal.find_rows-requires
+find_rows-requires c = ((c.requires, omega (arith, data_short c.args.file.now (header_at c.args.words.now) c.data_of.ensures, c.if-data_of-lt-LAST.false)), (sym c.in-Trees.is ∙ c.count_trees.ensures))
+
+pub returns-in-Refused : goal.returns-in-Refused
+returns-in-Refused c =
+    c.not_found-in-Refused.ensures ∙ ap₂ (λ n p. found n p 0 0) c.number.ensures c.place.ensures
+    ∙ found_by_lem c.args.file.now (header_at c.args.words.now) c.data_of.ensures c.if-data_of-lt-LAST.false c.summed.ensures (not-false _ c.if-not-summed.false-raw) (sym c.in-Refused.is ∙ c.count_trees.ensures)
+
+pub returns-in-Trees : goal.returns-in-Trees
+returns-in-Trees c = c.find_rows.ensures ∙ found_by_lem c.args.file.now (header_at c.args.words.now) c.data_of.ensures c.if-data_of-lt-LAST.false c.summed.ensures (not-false _ c.if-not-summed.false-raw) (sym c.in-Trees.is ∙ c.count_trees.ensures)

@@ -1,0 +1,28 @@
+-- `face_trail::trailer_said`: by how the file opened.
+use mathlib.Core.Path.{sym, ap, subst, ◌∙◌}
+use Prim.Native.Nat.{◌≤◌}
+use mathlib.Core.List.{List}
+use Prim.Native.Nat.{ℕ}
+use lib.ListN.{length}
+use Rattle.face_record.specs.declared.Said.{Said}
+use Rattle.face_trail.proofs.Above.{opened_long}
+use Rattle.face_trail.proofs.Laws.{trailer_unopened, trailer_opened}
+use borrow.Author.Rules.{rules}
+use Rattle.face_trail.proofs.trailer_said.Goals as goal
+
+pub returns-then-said-ne0 : goal.returns-then-said-ne0
+returns-then-said-ne0 c =
+    let z = trailer_unopened c.args.file.now c.args.words.now c.open_words-said.ensures.0 c.open_words-said.ensures.1 c.args.trailer.now c.if-said-ne0.true in
+    (z.0, c.open_words-said.ensures.1, z.1)
+
+pub write_opened-requires : goal.write_opened-requires
+write_opened-requires c =
+    let a = c.args in
+    let o = c.open_words-said.ensures in
+    subst (λ (l : List ℕ). 647 ≤ length l) (sym o.1) (opened_long a.file.now a.words.now (sym (ap (λ (x : Said). x.number) o.0) ∙ c.if-said-ne0.false))
+
+pub returns : goal.returns
+returns c =
+    let o = c.open_words-said.ensures in
+    let z = trailer_opened c.args.file.now c.args.words.now o.0 o.1 c.args.trailer.now c.if-said-ne0.false c.write_opened.ensures in
+    (z.0, o.1, z.1)

@@ -1,0 +1,23 @@
+-- `head_de_lists::pairs` meets its contract.
+use Rattle.head_de_lists.specs.declared.PairList.{PairList}
+use Rattle.head_de_lists.specs.declared.Outcome.{Outcome}
+use Rattle.head_de_lists.specs.declared.Ranges.{Ranges}
+use Rattle.head_de_lists.specs.Lists.{list_at}
+use mathlib.Core.Path.{sym, ap, ◌∙◌}
+use borrow.Author.Rules.{rules}
+use Rattle.head_de_lists.proofs.pairs.Goals as goal
+
+abbrev made : Outcome → Ranges → PairList
+made o x = record { outcome = o; list = x }
+
+pub returns-in-Passed : goal.returns-in-Passed
+unfolding list_at
+returns-in-Passed c = rw (sym c.delimiter.ensures ∙ c.in-Passed.is) c.pairs_from.ensures
+
+pub returns-in-Closed : goal.returns-in-Closed
+unfolding list_at
+returns-in-Closed c = rw (sym c.delimiter.ensures ∙ c.in-Closed.is) (ap (made _) c.none.ensures)
+
+pub returns-in-Missing : goal.returns-in-Missing
+unfolding list_at
+returns-in-Missing c = rw (sym c.delimiter.ensures ∙ c.in-Missing.is) c.pairs_from-in-Missing.ensures

@@ -1,0 +1,9 @@
+-- `head_de_values::Around::inner` meets its contract.
+use borrow.Author.Rules.{rules}
+use Rattle.head_de_values.proofs.Around.inner.Goals as goal
+
+pub returns-in-Line : goal.returns-in-Line
+returns-in-Line c = rw c.in-Line.is
+
+pub returns-in-Alone : goal.returns-in-Alone
+returns-in-Alone c = rw c.in-Alone.is

@@ -1,0 +1,31 @@
+-- `head_fields::name_index`: the names passed and the number of the key among those left give the answer in each turn.
+use mathlib.Core.Path.{sym, ◌∙◌}
+use mathlib.Core.Logic.{⊎_elim}
+use Prim.Native.Nat.{◌-◌}
+use borrow.Author.Rules.{rules}
+use lib.ListN.{length}
+use Rattle.head_fields.proofs.Listed.{more_same, more_differs, more_past, Seeking, seeking_none, seeking_here, seeking_next, seeking_on, seeking_end}
+use Rattle.head_fields.proofs.name_index.Goals as goal
+
+pub loop-i-init : goal.loop-i-init
+loop-i-init c = seeking_none _ _
+
+pub returns-then-same-w : goal.returns-then-same-w
+returns-then-same-w c = seeking_here _ _ _ _ _ c.loop-i.invariant c.loop-i-test.true c.if-b-eq32.true c.if-same-w.true
+
+pub loop-i-preserved : goal.loop-i-preserved
+loop-i-preserved c =
+    let k = c.loop-i.invariant in
+    let h = c.loop-i-test.true in
+    ⊎_elim
+    (λ v. seeking_next _ _ _ _ _ k h v.0.taken v.1.left _ _ v.2 v.3)
+    (⊎_elim
+    (λ v. seeking_on _ _ _ _ _ k h v.0.left _ _ v.4 (v.5 ∙ sym (more_same _ _ _ v.1.taken v.3.taken)))
+    (λ v. ⊎_elim
+    (λ u. seeking_on _ _ _ _ _ k h v.0.left _ _ v.2 (v.3 ∙ sym (more_differs _ _ _ u.0.taken u.2.left)))
+    (λ u. seeking_on _ _ _ _ _ k h v.0.left _ _ v.2 (v.3 ∙ sym (more_past _ _ _ u.left)))
+    v.1.came))
+    c.if-b-eq32.branch
+
+pub returns : goal.returns
+returns c = seeking_end _ _ _ _ _ c.loop-i.invariant c.loop-i-test.false

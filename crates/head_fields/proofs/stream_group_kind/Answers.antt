@@ -1,0 +1,31 @@
+-- `head_fields::stream_group_kind` meets its contract.
+use Rattle.head_fields.proofs.Fields.{kind_past, above}
+use Rattle.written.specs.Record.{stream_group}
+use Rattle.head_fields.specs.Fields.{kind_at}
+use native.Mathlib.Omega.{arith}
+use mathlib.Core.Path.{sym}
+use Rattle.head_fields.proofs.stream_group_kind.Goals as goal
+
+pub returns-in-0 : goal.returns-in-0
+unfolding kind_at stream_group
+returns-in-0 c = rw c.in-0.is
+
+pub returns-in-1 : goal.returns-in-1
+unfolding kind_at stream_group
+returns-in-1 c = rw c.in-1.is
+
+pub returns-in-2 : goal.returns-in-2
+unfolding kind_at stream_group
+returns-in-2 c = rw c.in-2.is
+
+pub returns-in-3 : goal.returns-in-3
+unfolding kind_at stream_group
+returns-in-3 c = rw c.in-3.is
+
+pub returns-in-4 : goal.returns-in-4
+unfolding kind_at stream_group
+returns-in-4 c = rw c.in-4.is
+
+pub returns-in_default : goal.returns-in_default
+unfolding stream_group
+returns-in_default c = sym (kind_past stream_group _ (above 4 c.args.field (above 3 (c.args.field) (above 2 ((c.args.field)) (above 1 (((c.args.field))) (above 0 ((((c.args.field)))) (omega arith) c.in_default.rest.0.0.0.0.1) c.in_default.rest.0.0.0.1) c.in_default.rest.0.0.1) c.in_default.rest.0.1) c.in_default.rest.1))

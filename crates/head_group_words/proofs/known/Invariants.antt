@@ -1,0 +1,20 @@
+-- `head_group_words::known` meets its contract: the names from k on give the answer.
+use mathlib.Core.Path.{◌≡◌, sym, ◌∙◌}
+use mathlib.Core.Logic.{⊎_elim}
+use Prim.Native.Nat.{◌+◌, ◌-◌, ◌*◌, ◌≤◌}
+use native.Mathlib.Nat.{mul-le-mul_left}
+use native.Mathlib.Omega.{arith}
+use borrow.Author.Rules.{rules}
+use lib.ListN.{length}
+use Rattle.head_brackets.specs.Rows.{known_from, known_in}
+use Rattle.text_parts.specs.Parts.{bytes_of}
+use Rattle.head_brackets.proofs.Rows.{known_on, known_here, known_past, known_end}
+use Rattle.head_group_words.specs.Groups.{names_at}
+use Rattle.head_group_words.proofs.Limits.{same_at}
+use Rattle.head_group_words.proofs.known.Given as goal
+
+abbrev pub invariant-loop-k : goal.invariant-loop-k
+invariant-loop-k l = known_in l.s (names_at l.words l.at l.width) l.n (bytes_of l.s l.x) ≡ known_from (l.n - l.k) l.s (names_at l.words l.at l.width) l.k (bytes_of l.s l.x)
+
+abbrev pub decreases-loop-k : goal.decreases-loop-k
+decreases-loop-k l = l.n - l.k

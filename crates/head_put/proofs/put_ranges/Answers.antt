@@ -1,0 +1,28 @@
+-- `head_put::put_ranges`: what is left to write gives the whole.
+use mathlib.Core.Path.{refl}
+use Prim.Native.Nat.{◌-◌}
+use native.Mathlib.Omega.{arith}
+use borrow.Author.Rules.{rules}
+use lib.ListN.{get_or}
+use Rattle.head_record.specs.Empty.{no_range}
+use Rattle.head_words.specs.Words.{range_words}
+use Rattle.head_words.proofs.Items.{Laying, laying_none, laying_more, laying_done}
+use Rattle.head_put.proofs.put_ranges.Goals as goal
+
+pub loop-k-init : goal.loop-k-init
+loop-k-init c = laying_none _ _ _ _ _
+
+pub put2-requires : goal.put2-requires
+put2-requires c = omega (arith, c.loop-k.invariant.long, c.loop-k-test.true, c.requires)
+
+pub loop-k-smaller : goal.loop-k-smaller
+loop-k-smaller c = omega (arith, c.loop-k-test.true)
+
+pub loop-k-preserved : goal.loop-k-preserved
+loop-k-preserved c = laying_more _ _ _ _ _ _ _ c.loop-k.invariant _ c.put2.ensures refl c.loop-k-test.true
+
+pub shape_of-words : goal.shape_of-words
+shape_of-words c = c.loop-k.invariant.long
+
+pub returns : goal.returns
+returns c = laying_done _ _ _ _ _ _ _ c.loop-k.invariant c.loop-k-test.false

@@ -1,0 +1,78 @@
+-- `head_stream::read_group` meets its contract. The invariant: what is left of the rows gives the answer.
+use mathlib.Core.Path.{◌≡◌, refl, sym, ap, ◌∙◌}
+use Prim.Native.Nat.{◌-◌, ◌≤◌}
+use native.Mathlib.Omega.{arith}
+use borrow.Author.Rules.{rules}
+use lib.ListN.{length}
+use Rattle.head_record.specs.Empty.{empty_stream}
+use Rattle.head_words.specs.Words.{flat, stream_words}
+use Rattle.head_words.proofs.Lengths.{length_stream}
+use Rattle.head_lines.specs.Lines.{unseen}
+use Rattle.head_brackets.specs.Rows.{row_at}
+use Rattle.head_brackets.specs.declared.RowAt.TheVariants as found
+use Rattle.head_brackets.proofs.Through.{row_less, line_less}
+use Rattle.head_stream.specs.Group.{group_in, judged}
+use Rattle.head_stream.proofs.Reading.{Reached, reached_none, reached_other, reached_taken, reached_no_line, broken, reached_line, ended}
+use Rattle.head_stream.proofs.read_group.Goals.{In-Found-2}
+use Rattle.head_stream.proofs.read_group.Goals as goal
+
+-- the row that was found
+row : (c : In-Found-2) → row_at c.args.s.now c.loop-row.at.at ≡ found.Found c.in-Found.row
+row c = sym c.row_at.ensures ∙ c.in-Found.is
+
+pub put_span-requires : goal.put_span-requires
+put_span-requires c = let e : 2 ≤ length c.args.item.now = rw c.requires (omega arith) in e
+
+-- a group with no row yet, over words that are 0
+pub loop-row-init : goal.loop-row-init
+unfolding unseen empty_stream stream_words flat
+loop-row-init c = reached_none _ _ _ _ (c.put_span.ensures ∙ rw c.requires refl)
+
+pub store-requires : goal.store-requires
+store-requires c = ap length c.loop-row.invariant.words ∙ length_stream _
+
+pub loop-row-smaller-in-Read : goal.loop-row-smaller-in-Read
+loop-row-smaller-in-Read c = row_less _ _ _ _ c.loop-row.invariant.through (row (goal.at.loop-row-smaller-in-Read c).In-Found-2)
+
+pub loop-row-preserved-in-Read : goal.loop-row-preserved-in-Read
+loop-row-preserved-in-Read c =
+    reached_taken _ _ _ c.loop-row.invariant (row (goal.at.loop-row-preserved-in-Read c).In-Found-2) (sym c.same_part.ensures ∙ c.if-same_part.true) _ c.row_line-l.ensures c.in-Read.is _ c.mark-with_field.ensures _
+    c.store.ensures
+
+pub loop-row-smaller-in-End-step : goal.loop-row-smaller-in-End-step
+loop-row-smaller-in-End-step c = row_less _ _ _ _ c.loop-row.invariant.through (row (goal.at.loop-row-smaller-in-End-step c).In-Found-2)
+
+pub loop-row-preserved-in-End-step : goal.loop-row-preserved-in-End-step
+loop-row-preserved-in-End-step c = reached_no_line _ _ _ c.loop-row.invariant (row (goal.at.loop-row-preserved-in-End-step c).In-Found-2) (sym c.same_part.ensures ∙ c.if-same_part.true) _ c.row_line-l.ensures c.in-End-step.is
+
+pub shape_of-item-in-Refused : goal.shape_of-item-in-Refused
+shape_of-item-in-Refused c = ap length c.loop-row.invariant.words ∙ length_stream _ ∙ sym (ap length c.requires)
+
+pub returns-in-Refused : goal.returns-in-Refused
+returns-in-Refused c = let a = broken _ _ _ c.loop-row.invariant (row (goal.at.returns-in-Refused c).In-Found-2) (sym c.same_part.ensures ∙ c.if-same_part.true) _ c.row_line-l.ensures c.in-Refused.is in (sym (ap (λ x. (group_in x).verdict) a.answer), a.words)
+
+pub loop-row-smaller-else-same_part : goal.loop-row-smaller-else-same_part
+loop-row-smaller-else-same_part c = row_less _ _ _ _ c.loop-row.invariant.through (row (goal.at.loop-row-smaller-else-same_part c).In-Found-2)
+
+pub loop-row-preserved-else-same_part : goal.loop-row-preserved-else-same_part
+loop-row-preserved-else-same_part c = reached_other _ _ _ c.loop-row.invariant (row (goal.at.loop-row-preserved-else-same_part c).In-Found-2) (sym c.same_part.ensures ∙ c.if-same_part.false)
+
+pub loop-row-smaller : goal.loop-row-smaller
+loop-row-smaller c = line_less _ _ _ _ c.loop-row.invariant.through (sym c.row_at.ensures ∙ c.in-Other.is)
+
+pub loop-row-preserved : goal.loop-row-preserved
+loop-row-preserved c = reached_line _ _ _ c.loop-row.invariant (sym c.row_at.ensures ∙ c.in-Other.is)
+
+pub shape_of-item-then-missing : goal.shape_of-item-then-missing
+shape_of-item-then-missing c = ap length c.loop-row.invariant.words ∙ length_stream _ ∙ sym (ap length c.requires)
+
+pub returns-then-missing : goal.returns-then-missing
+unfolding judged
+returns-then-missing c = let a = ended _ _ _ c.loop-row.invariant (sym c.row_at.ensures ∙ c.in-End.is) in (sym (ap (λ x. (group_in x).verdict) a.answer ∙ rw (sym c.missing.ensures ∙ c.if-missing.true)), a.words)
+
+pub shape_of-item-in-End : goal.shape_of-item-in-End
+shape_of-item-in-End c = ap length c.loop-row.invariant.words ∙ length_stream _ ∙ sym (ap length c.requires)
+
+pub returns-in-End : goal.returns-in-End
+unfolding judged
+returns-in-End c = let a = ended _ _ _ c.loop-row.invariant (sym c.row_at.ensures ∙ c.in-End.is) in (sym (ap (λ x. (group_in x).verdict) a.answer ∙ rw (sym c.missing.ensures ∙ c.if-missing.false)), a.words)

@@ -1,0 +1,16 @@
+-- `head_ungrouped::store` meets its contract.
+use Rattle.head_ungrouped.specs.Ungrouped.{stored}
+use borrow.Author.Tests.{ne_eqb}
+use Rattle.head_ungrouped.proofs.store.Goals as goal
+
+pub returns-in-0 : goal.returns-in-0
+unfolding stored
+returns-in-0 c = rw c.in-0.is
+
+pub returns-in-1 : goal.returns-in-1
+unfolding stored
+returns-in-1 c = rw c.in-1.is
+
+pub returns-in_default : goal.returns-in_default
+unfolding stored
+returns-in_default c = rw (ne_eqb _ _ c.in_default.rest.0.1, ne_eqb _ _ c.in_default.rest.1)

@@ -1,0 +1,16 @@
+-- `head_words_fit::position_fits` meets its contract.
+use borrow.Author.Tests.{not-true, not-false}
+use mathlib.Core.Path.{refl, sym, ◌∙◌}
+use Rattle.laws.proofs.Every.{not_first, then_second}
+use Rattle.head_record_fits.specs.Fits.{position_fits}
+use Rattle.head_words.specs.Words.{position_at}
+use borrow.Author.Rules.{rules}
+use Rattle.head_words_fit.proofs.position_fits.Goals as goal
+
+pub returns-then-not-span_fits : goal.returns-then-not-span_fits
+unfolding position_fits position_at
+returns-then-not-span_fits c = not_first _ (sym c.span_fits.ensures ∙ not-true _ c.if-not-span_fits.true-raw)
+
+pub returns : goal.returns
+unfolding position_fits position_at
+returns c = then_second (sym c.span_fits.ensures ∙ not-false _ c.if-not-span_fits.false-raw) refl

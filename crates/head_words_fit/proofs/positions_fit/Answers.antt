@@ -1,0 +1,26 @@
+-- `head_words_fit::positions_fit`: k groups are left, and the answer is theirs.
+use borrow.Author.Rules.{rules}
+use borrow.Author.Tests.{not-true, not-false}
+use native.Mathlib.Omega.{arith}
+use mathlib.Core.Path.{sym, ◌∙◌}
+use Rattle.head_record_fits.specs.Fits.{position_fits}
+use Rattle.head_record_fits.proofs.Each.{Left, counted_over, left_all, left_none}
+use Rattle.head_record_fits.proofs.Fits.{position_none_fits}
+use Rattle.head_words.specs.Words.{word_at, positions_at}
+use Rattle.head_words_fit.proofs.Runs.{run_off, run_on}
+use Rattle.head_words_fit.proofs.positions_fit.Goals as goal
+
+pub returns-then-k-gt8 : goal.returns-then-k-gt8
+returns-then-k-gt8 c = sym (counted_over _ _ _ _ c.if-k-gt8.true)
+
+pub loop-k-init : goal.loop-k-init
+loop-k-init c = left_all _ _ _ _ c.if-k-gt8.false
+
+pub returns-then-not-position_fits : goal.returns-then-not-position_fits
+returns-then-not-position_fits c = sym (run_off _ c.loop-k.invariant _ (position_none_fits _) c.loop-k-test.true (sym c.position_fits.ensures ∙ not-true _ c.if-not-position_fits.true-raw))
+
+pub loop-k-preserved : goal.loop-k-preserved
+loop-k-preserved c = run_on _ c.loop-k.invariant _ (position_none_fits _) c.loop-k-test.true (sym c.position_fits.ensures ∙ not-false _ c.if-not-position_fits.false-raw)
+
+pub returns : goal.returns
+returns c = sym (left_none c.loop-k.invariant (omega arith))

@@ -1,0 +1,17 @@
+-- `head_words_fit::spans_fit`: k strings are left, and the answer is theirs.
+use borrow.Author.Rules.{rules}
+use borrow.Author.Tests.{not-true, not-false}
+use native.Mathlib.Omega.{arith}
+use mathlib.Core.Path.{sym, ◌∙◌}
+use Rattle.head_record_fits.specs.Fits.{span_fits}
+use Rattle.head_record_fits.proofs.Each.{Left, counted_over, left_all, left_none}
+use Rattle.head_record_fits.proofs.Fits.{none_fits}
+use Rattle.head_words.specs.Words.{spans_at}
+use Rattle.head_words_fit.proofs.Runs.{run_off, run_on}
+use Rattle.head_words_fit.proofs.spans_fit.Given as goal
+
+abbrev pub invariant-loop-k : goal.invariant-loop-k
+invariant-loop-k l = Left l.limit (span_fits l.n) l.count (spans_at l.limit l.words l.at) l.k
+
+abbrev pub decreases-loop-k : goal.decreases-loop-k
+decreases-loop-k l = l.k

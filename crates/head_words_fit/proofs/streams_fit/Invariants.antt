@@ -1,0 +1,17 @@
+-- `head_words_fit::streams_fit`: k groups are left, and the answer is theirs.
+use borrow.Author.Rules.{rules}
+use borrow.Author.Tests.{not-true, not-false}
+use native.Mathlib.Omega.{arith}
+use mathlib.Core.Path.{sym, ◌∙◌}
+use Rattle.head_record_fits.specs.Fits.{stream_fits}
+use Rattle.head_record_fits.proofs.Each.{Left, counted_over, left_all, left_none}
+use Rattle.head_record_fits.proofs.Fits.{stream_none_fits}
+use Rattle.head_words.specs.Words.{word_at, streams_at}
+use Rattle.head_words_fit.proofs.Runs.{run_off, run_on}
+use Rattle.head_words_fit.proofs.streams_fit.Given as goal
+
+abbrev pub invariant-loop-k : goal.invariant-loop-k
+invariant-loop-k l = Left 8 (stream_fits l.n) (word_at l.words 407) (streams_at l.words 95) l.k
+
+abbrev pub decreases-loop-k : goal.decreases-loop-k
+decreases-loop-k l = l.k

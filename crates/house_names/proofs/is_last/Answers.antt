@@ -1,0 +1,25 @@
+-- `house_names::is_last` meets its contract.
+use mathlib.Core.Path.{◌≡◌, sym, ap, ◌∙◌}
+use mathlib.Core.List.{List}
+use Prim.Native.Nat.{ℕ}
+use lib.ListN.{length}
+use Rattle.written.specs.Bytes.{same}
+use Rattle.link_order.specs.Keys.{name_at}
+use Rattle.link_search.specs.Found.{last_below}
+use Rattle.link_search.specs.declared.Found.{Found}
+use Rattle.house_names.specs.Names.{last_is}
+use borrow.Author.Rules.{rules}
+use Rattle.house_names.proofs.is_last.Goals.{After-last_question}
+use Rattle.house_names.proofs.is_last.Goals as goal
+
+-- what is found, by the name of row k
+found : (c : After-last_question) → c.last_question.result ≡ last_below (λ e. same (name_at c.args.s.now c.args.questions.now e) (name_at c.args.s.now c.args.questions.now c.args.k)) (length c.args.index.now)
+found c =
+    let a = c.args in
+    c.last_question.ensures ∙ ap (λ (v : List ℕ). last_below (λ e. same (name_at a.s.now a.questions.now e) v) (length a.index.now)) c.name_of.ensures
+
+pub returns-in-At : goal.returns-in-At
+returns-in-At c = ap (λ (f : Found). last_is f c.args.k) (sym c.in-At.is ∙ found (goal.at.returns-in-At c).After-last_question)
+
+pub returns-in-Nothing : goal.returns-in-Nothing
+returns-in-Nothing c = ap (λ (f : Found). last_is f c.args.k) (sym c.in-Nothing.is ∙ found (goal.at.returns-in-Nothing c).After-last_question)

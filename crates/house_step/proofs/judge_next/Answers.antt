@@ -1,0 +1,37 @@
+-- `house_step::judge_next`: what the task held is unloaded; then no plan, or the plan loaded and judged.
+use mathlib.Core.Path.{sym, ◌∙◌, subst}
+use Rattle.head_words.specs.Words.{header_at}
+use Rattle.load_plan.specs.Plans.{Sound}
+use Rattle.load_plan.proofs.Laws.{needs_sound}
+use Rattle.load_model.specs.Load.{lent}
+use Rattle.load_bounds.specs.Bounds.{side_of, held_of}
+use Rattle.house_step.proofs.Laws.{next_refused, next_planned}
+use borrow.Author.Rules.{rules}
+use Rattle.house_step.proofs.judge_next.Goals as goal
+
+pub data_of-requires : goal.data_of-requires
+data_of-requires c = c.requires
+
+pub judge_planned-requires : goal.judge_planned-requires
+judge_planned-requires c =
+    let a = c.args in
+    subst (λ d. Sound d c.in-Model.p) (sym c.data_of.ensures) (needs_sound a.file.now (header_at a.words.now) a.which _ (sym c.in-Model.is ∙ c.needs.ensures))
+
+pub returns-in-Refused : goal.returns-in-Refused
+returns-in-Refused c =
+    let a = c.args in
+    next_refused (side_of a.top) a.file.now (header_at a.words.now) a.which (held_of a.mine) (held_of a.other) (lent a.questions.now a.patterns.now a.trees.now a.records.now a.values.now a.work.now) c.unload.ensures.tables (sym c.in-Refused.is ∙ c.needs.ensures)
+
+pub shape_of-questions-in-Model : goal.shape_of-questions-in-Model
+shape_of-questions-in-Model c = c.judge_planned.auto.1.1.1.1.0 ∙ c.unload.auto.1.1.1.0
+
+pub shape_of-patterns-in-Model : goal.shape_of-patterns-in-Model
+shape_of-patterns-in-Model c = c.judge_planned.auto.1.1.1.1.1.0 ∙ c.unload.auto.1.1.1.1.0
+
+pub shape_of-trees-in-Model : goal.shape_of-trees-in-Model
+shape_of-trees-in-Model c = c.judge_planned.auto.1.1.1.1.1.1.0 ∙ c.unload.auto.1.1.1.1.1.0
+
+pub returns-in-Model : goal.returns-in-Model
+returns-in-Model c =
+    let a = c.args in
+    next_planned (side_of a.top) a.file.now (header_at a.words.now) a.which (held_of a.mine) (held_of a.other) (lent a.questions.now a.patterns.now a.trees.now a.records.now a.values.now a.work.now) c.unload.ensures.tables (sym c.in-Model.is ∙ c.needs.ensures) c.data_of.ensures c.judge_planned.ensures

@@ -1,0 +1,15 @@
+-- `label_answers::any_matches`: no pattern up to k matches.
+use mathlib.Core.Path.{sym, ◌∙◌}
+use Prim.Native.Nat.{◌+◌, ◌-◌}
+use native.Mathlib.Omega.{arith}
+use borrow.Author.Rules.{rules}
+use Rattle.laws.proofs.Every.{Seeking, seeking_none, seeking_on, seeking_here, seeking_end}
+use Rattle.label_answers.specs.Answering.{pattern_matches}
+use Rattle.label_answers.proofs.Laws.{in_table, row_each, row_matches_lem}
+use Rattle.label_answers.proofs.any_matches.Given as goal
+
+abbrev pub invariant-loop-k : goal.invariant-loop-k
+invariant-loop-k l = Seeking (λ j. pattern_matches l.label l.patterns l.data (l.first + j)) l.count l.k
+
+abbrev pub decreases-loop-k : goal.decreases-loop-k
+decreases-loop-k l = l.count - l.k

@@ -1,0 +1,13 @@
+-- `label_answers::fill_answers`: the bytes still to be written, from question q on.
+use Prim.Native.Nat.{◌-◌}
+use native.Mathlib.Omega.{arith}
+use borrow.Author.Rules.{rules}
+use Rattle.label_answers.specs.Answering.{row_matches}
+use Rattle.label_answers.proofs.Laws.{Filling, filling_none, filling_more, filling_end, filled, rows_each}
+use Rattle.label_answers.proofs.fill_answers.Given as goal
+
+abbrev pub invariant-loop-q : goal.invariant-loop-q
+invariant-loop-q l = Filling (row_matches l.label l.questions l.patterns l.data) l.rows l.initial.answers l.answers l.q
+
+abbrev pub decreases-loop-q : goal.decreases-loop-q
+decreases-loop-q l = l.rows - l.q

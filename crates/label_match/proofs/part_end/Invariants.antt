@@ -1,0 +1,13 @@
+-- `label_match::part_end`: no star up to `end`.
+use Prim.Native.Nat.{◌-◌}
+use native.Mathlib.Omega.{arith}
+use lib.ListN.{length}
+use borrow.Author.Rules.{rules}
+use Rattle.label_match.proofs.Laws.{Starless, starless_none, starless_more, part-star, part_whole}
+use Rattle.label_match.proofs.part_end.Given as goal
+
+abbrev pub invariant-loop-end : goal.invariant-loop-end
+invariant-loop-end l = Starless l.pattern l.from l.end
+
+abbrev pub decreases-loop-end : goal.decreases-loop-end
+decreases-loop-end l = length l.pattern - l.end

@@ -1,0 +1,21 @@
+-- `larsavim::larsavim_trailed`: too short, or written.
+use mathlib.Core.Path.{ap, ◌∙◌}
+use lib.Seq.{sets}
+use Rattle.larsavim.specs.Trails.{found_numbers}
+use Rattle.larsavim.proofs.Laws.{answer_short, answer_full, out_short, out_full, left_short, left_full}
+use borrow.Author.Rules.{rules}
+use Rattle.larsavim.proofs.larsavim_trailed.Goals as goal
+
+pub returns-then-out-lt-TRAILED_OUT : goal.returns-then-out-lt-TRAILED_OUT
+returns-then-out-lt-TRAILED_OUT c = record { number = answer_short _ _ _ c.if-out-lt-TRAILED_OUT.true; words = left_short _ _ _ _ c.if-out-lt-TRAILED_OUT.true; answer = out_short _ _ _ c.if-out-lt-TRAILED_OUT.true; bytes = λ k. (c.shared_slice_known-1.given k).fits }
+
+pub returns : goal.returns
+returns c =
+    let room = c.if-out-lt-TRAILED_OUT.false in
+    let e = c.trailed_said-said.ensures in
+    record {
+      number = answer_full _ _ _ _ room (ap (λ x. x.number) e.0);
+      words = left_full _ _ _ _ _ room e.1;
+      answer = out_full _ _ _ _ room (c.put4.ensures ∙ ap (λ x. sets c.args.out.now 0 (found_numbers x)) e.0);
+      bytes = λ k. (c.shared_slice_known-1.given k).fits;
+    }

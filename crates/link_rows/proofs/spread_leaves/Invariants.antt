@@ -1,0 +1,10 @@
+-- `link_rows::spread_leaves`: the leaves from k on stand as rows, those before it side by side.
+use native.Mathlib.Omega.{arith}
+use Rattle.link_rows.proofs.Laws.{Spreading, spread_none, spread_more, spread_done}
+use Rattle.link_rows.proofs.spread_leaves.Given as goal
+
+abbrev pub invariant-loop-k : goal.invariant-loop-k
+invariant-loop-k l = Spreading l.initial.rows l.first l.leaves l.rows l.k
+
+abbrev pub decreases-loop-k : goal.decreases-loop-k
+decreases-loop-k l = l.k

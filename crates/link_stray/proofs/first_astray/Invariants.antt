@@ -1,0 +1,12 @@
+-- `link_stray::first_astray`: the first among those still to come is the first of all.
+use native.Mathlib.Omega.{arith}
+use Rattle.tree_line.specs.Lines.{lines_at}
+use Rattle.link_stray.proofs.Laws.{Going, going_none, going_astray, going_up, going_on, going_clean, room_behind, less_behind}
+use borrow.Author.Rules.{rules}
+use Rattle.link_stray.proofs.first_astray.Given as goal
+
+abbrev pub invariant-loop-stray : goal.invariant-loop-stray
+invariant-loop-stray l = Going l.s (lines_at l.s l.first).items l.first l.k l.stray
+
+abbrev pub decreases-loop-stray : goal.decreases-loop-stray
+decreases-loop-stray l = room_behind l.s (lines_at l.s l.first).items l.stray

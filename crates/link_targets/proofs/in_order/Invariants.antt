@@ -1,0 +1,16 @@
+-- `link_targets::in_order`: the answer is the same from each line on.
+use mathlib.Core.Path.{◌≡◌, sym, ap, ◌∙◌}
+use Prim.Native.Nat.{◌-◌, ◌≤◌}
+use native.Mathlib.Omega.{arith}
+use borrow.Author.Rules.{rules}
+use Rattle.laws.proofs.Signed.{back}
+use Rattle.link_order.specs.Keys.{id_key}
+use Rattle.link_targets.specs.Targets.{order_from}
+use Rattle.link_targets.proofs.Refs.{order_on, order_off, order_end, order_start}
+use Rattle.link_targets.proofs.in_order.Given as goal
+
+abbrev pub invariant-loop-line : goal.invariant-loop-line
+invariant-loop-line l = (l.line ≤ l.n) × (order_from l.work l.line (l.n - l.line) ≡ order_from l.work 0 l.n)
+
+abbrev pub decreases-loop-line : goal.decreases-loop-line
+decreases-loop-line l = l.n - l.line

@@ -1,0 +1,7 @@
+-- `load_bounds::need`: field by field.
+use borrow.Author.Rules.{rules}
+use Rattle.load_bounds.proofs.Laws.{need_is}
+use Rattle.load_bounds.proofs.need.Goals as goal
+
+pub returns : goal.returns
+returns c = need_is c.args.p

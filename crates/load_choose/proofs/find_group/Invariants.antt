@@ -1,0 +1,16 @@
+-- `load_choose::find_group` meets its contract.
+use borrow.Author.Rules.{rules}
+use Prim.Native.Nat.{◌+◌, ◌*◌, ◌-◌}
+use Rattle.written.specs.Bytes.{same}
+use Rattle.head_words.specs.Words.{span_at}
+use Rattle.text_parts.specs.Parts.{bytes_of}
+use Rattle.load_choose.proofs.Search.{Down, down_none, down_here, down_on}
+use native.Mathlib.Omega.{arith}
+use mathlib.Core.Path.{refl, sym, ap, ◌∙◌}
+use Rattle.load_choose.proofs.find_group.Given as goal
+
+abbrev pub invariant-loop-k : goal.invariant-loop-k
+invariant-loop-k l = Down (λ j. same (bytes_of l.file (span_at l.words (l.at + l.step * j))) (bytes_of l.file l.x)) l.n l.k
+
+abbrev pub decreases-loop-k : goal.decreases-loop-k
+decreases-loop-k l = l.k

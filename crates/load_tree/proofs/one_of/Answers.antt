@@ -1,0 +1,10 @@
+-- `load_tree::one_of` meets its contract.
+use Rattle.load_tree.proofs.Laws.{one_same, one_other}
+use borrow.Author.Rules.{rules}
+use Rattle.load_tree.proofs.one_of.Goals as goal
+
+pub returns-then-same_index : goal.returns-then-same_index
+returns-then-same_index c = one_same c.args.line c.same_index.ensures c.if-same_index.true
+
+pub returns-else-same_index : goal.returns-else-same_index
+returns-else-same_index c = one_other c.args.line c.same_index.ensures c.if-same_index.false

@@ -1,0 +1,13 @@
+-- `load_trees::put_row`: a row where the tree has its records.
+use mathlib.Core.Path.{sym, ap, ◌∙◌}
+use Prim.Native.Nat.{◌*◌}
+use lib.Seq.{sets}
+use Rattle.load_tree.specs.declared.Filled.{Filled}
+use Rattle.load_trees.specs.Trees.{row_words}
+use borrow.Author.Rules.{rules}
+use Rattle.load_trees.proofs.put_row.Goals as goal
+
+pub returns-in-Done : goal.returns-in-Done
+returns-in-Done c =
+    let a = c.args in
+    c.put_tree.ensures ∙ ap (λ (f : Filled). sets a.trees.now (6 * a.row) (row_words a.state a.first f)) (sym c.in-Done.is)

@@ -1,0 +1,30 @@
+-- `load_trees::what_follows`: each way that a tree ends, and of one with its records what stands behind it.
+use mathlib.Core.Path.{sym, ap, ◌∙◌}
+use Rattle.load_trees.specs.Trees.{ended_at, follows_step, follows_at}
+use Rattle.load_trees.specs.declared.Following.TheVariants as following
+use borrow.Author.Rules.{rules}
+use Rattle.load_trees.proofs.what_follows.Goals as goal
+
+pub returns-in-Next : goal.returns-in-Next
+returns-in-Next c =
+    let a = c.args in
+    let d = c.filled-1.given in
+    ap (follows_step d.0.0) (sym c.in-Next.is ∙ c.after_tree.ensures) ∙ sym (ap (follows_at a.s.now a.row a.next) d.1)
+
+pub returns-in-End : goal.returns-in-End
+returns-in-End c =
+    let a = c.args in
+    let d = c.filled-1.given in
+    ap (follows_step d.0.0) (sym c.in-End.is ∙ c.after_tree.ensures) ∙ sym (ap (follows_at a.s.now a.row a.next) d.1)
+
+pub returns-in-Broken : goal.returns-in-Broken
+returns-in-Broken c =
+    let a = c.args in
+    let d = c.filled-1.given in
+    ap (follows_step d.0.0) (sym c.in-Broken.is ∙ c.after_tree.ensures) ∙ sym (ap (follows_at a.s.now a.row a.next) d.1)
+
+pub returns-in-Refused : goal.returns-in-Refused
+returns-in-Refused c =
+    let a = c.args in
+    let d = c.in-Refused.is in
+    ap following.End (c.ended.ensures ∙ ap (ended_at a.row) d) ∙ sym (ap (follows_at a.s.now a.row a.next) d)

@@ -1,0 +1,18 @@
+-- `text_base::spaces_ahead`: the zeros at the low end of the difference count the spaces, by eight for each.
+use Rattle.std.proofs.Common.{sym, ◌∙◌, arith, rules}
+use lib.Count.{trailing_le}
+use borrow.Author.Tests.{not-true}
+use Rattle.text_base.proofs.Ahead.{ahead_none, nine_in, ahead_spaces}
+use Rattle.text_base.proofs.spaces_ahead.Goals as goal
+
+pub returns-then-not-has_nine : goal.returns-then-not-has_nine
+returns-then-not-has_nine c = ahead_none _ _ _ (sym c.has_nine.ensures ∙ not-true _ c.if-not-has_nine.true-raw)
+
+pub eight-requires : goal.eight-requires
+eight-requires c = omega (arith, nine_in _ c.args.s.now c.args.at c.has_nine.ensures c.if-not-has_nine.false-raw)
+
+pub overflow_cast-result : goal.overflow_cast-result
+overflow_cast-result c = omega (arith, trailing_le 64 c.wrapping_sub_u64-apart.result)
+
+pub returns : goal.returns
+returns c = ahead_spaces _ _ (nine_in _ c.args.s.now c.args.at c.has_nine.ensures c.if-not-has_nine.false-raw) (λ j. omega (arith, c.shared_slice_known-1.given j)) _ (c.wrapping_sub_u64-apart.ensures.value ∙ c.eight.ensures)

@@ -1,0 +1,7 @@
+-- `trail_last::summed` meets its contract.
+use Rattle.trail_last.proofs.Laws.{summed_as}
+use borrow.Author.Rules.{rules}
+use Rattle.trail_last.proofs.summed.Goals as goal
+
+pub returns : goal.returns
+returns c = summed_as c.args.file.now c.word.ensures c.sum_on.ensures

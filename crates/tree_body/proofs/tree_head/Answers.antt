@@ -1,0 +1,14 @@
+-- `tree_body::tree_head`: each arm is an arm of `headRead`.
+use mathlib.Core.Path.{sym, ap, ◌∙◌}
+use Rattle.laws.proofs.Signed.{back}
+use Rattle.tree_body.specs.Trees.{body_at, head_read, head_at}
+use borrow.Author.Rules.{rules}
+use Rattle.tree_body.proofs.tree_head.Goals as goal
+
+pub returns-in-Number : goal.returns-in-Number
+unfolding head_at
+returns-in-Number c = c.parse_body.ensures ∙ ap (body_at _ _) (back _ c.known_told-1.given.0.1) ∙ ap (head_read _) (sym c.in-Number.is ∙ c.parse_state.ensures)
+
+pub returns-in-NoNumber : goal.returns-in-NoNumber
+unfolding head_at
+returns-in-NoNumber c = ap (head_read _) (sym c.in-NoNumber.is ∙ c.parse_state.ensures)

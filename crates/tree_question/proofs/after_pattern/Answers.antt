@@ -1,0 +1,26 @@
+-- `tree_question::after_pattern`: each way out is an arm of `patternParted` or of `patternClosed`.
+use mathlib.Core.Path.{◌≡◌, sym, ap, ◌∙◌}
+use Prim.Native.Nat.{ℕ}
+use Rattle.tree_question.specs.Questions.{pattern_closed, pattern_parted, after_pattern}
+use Rattle.tree_question.specs.declared.PatternStep.TheVariants.{Next}
+use borrow.Author.Rules.{rules}
+use Rattle.tree_question.proofs.after_pattern.Goals as goal
+
+further : {b n i j : ℕ} → i ≡ j → Next b n i ≡ Next b n j
+further {b} {n} e = ap (Next b n) e
+
+pub returns-in-At : goal.returns-in-At
+unfolding after_pattern
+returns-in-At c = further c.blank_end.ensures ∙ ap (pattern_parted _ _ _ _) (sym c.in-At.is ∙ c.past_byte.ensures)
+
+pub returns-in-At-past_brace : goal.returns-in-At-past_brace
+unfolding after_pattern
+returns-in-At-past_brace c =
+    ap (pattern_closed _ _) (sym c.in-At-past_brace.is ∙ c.past_brace.ensures)
+    ∙ ap (pattern_parted _ _ _ _) (sym c.in-Nowhere.is ∙ c.past_byte.ensures)
+
+pub returns-in-Nowhere-past_brace : goal.returns-in-Nowhere-past_brace
+unfolding after_pattern
+returns-in-Nowhere-past_brace c =
+    ap (pattern_closed _ _) (sym c.in-Nowhere-past_brace.is ∙ c.past_brace.ensures)
+    ∙ ap (pattern_parted _ _ _ _) (sym c.in-Nowhere.is ∙ c.past_byte.ensures)

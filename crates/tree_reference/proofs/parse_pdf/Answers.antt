@@ -1,0 +1,58 @@
+-- `tree_reference::parse_pdf`. The invariant: the word ends where it did, and `start` is where the digits at the end of what was passed begin.
+use mathlib.Core.Path.{◌≡◌, refl, sym, ap, ap₂, ◌∙◌}
+use mathlib.Core.Logic.{⊎_elim}
+use mathlib.Core.List.{List}
+use Prim.Native.Nat.{ℕ, ◌-◌, ◌≤◌}
+use native.Mathlib.Omega.{arith}
+use borrow.Author.Rules.{rules}
+use borrow.Author.Tests.{not-true, not-false}
+use lib.ListN.{length}
+use Rattle.written.specs.Bytes.{in_word}
+use Rattle.laws.specs.Runs.{stop}
+use Rattle.laws.proofs.Runs.{stop_on, stop_here, stop_end}
+use Rattle.tree_reference.specs.References.{digits_from, pdf_of, pdf_at}
+use Rattle.tree_reference.proofs.Digits.{past_digit, past_other, from_end, in_word_lem}
+use Rattle.tree_reference.proofs.parse_pdf.Goals as goal
+
+record Passed (s : List ℕ) (at start i : ℕ) : Type 0 where
+  from : at ≤ i
+  same : stop in_word s i ≡ stop in_word s at
+  digits : start ≡ digits_from s at i
+
+pub loop-i-init : goal.loop-i-init
+loop-i-init c = record { from = omega arith; same = refl; digits = sym (from_end _ _ _ (omega arith)) }
+
+pub loop-i-preserved : goal.loop-i-preserved
+loop-i-preserved c =
+    let inv = c.loop-i.invariant in
+    let l = c.loop-i-test.true in
+    ⊎_elim
+    (λ w. record {
+      from = omega (arith, inv.from);
+      same = sym (stop_on _ _ _ l (sym w.1.ensures ∙ not-false _ w.2.left)) ∙ inv.same;
+      digits = w.3 ∙ past_other _ _ _ inv.from l (sym c.is_digit.ensures ∙ not-true _ w.0.taken);
+    })
+    (λ w.
+    let y = sym c.is_digit.ensures ∙ not-false _ w.0.left in
+    record {
+      from = omega (arith, inv.from);
+      same = sym (stop_on _ _ _ l (in_word_lem _ y)) ∙ inv.same;
+      digits = w.1 ∙ inv.digits ∙ past_digit _ _ _ inv.from l y;
+    })
+    c.if-not-is_digit.branch
+
+-- the word ends where the loop is left
+pdf : (s : List ℕ) (at start i : ℕ) → Passed s at start i → stop in_word s i ≡ i → pdf_of s i start ≡ pdf_at s at
+unfolding pdf_at
+pdf s at start i p e =
+    let q : i ≡ stop in_word s at = sym e ∙ p.same in
+    ap₂ (pdf_of s) q (p.digits ∙ ap (digits_from s at) q)
+
+pub returns : goal.returns
+returns c =
+    c.some_pdf.ensures
+    ∙ pdf _ _ _ _ c.loop-i.invariant
+    (⊎_elim
+    (λ w. stop_end _ _ _ w.left)
+    (λ w. stop_here _ _ _ w.0.taken (sym w.4.ensures ∙ not-true _ w.5.taken))
+    c.loop-i-test.branch)

@@ -1,0 +1,47 @@
+-- `walk_leaves::record_fits`: no record there, a line, a leaf, or another kind.
+use mathlib.Core.Path.{◌≡◌, sym, ◌∙◌}
+use mathlib.Core.Bool.{true}
+use native.Mathlib.Omega.{arith}
+use borrow.Author.Rules.{rules}
+use borrow.Author.Tests.{not-true, not-false}
+use Rattle.table_rows.specs.Rows.{record_there}
+use Rattle.table_rows.proofs.Stand.{record_in}
+use Rattle.walk_leaves.proofs.Judged.{not_there, a_line, a_leaf, another}
+use Rattle.walk_leaves.proofs.record_fits.Goals.{Else-not-record_there}
+use Rattle.walk_leaves.proofs.record_fits.Goals as goal
+
+there : (c : Else-not-record_there) → let a = c.args in record_there a.records.now a.first a.count a.k ≡ true
+there c = sym c.record_there.ensures ∙ not-false _ c.if-not-record_there.false-raw
+
+pub returns-then-not-record_there : goal.returns-then-not-record_there
+returns-then-not-record_there c = let a = c.args in not_there a.questions.now a.records.now a.first a.count a.entries a.k (sym c.record_there.ensures ∙ not-true _ c.if-not-record_there.true-raw)
+
+pub overflow_add-i : goal.overflow_add-i
+overflow_add-i c =
+    let a = c.args in
+    let h = record_in a.records.now a.first a.count a.k (there c) in
+    omega (arith, h.1)
+
+pub record_kind-kind-requires : goal.record_kind-kind-requires
+record_kind-kind-requires c = let a = c.args in (record_in a.records.now a.first a.count a.k (there c)).1
+
+pub line_fits-requires : goal.line_fits-requires
+line_fits-requires c = let a = c.args in (record_in a.records.now a.first a.count a.k (there (goal.at.line_fits-requires c).Else-not-record_there)).1
+
+pub record_pdf-requires : goal.record_pdf-requires
+record_pdf-requires c = let a = c.args in (record_in a.records.now a.first a.count a.k (there (goal.at.record_pdf-requires c).Else-not-record_there)).1
+
+pub returns-then-kind-eq0 : goal.returns-then-kind-eq0
+returns-then-kind-eq0 c =
+    let a = c.args in
+    a_line a.questions.now a.records.now a.first a.count a.entries a.k (there (goal.at.returns-then-kind-eq0 c).Else-not-record_there) c.record_kind-kind.ensures c.if-kind-eq0.true c.line_fits.ensures
+
+pub returns-then-kind-eq1 : goal.returns-then-kind-eq1
+returns-then-kind-eq1 c =
+    let a = c.args in
+    a_leaf a.questions.now a.records.now a.first a.count a.entries a.k (there (goal.at.returns-then-kind-eq1 c).Else-not-record_there) c.record_kind-kind.ensures c.if-kind-eq1.true c.record_pdf.ensures c.leaf_fits.ensures
+
+pub returns-else-kind-eq1 : goal.returns-else-kind-eq1
+returns-else-kind-eq1 c =
+    let a = c.args in
+    another a.questions.now a.records.now a.first a.count a.entries a.k (there (goal.at.returns-else-kind-eq1 c).Else-not-record_there) c.record_kind-kind.ensures c.if-kind-eq0.false c.if-kind-eq1.false

@@ -1,0 +1,18 @@
+-- `write_text::put_lines`: the lines that are left, put where the loop is, are all of them.
+use Prim.Native.Nat.{◌-◌}
+use Rattle.write_put.proofs.Puts.{Leads, leads_more, leads_done}
+use Rattle.write_parts.specs.Parts.{each, line_of}
+use Rattle.write_text.proofs.Laws.{leads_begin, flat_more, flat_done, all_flat}
+use Rattle.written.specs.Writing.{spelled_line}
+use borrow.Author.Rules.{rules}
+use mathlib.Core.List.{map, flatten}
+use mathlib.Core.Path.{refl}
+use native.Mathlib.Omega.{arith}
+use Rattle.write_text.proofs.put_lines.Given as goal
+
+abbrev pub invariant-loop-k : goal.invariant-loop-k
+invariant-loop-k l =
+    Leads l.initial.b l.at (flatten (map spelled_line (each (line_of l.s l.questions l.records l.first l.lines) 0 l.lines))) l.b l.i (flatten (map spelled_line (each (line_of l.s l.questions l.records l.first l.lines) l.k (l.lines - l.k))))
+
+abbrev pub decreases-loop-k : goal.decreases-loop-k
+decreases-loop-k l = l.lines - l.k
