@@ -172,6 +172,7 @@ first_breaks_one (FirstBreaks.later h a) (FirstBreaks.later g b) = first_breaks_
 first_breaks_never : {ms : List Model} {xs : List ModelSaid} {n k : ℕ} → All HouseModel xs → FirstBreaks ms xs n k → ⊥
 first_breaks_never (All.next h a) (FirstBreaks.here b) = house_never h b
 first_breaks_never (All.next h a) (FirstBreaks.later g b) = first_breaks_never a b
+first_breaks_never {ms = ms} {n = n} {k = k} Rattle.written.specs.Record.end x3 = elim x3 [ ]
 
 module _ {s : List ℕ} {h : Header} where
   pub voice_breaks_one : {ms : List Model} {xs : List ModelSaid} {n m k j : ℕ} → VoiceBreaks s h ms xs n k → VoiceBreaks s h ms xs m j → (n ≡ m) × (k ≡ j)
@@ -203,6 +204,7 @@ module _ {Loads : Model → ModelSaid → Type 0} {Refuses : Model → ℕ → �
   all_never : {ms : List Model} {xs : List ModelSaid} {n p l k : ℕ} → Pointwise Loads ms xs → FirstRefused Loads Refuses ms n p l k → ⊥
   all_never (Pointwise.more {a = m} {b = x} a p) (FirstRefused.here {n = n} {p = q} {l = l} r) = never_both m x n q l a r
   all_never (Pointwise.more a p) (FirstRefused.later b r) = all_never p r
+  all_never {n = n} {p = p} {l = l} {k = k} Rattle.written.specs.Groups.none x4 = elim x4 [ ]
 
   first_refused_one : {ms : List Model} {n p l k m q j i : ℕ} → FirstRefused Loads Refuses ms n p l k → FirstRefused Loads Refuses ms m q j i → (n ≡ m) × (p ≡ q) × (l ≡ j) × (k ≡ i)
   first_refused_one (FirstRefused.here {m = m} {n = n} {p = p} {l = l} a) (FirstRefused.here {n = k} {p = q} {l = j} b) =

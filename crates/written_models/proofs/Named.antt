@@ -22,6 +22,7 @@ Before n x = x.start + x.len ≤ n
 pub all_nth : {A : Type 0} {P : A → Type 0} {l : List A} {k : ℕ} {x : A} → All P l → Nth l k x → P x
 all_nth (All.next p a) here = p
 all_nth (All.next p a) (there h) = all_nth a h
+all_nth {A = A} {P = P} {k = k} Rattle.written.specs.Record.end x6 = elim x6 [ ]
 
 all_append : {A : Type 0} {P : A → Type 0} {l m : List A} → All P l → All P m → All P (l ++ m)
 all_append All.end b = b

@@ -40,6 +40,7 @@ row_points : {m k : ℕ} {ts : List Tree} {us : List TreePlace} {ns : List ℕ} 
     → (n : ℕ) × LinesOf x.body n × RowOf ns k m u.star n
 row_points (TrailerRows.more {n = n} l r) here here = (n, l, record { model = here; place = there here; count = there (there here) })
 row_points (TrailerRows.more l r) (there a) (there b) = let h = row_points r a b in (h.0, h.1, row_on h.2)
+row_points {m = m} {k = k} {u = u} Rattle.written.specs.Trailer.none x14 _ = elim x14 [ ]
 
 -- the row of the k-th tree of a model says where it stands and how many lines its row has
 pub record Reached (s ns : List ℕ) (m k : ℕ) (x : Tree) : Type 0 where
@@ -93,6 +94,7 @@ linked_from {qs} pre (TreeRows.more {f = f} {n = n} {m = m} {t = t} {rows = rows
     }
 linked_from {qs} {k = suc k} {x = x} pre (TreeRows.more {f = f} {rows = rows} {trees = trees} {records = records} s r l w) e (there h) =
     next_alone (subst (λ z. LinkedAlone qs trees z k x) (append_assoc pre rows records) (linked_from (pre ++ rows) w (omega (arith, e, length-append pre rows)) h))
+linked_from {qs = qs} {k = k} {x = x} pre (Rattle.written.specs.Tables.none {f = f}) e x17 = elim x17 [ ]
 
 -- a tree of a model that links, taken alone, has the records that the model has for it, and the row with its first record at 0
 pub linked_alone : {qs : List Question} {ts : List Tree} {trees records : List Row} {k : ℕ} {x : Tree} → TreeRows qs 0 ts trees records → Nth ts k x → LinkedAlone qs trees records k x

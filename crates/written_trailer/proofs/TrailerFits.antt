@@ -31,6 +31,7 @@ module _ {A C : Type 0} {Part : ℕ → ℕ → Type 0} {Item : ℕ → ℕ → 
   item_at (Parted.last {i = i} {j = j} {y = y} p) here = (y, i, j, here, p)
   item_at (Parted.next {i = i} {a = a} {y = y} p q r) here = (y, i, a, here, p)
   item_at (Parted.next p q r) (there n) = let h = item_at r n in (h.0, h.1, h.2, there h.3, h.4)
+  item_at (tree.last {i = i} {j = j} {y = y} p) (there {k = k} n) = elim n [ ]
 
 star_at : {s : List ℕ} {a b : ℕ} {x : Tree} {u : TreePlace} → TreeAt s a b x u → TreeAt s u.star b x u
 star_at (TreeAt.tree w b o n c e t) = TreeAt.tree w b o n c e t

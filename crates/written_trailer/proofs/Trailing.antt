@@ -167,6 +167,7 @@ module _ {s : List ℕ} {h : Header} where
   pub voice_rows_never : {ms : List Model} {a : List ℕ} {n p : ℕ} → VoiceRows s h ms a → NoVoiceRows s h ms n p → ⊥
   voice_rows_never (VoiceRows.next t r v) (NoVoiceRows.here n) = text_never t n
   voice_rows_never (VoiceRows.next t r v) (NoVoiceRows.later u n) = voice_rows_never v n
+  voice_rows_never {n = n} {p = p} Rattle.written.specs.Trailer.end x4 = elim x4 [ ]
 
   pub no_voice_rows_once : {ms : List Model} {n k p q : ℕ} → NoVoiceRows s h ms n p → NoVoiceRows s h ms k q → (n ≡ k) × (p ≡ q)
   no_voice_rows_once (NoVoiceRows.here a) (NoVoiceRows.here b) = no_text_one a b

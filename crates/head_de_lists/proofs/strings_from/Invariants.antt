@@ -18,7 +18,7 @@ use mathlib.Core.Path.{◌≡◌, sym, ap, ◌∙◌}
 use Rattle.head_de_lists.proofs.strings_from.Given as goal
 
 abbrev pub invariant-loop-refusal : goal.invariant-loop-refusal
-invariant-loop-refusal l = (l : List Span) × (l.list ≡ spans_of l) × Going (λ i. of_text (text_at (delimiters_of l.inner) l.s i)) (delimiters_of l.outer) l.s l.initial.at.at l.at.at l
+invariant-loop-refusal l = (items : List Span) × (l.list ≡ spans_of items) × Going (λ i. of_text (text_at (delimiters_of l.inner) l.s i)) (delimiters_of l.outer) l.s l.initial.at.at l.at.at items
 
 abbrev pub decreases-loop-refusal : goal.decreases-loop-refusal
 decreases-loop-refusal l = length l.s - l.at.at

@@ -16,7 +16,7 @@ pub index_names-requires : goal.index_names-requires
 index_names-requires c = index_room _ _ _ (asked (goal.at.index_names-requires c).Start)
 
 pub slice_bounds-all_last-end : goal.slice_bounds-all_last-end
-slice_bounds-all_last-end c = omega (arith, index_room _ _ _ (asked c.before.before.before.before.before.before.before.before), c.index_names.auto.1.1.1.0)
+slice_bounds-all_last-end c = omega (arith, index_room _ _ _ (asked c.before.before.before.before.before.before.before.before), c.index_names.auto.patterns)
 
 pub all_last-once-requires : goal.all_last-once-requires
 all_last-once-requires c = let a = c.args in is_index a.s.now a.at a.n (asked c.before.before.before.before.before.before.before.before.before) _ _ _ refl c.index_names.ensures

@@ -23,13 +23,13 @@ returns-in-Refused c =
     next_refused (side_of a.top) a.file.now (header_at a.words.now) a.which (held_of a.mine) (held_of a.other) (lent a.questions.now a.patterns.now a.trees.now a.records.now a.values.now a.work.now) c.unload.ensures.tables (sym c.in-Refused.is ∙ c.needs.ensures)
 
 pub shape_of-questions-in-Model : goal.shape_of-questions-in-Model
-shape_of-questions-in-Model c = c.judge_planned.auto.1.1.1.1.0 ∙ c.unload.auto.1.1.1.0
+shape_of-questions-in-Model c = c.judge_planned.auto.questions ∙ c.unload.auto.questions
 
 pub shape_of-patterns-in-Model : goal.shape_of-patterns-in-Model
-shape_of-patterns-in-Model c = c.judge_planned.auto.1.1.1.1.1.0 ∙ c.unload.auto.1.1.1.1.0
+shape_of-patterns-in-Model c = c.judge_planned.auto.patterns ∙ c.unload.auto.patterns
 
 pub shape_of-trees-in-Model : goal.shape_of-trees-in-Model
-shape_of-trees-in-Model c = c.judge_planned.auto.1.1.1.1.1.1.0 ∙ c.unload.auto.1.1.1.1.1.0
+shape_of-trees-in-Model c = c.judge_planned.auto.trees ∙ c.unload.auto.trees
 
 pub returns-in-Model : goal.returns-in-Model
 returns-in-Model c =

@@ -14,7 +14,7 @@ use Rattle.house_text.proofs.Laws.{Judging, judge_off, judge_on, judge_last, jud
 use Rattle.house_text.proofs.leaves_run.Given as goal
 
 abbrev pub invariant-loop-next : goal.invariant-loop-next
-invariant-loop-next l = Judging l.s (λ l.k b. body_fits (tree_entries l.trees l.k) b) l.at l.k l.i × (l.k + length (trees_at l.s l.i).items ≤ tree_rows l.trees) × (l.k ≤ l.i)
+invariant-loop-next l = Judging l.s (λ k b. body_fits (tree_entries l.trees k) b) l.at l.k l.i × (l.k + length (trees_at l.s l.i).items ≤ tree_rows l.trees) × (l.k ≤ l.i)
 
 abbrev pub decreases-loop-next : goal.decreases-loop-next
 decreases-loop-next l = length l.s - l.i

@@ -19,22 +19,22 @@ pub number_of-requires : goal.number_of-requires
 number_of-requires c = c.loop-refusal.invariant.low
 
 pub shape_of-questions-in-Refused : goal.shape_of-questions-in-Refused
-shape_of-questions-in-Refused c = c.judge_next.auto.1.1.1.1.1.1.0 ∙ c.loop-refusal.invariant.long.questions
+shape_of-questions-in-Refused c = c.judge_next.auto.questions ∙ c.loop-refusal.invariant.long.questions
 
 pub shape_of-patterns-in-Refused : goal.shape_of-patterns-in-Refused
-shape_of-patterns-in-Refused c = c.judge_next.auto.1.1.1.1.1.1.1.0 ∙ c.loop-refusal.invariant.long.patterns
+shape_of-patterns-in-Refused c = c.judge_next.auto.patterns ∙ c.loop-refusal.invariant.long.patterns
 
 pub shape_of-trees-in-Refused : goal.shape_of-trees-in-Refused
-shape_of-trees-in-Refused c = c.judge_next.auto.1.1.1.1.1.1.1.1.0 ∙ c.loop-refusal.invariant.long.trees
+shape_of-trees-in-Refused c = c.judge_next.auto.trees ∙ c.loop-refusal.invariant.long.trees
 
 pub shape_of-records-in-Refused : goal.shape_of-records-in-Refused
-shape_of-records-in-Refused c = c.judge_next.auto.1.1.1.1.1.1.1.1.1.0 ∙ c.loop-refusal.invariant.long.records
+shape_of-records-in-Refused c = c.judge_next.auto.records ∙ c.loop-refusal.invariant.long.records
 
 pub shape_of-values-in-Refused : goal.shape_of-values-in-Refused
-shape_of-values-in-Refused c = c.judge_next.auto.1.1.1.1.1.1.1.1.1.1.0 ∙ c.loop-refusal.invariant.long.values
+shape_of-values-in-Refused c = c.judge_next.auto.values ∙ c.loop-refusal.invariant.long.values
 
 pub shape_of-work-in-Refused : goal.shape_of-work-in-Refused
-shape_of-work-in-Refused c = c.judge_next.auto.1.1.1.1.1.1.1.1.1.1.1.0 ∙ c.loop-refusal.invariant.long.work
+shape_of-work-in-Refused c = c.judge_next.auto.work ∙ c.loop-refusal.invariant.long.work
 
 pub returns-in-Refused : goal.returns-in-Refused
 returns-in-Refused c = voice_refused (side_of c.args.top) c.args.file.now (header_at c.args.words.now) (held_of c.args.other) c.loop-refusal.invariant c.judge_next.ensures.1 (sym c.in-Refused.is ∙ c.judge_next.ensures.0) c.number_of.ensures
@@ -53,31 +53,31 @@ pub loop-refusal-preserved : goal.loop-refusal-preserved
 loop-refusal-preserved c =
     judging_more (side_of c.args.top) c.args.file.now (header_at c.args.words.now) (held_of c.args.other) c.loop-refusal.invariant c.judge_next.ensures.1 (sym c.in-Judged.is ∙ c.judge_next.ensures.0) c.number_of-in-Judged.ensures c.first_of-first.ensures (sym c.in-Model.is ∙ c.next_model.ensures)
     record {
-      questions = c.judge_next.auto.1.1.1.1.1.1.0 ∙ c.loop-refusal.invariant.long.questions;
-      patterns = c.judge_next.auto.1.1.1.1.1.1.1.0 ∙ c.loop-refusal.invariant.long.patterns;
-      trees = c.judge_next.auto.1.1.1.1.1.1.1.1.0 ∙ c.loop-refusal.invariant.long.trees;
-      records = c.judge_next.auto.1.1.1.1.1.1.1.1.1.0 ∙ c.loop-refusal.invariant.long.records;
-      values = c.judge_next.auto.1.1.1.1.1.1.1.1.1.1.0 ∙ c.loop-refusal.invariant.long.values;
-      work = c.judge_next.auto.1.1.1.1.1.1.1.1.1.1.1.0 ∙ c.loop-refusal.invariant.long.work;
+      questions = c.judge_next.auto.questions ∙ c.loop-refusal.invariant.long.questions;
+      patterns = c.judge_next.auto.patterns ∙ c.loop-refusal.invariant.long.patterns;
+      trees = c.judge_next.auto.trees ∙ c.loop-refusal.invariant.long.trees;
+      records = c.judge_next.auto.records ∙ c.loop-refusal.invariant.long.records;
+      values = c.judge_next.auto.values ∙ c.loop-refusal.invariant.long.values;
+      work = c.judge_next.auto.work ∙ c.loop-refusal.invariant.long.work;
     }
 
 pub shape_of-questions-in-End : goal.shape_of-questions-in-End
-shape_of-questions-in-End c = c.judge_next.auto.1.1.1.1.1.1.0 ∙ c.loop-refusal.invariant.long.questions
+shape_of-questions-in-End c = c.judge_next.auto.questions ∙ c.loop-refusal.invariant.long.questions
 
 pub shape_of-patterns-in-End : goal.shape_of-patterns-in-End
-shape_of-patterns-in-End c = c.judge_next.auto.1.1.1.1.1.1.1.0 ∙ c.loop-refusal.invariant.long.patterns
+shape_of-patterns-in-End c = c.judge_next.auto.patterns ∙ c.loop-refusal.invariant.long.patterns
 
 pub shape_of-trees-in-End : goal.shape_of-trees-in-End
-shape_of-trees-in-End c = c.judge_next.auto.1.1.1.1.1.1.1.1.0 ∙ c.loop-refusal.invariant.long.trees
+shape_of-trees-in-End c = c.judge_next.auto.trees ∙ c.loop-refusal.invariant.long.trees
 
 pub shape_of-records-in-End : goal.shape_of-records-in-End
-shape_of-records-in-End c = c.judge_next.auto.1.1.1.1.1.1.1.1.1.0 ∙ c.loop-refusal.invariant.long.records
+shape_of-records-in-End c = c.judge_next.auto.records ∙ c.loop-refusal.invariant.long.records
 
 pub shape_of-values-in-End : goal.shape_of-values-in-End
-shape_of-values-in-End c = c.judge_next.auto.1.1.1.1.1.1.1.1.1.1.0 ∙ c.loop-refusal.invariant.long.values
+shape_of-values-in-End c = c.judge_next.auto.values ∙ c.loop-refusal.invariant.long.values
 
 pub shape_of-work-in-End : goal.shape_of-work-in-End
-shape_of-work-in-End c = c.judge_next.auto.1.1.1.1.1.1.1.1.1.1.1.0 ∙ c.loop-refusal.invariant.long.work
+shape_of-work-in-End c = c.judge_next.auto.work ∙ c.loop-refusal.invariant.long.work
 
 pub returns-in-End : goal.returns-in-End
 returns-in-End c = voice_judged (side_of c.args.top) c.args.file.now (header_at c.args.words.now) (held_of c.args.other) c.loop-refusal.invariant c.judge_next.ensures.1 (sym c.in-Judged.is ∙ c.judge_next.ensures.0) c.number_of-in-Judged.ensures c.first_of-first.ensures (sym c.in-End.is ∙ c.next_model.ensures)

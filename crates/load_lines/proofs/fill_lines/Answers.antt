@@ -50,7 +50,7 @@ pub overflow_add-result-in-Last : goal.overflow_add-result-in-Last
 overflow_add-result-in-Last c = omega (arith, c.line_pdfs.ensures, line_few c.in-Last.line, last_in _ c.loop-line.i (sym c.in-Last.is ∙ c.next_line.ensures), c.loop-line.invariant.1.few, c.well_formed)
 
 pub shape_of-work-in-Last : goal.shape_of-work-in-Last
-shape_of-work-in-Last c = c.put_line-in-Last.auto.0 ∙ c.loop-line.invariant.0.long
+shape_of-work-in-Last c = c.put_line-in-Last.auto.work ∙ c.loop-line.invariant.0.long
 
 pub returns-in-Last : goal.returns-in-Last
 returns-in-Last c =

@@ -21,7 +21,7 @@ fill_block-requires c =
     let a = c.args in
     let p = a.p in
     let h = c.requires in
-    block_fits a.d.now p h.0 (length a.questions.now) (length a.patterns.now) (length a.trees.now) (length a.records.now) (length a.values.now) (length a.work.now) h.1 c.up_to-then-all_linked.ensures c.fill_text-linked.auto.1.1.1.1.1.1.0
+    block_fits a.d.now p h.0 (length a.questions.now) (length a.patterns.now) (length a.trees.now) (length a.records.now) (length a.values.now) (length a.work.now) h.1 c.up_to-then-all_linked.ensures c.fill_text-linked.auto.trees
 
 pub returns-then-all_linked : goal.returns-then-all_linked
 returns-then-all_linked c =

@@ -35,7 +35,7 @@ pub overflow_add-result : goal.overflow_add-result
 overflow_add-result c = omega (arith, last_in _ c.loop-start.i (sym c.in-Last.is ∙ c.next_pattern.ensures), c.loop-start.invariant.1.few, c.well_formed)
 
 pub shape_of-patterns-in-Last : goal.shape_of-patterns-in-Last
-shape_of-patterns-in-Last c = c.put2-in-Last.auto.0 ∙ c.loop-start.invariant.0.long
+shape_of-patterns-in-Last c = c.put2-in-Last.auto.t ∙ c.loop-start.invariant.0.long
 
 pub returns-in-Last : goal.returns-in-Last
 returns-in-Last c =

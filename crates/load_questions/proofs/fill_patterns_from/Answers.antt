@@ -39,7 +39,7 @@ loop-first-preserved c =
     (listing_more _ _ _ _ _ _ c.loop-first.invariant.0 (told_of _ _ (row_next _ c.loop-first.i h d a)) _ c.fill_patterns.ensures.1, done_next _ _ c.loop-first.invariant.1 h d a)
 
 pub shape_of-patterns-in-Tree : goal.shape_of-patterns-in-Tree
-shape_of-patterns-in-Tree c = c.fill_patterns.auto.1.1.0 ∙ c.loop-first.invariant.0.long
+shape_of-patterns-in-Tree c = c.fill_patterns.auto.patterns ∙ c.loop-first.invariant.0.long
 
 pub returns-in-Tree : goal.returns-in-Tree
 returns-in-Tree c =
@@ -47,7 +47,7 @@ returns-in-Tree c =
     listing_last _ _ _ _ _ _ c.loop-first.invariant.0 w _ c.fill_patterns.ensures.1
 
 pub shape_of-patterns-in-Broken : goal.shape_of-patterns-in-Broken
-shape_of-patterns-in-Broken c = c.fill_patterns.auto.1.1.0 ∙ c.loop-first.invariant.0.long
+shape_of-patterns-in-Broken c = c.fill_patterns.auto.patterns ∙ c.loop-first.invariant.0.long
 
 pub returns-in-Broken : goal.returns-in-Broken
 returns-in-Broken c = never_broken _ _ c.loop-first.invariant.1 (sym c.in-Named.is ∙ c.question_head.ensures) (sym c.in-Broken.is ∙ c.fill_patterns.ensures.0)

@@ -29,7 +29,7 @@ pub put4-requires-in-Last : goal.put4-requires-in-Last
 put4-requires-in-Last c = last_room _ _ _ _ _ _ _ c.loop-start.invariant (told_of _ _ (sym c.in-Last.is ∙ c.question_row.ensures))
 
 pub shape_of-questions-in-Last : goal.shape_of-questions-in-Last
-shape_of-questions-in-Last c = c.put4-in-Last.auto.0 ∙ c.loop-start.invariant.long
+shape_of-questions-in-Last c = c.put4-in-Last.auto.t ∙ c.loop-start.invariant.long
 
 pub returns-in-Last : goal.returns-in-Last
 returns-in-Last c = asking_last _ _ _ _ _ _ _ c.loop-start.invariant (told_of _ _ (sym c.in-Last.is ∙ c.question_row.ensures)) _ c.put4-in-Last.ensures

@@ -11,7 +11,7 @@ pub index_names-requires : goal.index_names-requires
 index_names-requires c = index_room _ _ _ (asked_of c.requires)
 
 pub slice_bounds-fill_trees-end-2 : goal.slice_bounds-fill_trees-end-2
-slice_bounds-fill_trees-end-2 c = omega (arith, index_room _ _ _ (asked_of c.requires), c.index_names.auto.1.1.1.0)
+slice_bounds-fill_trees-end-2 c = omega (arith, index_room _ _ _ (asked_of c.requires), c.index_names.auto.patterns)
 
 pub fill_trees-requires : goal.fill_trees-requires
 fill_trees-requires c =

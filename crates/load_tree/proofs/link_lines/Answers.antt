@@ -8,11 +8,11 @@ use Rattle.load_tree.proofs.link_lines.Goals as goal
 pub returns-in-Done : goal.returns-in-Done
 returns-in-Done c =
     let a = c.args in
-    let p = linked_part a.work.now a.lines a.needed a.records.now a.first c.requires.2 _ refl (part_length a.work.now a.lines a.needed a.records.now a.first c.requires.2) c.link_tree.auto.1.1.1.0 c.link_tree.ensures in
+    let p = linked_part a.work.now a.lines a.needed a.records.now a.first c.requires.2 _ refl (part_length a.work.now a.lines a.needed a.records.now a.first c.requires.2) c.link_tree.auto.rows c.link_tree.ensures in
     (ap (link_ends a.lines a.needed) (sym c.in-Done.is) ∙ p.0, p.1)
 
 pub returns-in-Refused : goal.returns-in-Refused
 returns-in-Refused c =
     let a = c.args in
-    let p = linked_part a.work.now a.lines a.needed a.records.now a.first c.requires.2 _ refl (part_length a.work.now a.lines a.needed a.records.now a.first c.requires.2) c.link_tree.auto.1.1.1.0 c.link_tree.ensures in
+    let p = linked_part a.work.now a.lines a.needed a.records.now a.first c.requires.2 _ refl (part_length a.work.now a.lines a.needed a.records.now a.first c.requires.2) c.link_tree.auto.rows c.link_tree.ensures in
     (ap (link_ends a.lines a.needed) (sym c.in-Refused.is) ∙ p.0, p.1)

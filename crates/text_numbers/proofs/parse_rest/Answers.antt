@@ -21,7 +21,7 @@ returns-then-not-is_digit c =
 
 -- the byte read in a turn is a digit
 abbrev byte : Else-not-is_digit → ℕ
-byte c = get_or c.before.before.before.before.before.before.args.s.now c.before.before.before.before.loop.i 0
+byte c = get_or c.args.s.now c.loop-i.i 0
 
 is_a_digit : (c : Else-not-is_digit) → digit (byte c) ≡ true
 is_a_digit c = sym c.is_digit.ensures ∙ not-false _ c.if-not-is_digit.false-raw

@@ -13,6 +13,7 @@ use Rattle.laws.proofs.Runs.{read_in}
 use Rattle.text_numbers.specs.Answers.{unsigned_at, signed_of, signed_at}
 use Rattle.text_numbers.specs.declared.Unsigned.{Unsigned}
 use borrow.Author.Rules.{rules}
+use Rattle.text_numbers.proofs.parse_signed.Goals.{then-minus, else-minus}
 use Rattle.text_numbers.proofs.parse_signed.Goals as goal
 
 module _ (s : List ℕ) (i : ℕ) {b : ℕ} (first : b ≡ byte_at s i) {u : Unsigned} where
@@ -27,21 +28,18 @@ module _ (s : List ℕ) (i : ℕ) {b : ℕ} (first : b ≡ byte_at s i) {u : Uns
 pub overflow_add-digits : goal.overflow_add-digits
 overflow_add-digits c = omega (arith, read_in _ _ c.byte_at-minus.ensures (eqb-true _ _ c.if-minus.true-raw) (omega arith))
 
-never : {A : Type 0} {b : Bool} → b ≡ true → b ≡ false → A
-never y n = let z : ◌≡◌ {A = ℕ} 0 1 = cc in absurd (omega arith)
-
 pub returns-then-minus-2 : goal.returns-then-minus-2
 returns-then-minus-2 c =
     c.negative.ensures
-    ∙ ⊎_elim
-    (λ w. dashed _ _ c.byte_at-minus.ensures (eqb-true _ _ c.if-minus-2.true-raw) (c.parse_unsigned-u.ensures ∙ ap (unsigned_at _) w.1))
-    (λ w. never c.if-minus-2.true-raw w.0.left)
-    c.if-minus.branch
+    ∙ elim c.if-minus.branch [
+    | then-minus w ↦ dashed _ _ c.byte_at-minus.ensures (eqb-true _ _ c.if-minus-2.true-raw) (c.parse_unsigned-u.ensures ∙ ap (unsigned_at _) w.digits-is)
+    | else-minus w ↦ absurd (omega arith)
+    ]
 
 pub returns-else-minus-2 : goal.returns-else-minus-2
 returns-else-minus-2 c =
     c.positive.ensures
-    ∙ ⊎_elim
-    (λ w. never w.0.taken c.if-minus-2.false-raw)
-    (λ w. bare _ _ c.byte_at-minus.ensures (eqb-false _ _ c.if-minus-2.false-raw) (c.parse_unsigned-u.ensures ∙ ap (unsigned_at _) w.1))
-    c.if-minus.branch
+    ∙ elim c.if-minus.branch [
+    | then-minus w ↦ absurd (omega arith)
+    | else-minus w ↦ bare _ _ c.byte_at-minus.ensures (eqb-false _ _ c.if-minus-2.false-raw) (c.parse_unsigned-u.ensures ∙ ap (unsigned_at _) w.digits-is)
+    ]

@@ -12,14 +12,8 @@ use Rattle.written.specs.Bytes.{digit}
 use Rattle.text_numbers.specs.Answers.{unsigned_at, unsigned_from}
 use Rattle.text_numbers.proofs.Numbers.{from_on, from_here, digit-range, at_end, at_other, at_digit, tens, tens_fit, tens_start, tens_on}
 use Rattle.text_numbers.proofs.parse_unsigned.Goals.{Else-not-is_digit-2, In-loop-i}
+use Rattle.text_numbers.proofs.parse_unsigned.Goals.{then-s-at-le19, else-s-at-le19}
 use Rattle.text_numbers.proofs.parse_unsigned.Goals as goal
-
-record Few (s : List ℕ) (at most value i : ℕ) : Type 0 where
-  answer : unsigned_at s at ≡ unsigned_from value s i
-  from : at ≤ i
-  inside : most ≤ length s
-  few : most ≤ at + 19
-  small : value < tens (i - at)
 
 pub returns-then-s-at : goal.returns-then-s-at
 returns-then-s-at c = sym (at_end _ _ c.if-s-at.true)
@@ -29,8 +23,10 @@ returns-then-not-is_digit c = sym (at_other _ _ c.if-s-at.false (sym c.is_digit.
 
 pub loop-i-init : goal.loop-i-init
 loop-i-init c =
-    let few = ⊎_elim {C = (c.if-s-at-le19.most ≤ length c.args.s.now) × (c.if-s-at-le19.most ≤ c.args.at + 19)}
-    (λ w. (omega arith, omega arith)) (λ w. (omega arith, omega arith)) c.if-s-at-le19.branch in
+    let few : (c.if-s-at-le19.most ≤ length c.args.s.now) × (c.if-s-at-le19.most ≤ c.args.at + 19) = elim c.if-s-at-le19.branch [
+    | then-s-at-le19 w ↦ (omega arith, omega arith)
+    | else-s-at-le19 w ↦ (omega arith, omega arith)
+    ] in
     record {
       answer = at_digit _ _ c.if-s-at.false (sym c.is_digit.ensures ∙ not-false _ c.if-not-is_digit.false-raw);
       from = omega arith;
@@ -51,7 +47,7 @@ returns-then-not-is_digit-2 c =
 
 -- the byte read in a turn is a digit
 abbrev byte : Else-not-is_digit-2 → ℕ
-byte c = get_or c.before.before.before.before.before.before.before.before.before.before.before.args.s.now c.before.before.before.before.loop.i 0
+byte c = get_or c.args.s.now c.loop-i.i 0
 
 is_a_digit : (c : Else-not-is_digit-2) → digit (byte c) ≡ true
 is_a_digit c = sym c.is_digit-in-loop-i.ensures ∙ not-false _ c.if-not-is_digit-2.false-raw

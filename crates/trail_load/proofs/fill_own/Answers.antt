@@ -93,19 +93,19 @@ fill_tree-requires c =
     (h.0, parts_room (side_of a.top) a.d.now a.p a.questions.now a.patterns.now a.trees.now a.records.now a.values.now a.work.now c.own_part-q.ensures c.own_part-a.ensures c.own_part-t.ensures c.own_part-r.ensures c.own_part-v.ensures h.1.lines)
 
 pub shape_of-questions : goal.shape_of-questions
-shape_of-questions c = search (same_len_mid, c.fill_tree.auto.1.1.1.0)
+shape_of-questions c = search (same_len_mid, c.fill_tree.auto.questions)
 
 pub shape_of-patterns : goal.shape_of-patterns
-shape_of-patterns c = search (same_len_mid, c.fill_tree.auto.1.1.1.1.0)
+shape_of-patterns c = search (same_len_mid, c.fill_tree.auto.patterns)
 
 pub shape_of-trees : goal.shape_of-trees
-shape_of-trees c = search (same_len_mid, c.fill_tree.auto.1.1.1.1.1.0)
+shape_of-trees c = search (same_len_mid, c.fill_tree.auto.trees)
 
 pub shape_of-records : goal.shape_of-records
-shape_of-records c = search (same_len_mid, c.fill_tree.auto.1.1.1.1.1.1.0)
+shape_of-records c = search (same_len_mid, c.fill_tree.auto.records)
 
 pub shape_of-values : goal.shape_of-values
-shape_of-values c = search (same_len_mid, c.fill_tree.auto.1.1.1.1.1.1.1.0)
+shape_of-values c = search (same_len_mid, c.fill_tree.auto.values)
 
 pub returns : goal.returns
 unfolding tree_placed_in

@@ -22,7 +22,7 @@ pub fill_entries-requires : goal.fill_entries-requires
 fill_entries-requires c =
     let a = c.args in
     let h = c.requires in
-    values_room a.d.now a.p h.0 (length a.questions.now) (length a.patterns.now) (length a.trees.now) (length a.records.now) (length a.values.now) (length a.work.now) h.1 c.up_to-then-all_linked.ensures c.fill_one-linked.auto.1.1.1.1.1.1.1.0
+    values_room a.d.now a.p h.0 (length a.questions.now) (length a.patterns.now) (length a.trees.now) (length a.records.now) (length a.values.now) (length a.work.now) h.1 c.up_to-then-all_linked.ensures c.fill_one-linked.auto.trees
 
 pub returns-then-all_linked : goal.returns-then-all_linked
 returns-then-all_linked c =

@@ -12,12 +12,8 @@ use Rattle.laws.specs.Runs.{stop}
 use Rattle.laws.proofs.Runs.{stop_on, stop_here, stop_end}
 use Rattle.tree_reference.specs.References.{digits_from, pdf_of, pdf_at}
 use Rattle.tree_reference.proofs.Digits.{past_digit, past_other, from_end, in_word_lem}
+use Rattle.tree_reference.proofs.parse_pdf.Invariants.{Passed}
 use Rattle.tree_reference.proofs.parse_pdf.Goals as goal
-
-record Passed (s : List ℕ) (at start i : ℕ) : Type 0 where
-  from : at ≤ i
-  same : stop in_word s i ≡ stop in_word s at
-  digits : start ≡ digits_from s at i
 
 pub loop-i-init : goal.loop-i-init
 loop-i-init c = record { from = omega arith; same = refl; digits = sym (from_end _ _ _ (omega arith)) }

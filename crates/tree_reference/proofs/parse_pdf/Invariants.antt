@@ -14,6 +14,11 @@ use Rattle.tree_reference.specs.References.{digits_from, pdf_of, pdf_at}
 use Rattle.tree_reference.proofs.Digits.{past_digit, past_other, from_end, in_word_lem}
 use Rattle.tree_reference.proofs.parse_pdf.Given as goal
 
+pub record Passed (s : List ℕ) (at start i : ℕ) : Type 0 where
+  pub from : at ≤ i
+  pub same : stop in_word s i ≡ stop in_word s at
+  pub digits : start ≡ digits_from s at i
+
 abbrev pub invariant-loop-i : goal.invariant-loop-i
 invariant-loop-i l = Passed l.s l.at l.start l.i
 

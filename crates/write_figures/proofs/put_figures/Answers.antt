@@ -25,7 +25,7 @@ pub loop-m-preserved : goal.loop-m-preserved
 loop-m-preserved c = storing_more _ _ _ _ _ _ c.loop-m.invariant c.loop-m-test.true c.put1.ensures
 
 pub shape_of-b : goal.shape_of-b
-shape_of-b c = c.put1-2.auto.0 ∙ c.loop-m.invariant.long
+shape_of-b c = c.put1-2.auto.b ∙ c.loop-m.invariant.long
 
 pub returns : goal.returns
 returns c = storing_done _ _ _ _ _ _ c.loop-m.invariant (omega arith) c.put1-2.ensures (c.past-2.ensures ∙ ap (λ (l : ℕ). min (c.args.at + l) 18446744073709551615) c.figures_len-len.ensures)

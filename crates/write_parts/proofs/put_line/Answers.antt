@@ -6,7 +6,7 @@ use mathlib.Core.Path.{◌∙◌}
 use Rattle.write_parts.proofs.put_line.Goals as goal
 
 pub shape_of-b : goal.shape_of-b
-shape_of-b c = c.put1.auto.0 ∙ c.put_reference-yes.auto.0 ∙ c.put1-before_yes.auto.0 ∙ c.put_reference-no.auto.0 ∙ c.put1-before_no.auto.0 ∙ c.put_name-name.auto.0 ∙ c.put1-before_name.auto.0 ∙ c.put_id-id.auto.0
+shape_of-b c = c.put1.auto.b ∙ c.put_reference-yes.auto.b ∙ c.put1-before_yes.auto.b ∙ c.put_reference-no.auto.b ∙ c.put1-before_no.auto.b ∙ c.put_name-name.auto.b ∙ c.put1-before_name.auto.b ∙ c.put_id-id.auto.b
 
 pub returns : goal.returns
 returns c = put_as (line_bytes c.args.s.now c.args.questions.now c.args.records.now c.args.first c.args.lines c.args.k c.asked-q.ensures c.goes_no-n.ensures c.goes_yes-y.ensures)

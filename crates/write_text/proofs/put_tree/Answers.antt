@@ -6,7 +6,7 @@ use mathlib.Core.Path.{◌∙◌}
 use Rattle.write_text.proofs.put_tree.Goals as goal
 
 pub shape_of-b : goal.shape_of-b
-shape_of-b c = c.put1.auto.0 ∙ c.put_body-end.auto.0 ∙ c.put2-body.auto.0 ∙ c.put_figures-bracket.auto.0 ∙ c.put5-digits.auto.0
+shape_of-b c = c.put1.auto.b ∙ c.put_body-end.auto.b ∙ c.put2-body.auto.b ∙ c.put_figures-bracket.auto.b ∙ c.put5-digits.auto.b
 
 pub returns : goal.returns
 returns c = put_as (tree_bytes_lem c.args.s.now c.args.questions.now c.args.trees.now c.args.records.now c.args.t c.tree_state-state.ensures c.tree_first-first.ensures c.tree_records-count.ensures c.tree_lines-lines.ensures)
