@@ -41,12 +41,12 @@ module _ {A : Type 0} (item : ℕ → Reading A) (D s : List ℕ) (i₀ : ℕ) w
   module _ {at : ℕ} {l : List A} (g : Going at l) where
     pub item_refused : {r : Refusal} → item at ≡ refused r → items_at item D s i₀ ≡ refused r
     unfolding items_from
-    item_refused e = g.same ∙ ap (item_of _ D s l) e
+    item_refused e = g.same ∙ ap (item_of (items_from {A = A} g.fuel item D s) D s l) e
 
     module _ {a : A} {j : ℕ} (e : item at ≡ read a j) where
       next : (d : Delimiter) → delimiter_at comma D s j ≡ d → items_at item D s i₀ ≡ after_item (items_from g.fuel item D s) j (l ++ (a ∷ [])) d
       unfolding items_from
-      next d f = g.same ∙ ap (item_of _ D s l) e ∙ ap (after_item (items_from g.fuel item D s) j (l ++ (a ∷ []))) f
+      next d f = g.same ∙ ap (item_of (items_from {A = A} g.fuel item D s) D s l) e ∙ ap (after_item (items_from g.fuel item D s) j (l ++ (a ∷ []))) f
 
       pub item_last : delimiter_at comma D s j ≡ delimiter.Closed → items_at item D s i₀ ≡ read (l ++ (a ∷ [])) j
       item_last f = next delimiter.Closed f

@@ -114,6 +114,7 @@ in_patterns {qs = p ∷ qs} {e = suc e} {m = m} (there a) r =
       starts = ap (λ (j : ℕ). get_or (pattern_words (p ∷ qs)) j 0) x ∙ get_or-append-add (span_words p.patterns) (pattern_words qs) (2 * (patterns_before qs e + m)) 0 ∙ i.starts;
       long = ap (λ (j : ℕ). get_or (pattern_words (p ∷ qs)) j 0) y ∙ get_or-append-add (span_words p.patterns) (pattern_words qs) (2 * (patterns_before qs e + m) + 1) 0 ∙ i.long;
     }
+in_patterns {qs = []} {e = y} {m = m} {w = w} x7 r = elim x7 [ ]
 
 pattern_in : {qs : List QuestionPlace} {e m : ℕ} {q : QuestionPlace} {w : Span} → Nth qs e q → Nth q.patterns m w → patterns_before qs e + m < total pattern_count qs
 unfolding total

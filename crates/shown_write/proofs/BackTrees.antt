@@ -26,7 +26,7 @@ use Rattle.table_rows.proofs.Stand.{length_from, row_there, nth_at}
 use Rattle.write_records.specs.Records.{of_record}
 use Rattle.write_records.proofs.Laws.{record_says}
 use Rattle.write_rows.proofs.Four.{text_row, text_rows}
-use Rattle.write_questions.proofs.Hidden.{not_same}
+use Rattle.write_questions.proofs.HiddenNames.{not_same}
 use Rattle.write_questions.specs.Tests.{unlike_name, last_named, asks_other, not_hidden, none_hidden}
 use Rattle.write_links.specs.Tests.{leaf_at, bare_in, lines_in, body_in, tree_in, grown, links_fit}
 use Rattle.shown_write.proofs.Questions.{name_is}

@@ -20,7 +20,7 @@ use Rattle.table_rows.specs.Rows.{question_rows, record_rows, record_kind, recor
 use Rattle.write_parts.specs.Parts.{each, ref_of, line_of, question_of}
 use Rattle.write_records.specs.Records.{of_record}
 use Rattle.write_parts.proofs.Laws.{ref_line, ref_leaf}
-use Rattle.write_questions.proofs.Hidden.{same_same}
+use Rattle.write_questions.proofs.HiddenNames.{same_same}
 use Rattle.write_questions.specs.Tests.{unlike_name, last_named, asks_other, not_hidden, none_hidden}
 use Rattle.write_counts.specs.Counts.{counted}
 use Rattle.write_links.specs.Tests.{leaf_in, ref_in, line_in, unlike}

@@ -18,7 +18,7 @@ pub returns-then-not-summed : goal.returns-then-not-summed
 returns-then-not-summed c = c.not_found-then-not-summed.ensures ∙ found-sum c.args.file.now (header_at c.args.words.now) c.data_of.ensures c.if-data_of-lt-LAST.false c.summed.ensures (not-true _ c.if-not-summed.true-raw)
 
 pub find_rows-requires : goal.find_rows-requires
-find_rows-requires c = ((c.requires, omega (arith, data_short c.args.file.now (header_at c.args.words.now) c.data_of.ensures, c.if-data_of-lt-LAST.false)), (sym c.in-Trees.is ∙ c.count_trees.ensures))
+find_rows-requires c = record { in_bounds = (c.requires, omega (arith, data_short c.args.file.now (header_at c.args.words.now) c.data_of.ensures, c.if-data_of-lt-LAST.false)); n_value = (sym c.in-Trees.is ∙ c.count_trees.ensures) }
 
 pub returns-in-Refused : goal.returns-in-Refused
 returns-in-Refused c =

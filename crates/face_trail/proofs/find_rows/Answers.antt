@@ -14,7 +14,7 @@ pub returns-then-begin-n : goal.returns-then-begin-n
 returns-then-begin-n c = c.not_found-then-begin-n.ensures ∙ begin_other c.args.file.now (header_at c.args.words.now) c.args.n c.word.ensures c.if-word-n.false c.word-begin.ensures c.if-begin-n.true
 
 pub same_voice-requires : goal.same_voice-requires
-same_voice-requires c = (c.requires.in_bounds.0, ((counted c.args.file.now (header_at c.args.words.now) c.requires.n_value).fitting, omega (arith, rows_size c.args.file.now (header_at c.args.words.now) c.requires.n_value, c.if-begin-n.false)))
+same_voice-requires c = record { in_bounds = c.requires.in_bounds.0; words_value = (counted c.args.file.now (header_at c.args.words.now) c.requires.n_value).fitting; words_in_bounds = omega (arith, rows_size c.args.file.now (header_at c.args.words.now) c.requires.n_value, c.if-begin-n.false) }
 
 pub returns-then-same_voice : goal.returns-then-same_voice
 returns-then-same_voice c = rows_same c.args.file.now (header_at c.args.words.now) c.args.n c.word.ensures c.if-word-n.false c.word-begin.ensures c.if-begin-n.false c.same_voice.ensures c.if-same_voice.true

@@ -18,7 +18,7 @@ pub put_voice-requires : goal.put_voice-requires
 put_voice-requires c =
     let e = sym c.in-Trees.is ∙ c.count_trees.ensures in
     let a = c.args in
-    (c.requires, ((counted c.args.file.now (header_at c.args.words.now) e).fitting, omega (arith, rows_size c.args.file.now (header_at c.args.words.now) e, fits c.args.file.now (header_at c.args.words.now) e a.trailer.now c.has_room.ensures c.if-has_room.true)))
+    record { in_bounds = c.requires; words_value = (counted c.args.file.now (header_at c.args.words.now) e).fitting; words_in_bounds = omega (arith, rows_size c.args.file.now (header_at c.args.words.now) e, fits c.args.file.now (header_at c.args.words.now) e a.trailer.now c.has_room.ensures c.if-has_room.true) }
 
 pub put_last-requires : goal.put_last-requires
 put_last-requires c =

@@ -9,4 +9,4 @@ use borrow.Author.Rules.{rules}
 use Rattle.house_text.proofs.ref_fits.Goals as goal
 
 pub returns-in-Pdf : goal.returns-in-Pdf
-returns-in-Pdf c = c.leaf_fits.ensures ∙ ap (λ (n : ℕ). leaf_fits n c.args.entries) (c.natural.ensures ∙ ap nat_of (back c.in-Pdf.number c.known_told-1.given.0.1)) ∙ ap (ref_fits c.args.entries) (sym c.in-Pdf.is)
+returns-in-Pdf c = c.leaf_fits.ensures ∙ ap (λ (n : ℕ). leaf_fits n c.args.entries) (c.natural.ensures ∙ ap nat_of (back c.in-Pdf.number (search rules))) ∙ ap (ref_fits c.args.entries) (sym c.in-Pdf.is)

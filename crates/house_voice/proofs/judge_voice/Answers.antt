@@ -44,7 +44,7 @@ number_of-requires-in-Judged c = c.loop-refusal.invariant.low
 
 pub next_model-requires : goal.next_model-requires
 next_model-requires c =
-    ((c.requires, c.loop-refusal.invariant.at.in_types), fits_so (side_of c.args.top) c.args.file.now (header_at c.args.words.now) (held_of c.args.other) c.loop-refusal.invariant c.judge_next.ensures.1 (sym c.in-Judged.is ∙ c.judge_next.ensures.0) c.number_of-in-Judged.ensures c.first_of-first.ensures)
+    record { in_bounds = (c.requires, c.loop-refusal.invariant.at.in_types); words_value = fits_so (side_of c.args.top) c.args.file.now (header_at c.args.words.now) (held_of c.args.other) c.loop-refusal.invariant c.judge_next.ensures.1 (sym c.in-Judged.is ∙ c.judge_next.ensures.0) c.number_of-in-Judged.ensures c.first_of-first.ensures }
 
 pub loop-refusal-smaller : goal.loop-refusal-smaller
 loop-refusal-smaller c = goes_up (side_of c.args.top) c.args.file.now (header_at c.args.words.now) (held_of c.args.other) c.loop-refusal.invariant c.judge_next.ensures.1 (sym c.in-Judged.is ∙ c.judge_next.ensures.0) c.number_of-in-Judged.ensures c.first_of-first.ensures (sym c.in-Model.is ∙ c.next_model.ensures)

@@ -12,10 +12,10 @@ use borrow.Author.Rules.{rules}
 use Rattle.link_alone.proofs.target_of.Goals as goal
 
 pub returns-in-At : goal.returns-in-At
-returns-in-At c = let ls = (lines_at c.args.s.now c.args.first).items in let k : c.id_key.result ≡ id_key c.in-Node.id = c.id_key.ensures ∙ ap id_key (back c.in-Node.id c.known_told-1.given.0.1) in ap to_line (sym c.in-At.is ∙ c.line_of.ensures) ∙ ap (λ (x : ℕ). to_line (bearer x ls)) k ∙ sym (ap (target_in ls) c.in-Node.is)
+returns-in-At c = let ls = (lines_at c.args.s.now c.args.first).items in let k : c.id_key.result ≡ id_key c.in-Node.id = c.id_key.ensures ∙ ap id_key (back c.in-Node.id (search rules)) in ap to_line (sym c.in-At.is ∙ c.line_of.ensures) ∙ ap (λ (x : ℕ). to_line (bearer x ls)) k ∙ sym (ap (target_in ls) c.in-Node.is)
 
 pub returns-in-Nothing : goal.returns-in-Nothing
-returns-in-Nothing c = let ls = (lines_at c.args.s.now c.args.first).items in let k : c.id_key.result ≡ id_key c.in-Node.id = c.id_key.ensures ∙ ap id_key (back c.in-Node.id c.known_told-1.given.0.1) in ap to_line (sym c.in-Nothing.is ∙ c.line_of.ensures) ∙ ap (λ (x : ℕ). to_line (bearer x ls)) k ∙ sym (ap (target_in ls) c.in-Node.is)
+returns-in-Nothing c = let ls = (lines_at c.args.s.now c.args.first).items in let k : c.id_key.result ≡ id_key c.in-Node.id = c.id_key.ensures ∙ ap id_key (back c.in-Node.id (search rules)) in ap to_line (sym c.in-Nothing.is ∙ c.line_of.ensures) ∙ ap (λ (x : ℕ). to_line (bearer x ls)) k ∙ sym (ap (target_in ls) c.in-Node.is)
 
 pub returns-in-Pdf : goal.returns-in-Pdf
-returns-in-Pdf c = ap Leaf (c.natural.ensures ∙ ap nat_of (back c.in-Pdf.number c.known_told-in-Pdf-1.given.0.1)) ∙ sym (ap (target_in (lines_at c.args.s.now c.args.first).items) c.in-Pdf.is)
+returns-in-Pdf c = ap Leaf (c.natural.ensures ∙ ap nat_of (back c.in-Pdf.number (search rules))) ∙ sym (ap (target_in (lines_at c.args.s.now c.args.first).items) c.in-Pdf.is)

@@ -13,7 +13,7 @@ pub returns-then-not-record_fits : goal.returns-then-not-record_fits
 returns-then-not-record_fits c = rw (sym c.record_fits.ensures ∙ not-true _ c.if-not-record_fits.true-raw)
 
 pub choose_stream-requires : goal.choose_stream-requires
-choose_stream-requires c = (c.requires, sym c.record_fits.ensures ∙ not-false _ c.if-not-record_fits.false-raw)
+choose_stream-requires c = record { in_bounds = c.requires; words_value = sym c.record_fits.ensures ∙ not-false _ c.if-not-record_fits.false-raw }
 
 pub choose_stream-requires-in-Gv : goal.choose_stream-requires-in-Gv
 choose_stream-requires-in-Gv c = (c.requires, sym c.record_fits.ensures ∙ not-false _ c.if-not-record_fits.false-raw)

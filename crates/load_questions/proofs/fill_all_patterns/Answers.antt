@@ -5,7 +5,7 @@ use borrow.Author.Rules.{rules}
 use Rattle.load_questions.proofs.fill_all_patterns.Goals as goal
 
 pub fill_patterns_from-requires : goal.fill_patterns_from-requires
-fill_patterns_from-requires c = let e = (sym c.in-Question.is ∙ c.first_item.ensures) in (first_done _ _ e c.requires.done, first_patterns _ _ e c.requires.at_in_bounds)
+fill_patterns_from-requires c = let e = (sym c.in-Question.is ∙ c.first_item.ensures) in record { done = first_done _ _ e c.requires.done; at_in_bounds = first_patterns _ _ e c.requires.at_in_bounds }
 
 pub returns-in-Question : goal.returns-in-Question
 returns-in-Question c = first_listed _ _ (sym c.in-Question.is ∙ c.first_item.ensures) _ _ c.fill_patterns_from.ensures

@@ -4,7 +4,7 @@ use borrow.Author.Rules.{rules}
 use Rattle.load_text.proofs.fill_text.Goals as goal
 
 pub fill_all_patterns-requires : goal.fill_all_patterns-requires
-fill_all_patterns-requires c = (record { end = c.args.first; done = c.requires.begins }, search rules)
+fill_all_patterns-requires c = record { done = record { end = c.args.first; done = c.requires.begins }; at_in_bounds = search rules }
 
 pub returns-then-all_linked : goal.returns-then-all_linked
 returns-then-all_linked c =

@@ -19,7 +19,7 @@ fill_trees-requires c =
     let h = c.requires in
     let q = c.fill_questions.ensures in
     let p = c.index_names.ensures in
-    ((is_index a.s.now a.at a.n (asked_of h) _ _ _ refl p, omega (arith, index_count a.s.now a.at a.n (asked_of h) _ _ _ refl p, h.question_room, c.well_formed)), (h.through, (h.tree_room, h.record_room, h.work_room)))
+    record { index = (is_index a.s.now a.at a.n (asked_of h) _ _ _ refl p, omega (arith, index_count a.s.now a.at a.n (asked_of h) _ _ _ refl p, h.question_room, c.well_formed)); through = h.through; at_in_bounds = (h.tree_room, h.record_room, h.work_room) }
 
 pub returns : goal.returns
 returns c =

@@ -14,7 +14,7 @@ returns-in-Pdf c =
     let x = c.index-1.given in (
       ap (λ x. (leaf_result x).ends) (sym x.1),
       c.put4.ensures
-          ∙ ap (λ n. sets a.records.now a.first (1 ∷ n ∷ 0 ∷ 0 ∷ [])) (c.natural.ensures ∙ ap nat_of (back x.0.0 c.known_told-1.given.0.1))
+          ∙ ap (λ n. sets a.records.now a.first (1 ∷ n ∷ 0 ∷ 0 ∷ [])) (c.natural.ensures ∙ ap nat_of (back x.0.0 (search rules)))
           ∙ ap (λ x. sets a.records.now a.first (leaf_result x).rows) (sym x.1),
     )
 

@@ -15,7 +15,7 @@ fill_leaf-requires c =
 pub fill_braces-requires : goal.fill_braces-requires
 fill_braces-requires c =
     let a = c.args in
-    (c.requires.index, (whole_lines a.s.now c.requires.whole.0 c.in-Lines.is, room_by a.s.now a.first (length a.records.now) (length a.work.now) c.in-Lines.is c.requires.whole.1))
+    record { index = c.requires.index; at_value = whole_lines a.s.now c.requires.whole.0 c.in-Lines.is; at_in_bounds = room_by a.s.now a.first (length a.records.now) (length a.work.now) c.in-Lines.is c.requires.whole.1 }
 
 pub returns-in-Lone : goal.returns-in-Lone
 returns-in-Lone c = let a = c.args in by_head a.s.now a.questions.now (length a.index.now) a.first a.records.now a.work.now c.in-Lone.is (c.fill_leaf.ensures.0, refl, c.fill_leaf.ensures.1, refl)

@@ -7,10 +7,10 @@ use borrow.Author.Rules.{rules}
 use Rattle.load_trees.proofs.state_of.Goals as goal
 
 pub returns-in-Lone : goal.returns-in-Lone
-returns-in-Lone c = c.natural.ensures ∙ ap nat_of (back c.in-Lone.state c.known_told-1.given.0.1) ∙ ap head_state (sym c.in-Lone.is)
+returns-in-Lone c = c.natural.ensures ∙ ap nat_of (back c.in-Lone.state (search rules)) ∙ ap head_state (sym c.in-Lone.is)
 
 pub returns-in-Empty : goal.returns-in-Empty
-returns-in-Empty c = c.natural-in-Empty.ensures ∙ ap nat_of (back c.in-Empty.state c.known_told-in-Empty-1.given.0.1) ∙ ap head_state (sym c.in-Empty.is)
+returns-in-Empty c = c.natural-in-Empty.ensures ∙ ap nat_of (back c.in-Empty.state (search rules)) ∙ ap head_state (sym c.in-Empty.is)
 
 pub returns-in-Lines : goal.returns-in-Lines
-returns-in-Lines c = c.natural-in-Lines.ensures ∙ ap nat_of (back c.in-Lines.state c.known_told-in-Lines-1.given.0.1) ∙ ap head_state (sym c.in-Lines.is)
+returns-in-Lines c = c.natural-in-Lines.ensures ∙ ap nat_of (back c.in-Lines.state (search rules)) ∙ ap head_state (sym c.in-Lines.is)

@@ -20,7 +20,7 @@ unfolding header_at global_at
 of_gv c = subst (InTypes (header_at c.args.words.now)) c.in-Gv.is c.requires.in_bounds.1
 
 pub uses_gv-requires : goal.uses_gv-requires
-uses_gv-requires c = ((c.requires.in_bounds.0, of_stream (goal.at.uses_gv-requires c).In-Stream-2), c.requires.words_value)
+uses_gv-requires c = record { in_bounds = (c.requires.in_bounds.0, of_stream (goal.at.uses_gv-requires c).In-Stream-2); words_value = c.requires.words_value }
 
 pub returns-then-uses_gv : goal.returns-then-uses_gv
 returns-then-uses_gv c =

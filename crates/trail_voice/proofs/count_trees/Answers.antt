@@ -18,7 +18,7 @@ pub overflow_add-n : goal.overflow_add-n
 overflow_add-n c = omega (arith, counted_few _ _ c.loop-refusal.invariant (sym c.in-Read.is ∙ c.model_text.ensures), c.loop-refusal.invariant.low)
 
 pub next_model-requires : goal.next_model-requires
-next_model-requires c = ((c.requires, c.loop-refusal.invariant.at.in_types), (known _ _ _ (sym c.in-Read.is ∙ c.model_text.ensures)).fitting)
+next_model-requires c = record { in_bounds = (c.requires, c.loop-refusal.invariant.at.in_types); words_value = (known _ _ _ (sym c.in-Read.is ∙ c.model_text.ensures)).fitting }
 
 pub loop-refusal-smaller : goal.loop-refusal-smaller
 loop-refusal-smaller c =

@@ -17,7 +17,7 @@ put_model-k-requires c =
     ((c.requires.in_bounds, z.1), z.0)
 
 pub next_model-requires : goal.next_model-requires
-next_model-requires c = ((c.requires.in_bounds, c.loop-next.invariant.at.in_types), c.requires.words_value.0)
+next_model-requires c = record { in_bounds = (c.requires.in_bounds, c.loop-next.invariant.at.in_types); words_value = c.requires.words_value.0 }
 
 pub loop-next-smaller : goal.loop-next-smaller
 loop-next-smaller c =

@@ -14,13 +14,13 @@ loop-next-init c = comparing_none c.args.file.now (header_at c.args.words.now) c
 pub same_model-requires : goal.same_model-requires
 same_model-requires c =
     let z = comparing_room c.args.file.now (header_at c.args.words.now) c.requires.words_value.0 c.loop-next.invariant in
-    ((c.requires.in_bounds, z.1), z.0)
+    record { in_bounds = (c.requires.in_bounds, z.1); which_in_bounds = z.0 }
 
 pub returns-in-Other : goal.returns-in-Other
 returns-in-Other c = compared_other c.args.file.now (header_at c.args.words.now) c.requires.words_value.0 c.loop-next.invariant (sym c.in-Other.is ∙ c.same_model.ensures)
 
 pub next_model-requires : goal.next_model-requires
-next_model-requires c = ((c.requires.in_bounds, c.loop-next.invariant.at.in_types), c.requires.words_value.0)
+next_model-requires c = record { in_bounds = (c.requires.in_bounds, c.loop-next.invariant.at.in_types); words_value = c.requires.words_value.0 }
 
 pub loop-next-smaller : goal.loop-next-smaller
 loop-next-smaller c =

@@ -9,7 +9,7 @@ use Rattle.tree_body.proofs.parse_number.Goals as goal
 pub returns-in-At : goal.returns-in-At
 unfolding number_at
 returns-in-At c =
-    ap₂ Number (back _ c.known_told-1.given.0.1) c.blank_end.ensures
+    ap₂ Number (back _ (search rules)) c.blank_end.ensures
     ∙ ap (number_closed _ _) (sym c.in-At.is ∙ c.past_byte.ensures)
     ∙ ap (number_read _) (sym c.in-Number.is ∙ c.parse_signed.ensures)
 

@@ -7,7 +7,7 @@ use Rattle.tree_body.proofs.tree_head.Goals as goal
 
 pub returns-in-Number : goal.returns-in-Number
 unfolding head_at
-returns-in-Number c = c.parse_body.ensures ∙ ap (body_at _ _) (back _ c.known_told-1.given.0.1) ∙ ap (head_read _) (sym c.in-Number.is ∙ c.parse_state.ensures)
+returns-in-Number c = c.parse_body.ensures ∙ ap (body_at _ _) (back _ (search rules)) ∙ ap (head_read _) (sym c.in-Number.is ∙ c.parse_state.ensures)
 
 pub returns-in-NoNumber : goal.returns-in-NoNumber
 unfolding head_at

@@ -15,7 +15,7 @@ numbered {b} {k} {e} {n} {y} p = ap (λ x. line_branched x b k (Found n y e)) p
 pub returns-in-Found-parse_branches : goal.returns-in-Found-parse_branches
 unfolding line_at
 returns-in-Found-parse_branches c =
-    numbered (back _ c.known_told-1.given.0.1)
+    numbered (back _ (search rules))
     ∙ ap (line_branched _ _ _) (sym c.in-Found-parse_branches.is ∙ c.parse_branches.ensures)
     ∙ ap (line_named _ _) (sym c.in-Found.is ∙ c.name_between.ensures)
     ∙ ap (line_numbered _) (sym c.in-Number.is ∙ c.parse_signed.ensures)

@@ -6,7 +6,7 @@ use borrow.Author.Rules.{rules}
 use Rattle.tree_reference.proofs.same_index.Goals as goal
 
 pub returns-in-Node-b : goal.returns-in-Node-b
-returns-in-Node-b c = same_bits _ _ c.known_told-1.given.0.1 c.known_told-in-Node-1.given.0.1 ∙ ap₂ same_index (sym c.in-Node.is) (sym c.in-Node-b.is)
+returns-in-Node-b c = same_bits _ _ (search rules) (search rules) ∙ ap₂ same_index (sym c.in-Node.is) (sym c.in-Node-b.is)
 
 pub returns-in-Pdf-b-2 : goal.returns-in-Pdf-b-2
-returns-in-Pdf-b-2 c = same_bits _ _ c.known_told-in-Pdf-a-1.given.0.1 c.known_told-in-Pdf-1.given.0.1 ∙ ap₂ same_index (sym c.in-Pdf.is) (sym c.in-Pdf-b-2.is)
+returns-in-Pdf-b-2 c = same_bits _ _ (search rules) (search rules) ∙ ap₂ same_index (sym c.in-Pdf.is) (sym c.in-Pdf-b-2.is)

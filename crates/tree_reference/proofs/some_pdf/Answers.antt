@@ -24,7 +24,7 @@ returns-then-end-start c = none _ _ _ c.if-end-start.true
 
 pub returns-in-Number : goal.returns-in-Number
 returns-in-Number c =
-    ap₂ Found (ap Pdf (back _ c.known_told-1.given.0.1)) refl
+    ap₂ Found (ap Pdf (back _ (search rules))) refl
     ∙ ap pdf_read (sym c.in-Number.is ∙ c.parse_signed.ensures)
     ∙ one _ _ _ c.if-end-start.false
 

@@ -13,17 +13,17 @@ same {m = m} {n = n} {e = e} p = ap (λ x. Counted x m n e) p
 
 pub returns-in-Lone : goal.returns-in-Lone
 returns-in-Lone c =
-    same (c.is_negative.ensures ∙ ap negative (back c.in-Lone.state c.known_told-1.given.0.1))
+    same (c.is_negative.ensures ∙ ap negative (back c.in-Lone.state (search rules)))
     ∙ ap (head_counted _) (sym c.in-Lone.is ∙ c.tree_head.ensures)
 
 pub returns-in-Empty : goal.returns-in-Empty
 returns-in-Empty c =
-    same (c.is_negative-in-Empty.ensures ∙ ap negative (back c.in-Empty.state c.known_told-in-Empty-1.given.0.1))
+    same (c.is_negative-in-Empty.ensures ∙ ap negative (back c.in-Empty.state (search rules)))
     ∙ ap (head_counted _) (sym c.in-Empty.is ∙ c.tree_head.ensures)
 
 pub returns-in-Counted : goal.returns-in-Counted
 returns-in-Counted c =
-    same (c.is_negative-in-Counted.ensures ∙ ap negative (back c.in-Lines.state c.known_told-in-Lines-1.given.0.1))
+    same (c.is_negative-in-Counted.ensures ∙ ap negative (back c.in-Lines.state (search rules)))
     ∙ ap (lines_counted _) (sym c.in-Counted.is ∙ c.survey_lines.ensures)
     ∙ ap (head_counted _) (sym c.in-Lines.is ∙ c.tree_head.ensures)
 

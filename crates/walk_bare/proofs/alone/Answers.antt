@@ -9,7 +9,7 @@ use borrow.Author.Rules.{rules}
 use Rattle.walk_bare.proofs.alone.Goals as goal
 
 pub returns-in-Pdf : goal.returns-in-Pdf
-returns-in-Pdf c = ap (λ (x : ℕ). bare.Pdf x 0 c.args.read) (c.natural.ensures ∙ ap nat_of (back c.in-Pdf.number c.known_told-1.given.0.1)) ∙ sym (ap (alone_of c.args.read) c.in-Pdf.is)
+returns-in-Pdf c = ap (λ (x : ℕ). bare.Pdf x 0 c.args.read) (c.natural.ensures ∙ ap nat_of (back c.in-Pdf.number (search rules))) ∙ sym (ap (alone_of c.args.read) c.in-Pdf.is)
 
 pub returns-in-Node : goal.returns-in-Node
 returns-in-Node c = sym (ap (alone_of c.args.read) c.in-Node.is)

@@ -9,7 +9,7 @@ use borrow.Author.Rules.{rules}
 use Rattle.walk_bare.proofs.turn_of.Goals as goal
 
 pub returns-in-Pdf : goal.returns-in-Pdf
-returns-in-Pdf c = ap turned.Leaf (c.natural.ensures ∙ ap nat_of (back c.in-Pdf.number c.known_told-1.given.0.1)) ∙ sym (ap turn_of c.in-Pdf.is)
+returns-in-Pdf c = ap turned.Leaf (c.natural.ensures ∙ ap nat_of (back c.in-Pdf.number (search rules))) ∙ sym (ap turn_of c.in-Pdf.is)
 
 pub returns-in-Node : goal.returns-in-Node
-returns-in-Node c = ap turned.Line (c.id_key.ensures ∙ ap id_key (back c.in-Node.id c.known_told-in-Node-1.given.0.1)) ∙ sym (ap turn_of c.in-Node.is)
+returns-in-Node c = ap turned.Line (c.id_key.ensures ∙ ap id_key (back c.in-Node.id (search rules))) ∙ sym (ap turn_of c.in-Node.is)

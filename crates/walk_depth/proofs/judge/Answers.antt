@@ -13,7 +13,7 @@ pub returns-then-not-reach : goal.returns-then-not-reach
 returns-then-not-reach c = judged_bad c.reach.ensures (not-true _ c.if-not-reach.true-raw) c.said.ensures
 
 pub climb-requires : goal.climb-requires
-climb-requires c = (all_good c.reach.ensures (not-false _ c.if-not-reach.false-raw), omega (arith, c.requires.0, c.work-2-1.given, c.work-1.given), zeroed (length c.reach.new.1.1.1.0) c.zero_work.ensures)
+climb-requires c = (all_good c.reach.ensures (not-false _ c.if-not-reach.false-raw), omega (arith, c.requires.0, c.work-2-1.given, c.work-1.given), zeroed (length c.reach.new.work) c.zero_work.ensures)
 
 pub returns-in-Found : goal.returns-in-Found
 returns-in-Found c = judged-found (all_good c.reach.ensures (not-false _ c.if-not-reach.false-raw)) c.climb.ensures c.in-Found.is c.said-in-Found.ensures
