@@ -19,21 +19,17 @@ use Rattle.head_lines.specs.declared.Line.{Line}
 use Rattle.head_lines.proofs.Going.{Going, going_first, end_of, wrong_of, lines_end, lines_wrong, read_end, read_wrong, Turned, turned, kept_more}
 use Rattle.head_global.specs.Global.{stored_in, judged_in, with_line, global_in}
 use Rattle.head_global.proofs.Stored.{stored_line, stored_words, empty_words, judged_words}
-use Rattle.head_global.proofs.read_global.Goals.{After-slice_known-1, After-store, At-loop-next, In-End, In-End-1, In-Read, In-Refused}
+use Rattle.head_global.proofs.read_global.Goals.{After-slice_known-1, After-store, At-loop-next, In-End, In-Read, In-Refused}
 use Rattle.head_global.proofs.read_global.Goals as goal
 
 -- the words stay as many
 long : (c : At-loop-next) → length c.loop-next.words ≡ length c.args.words.now
 long c = laid_long c.args.words.now _ 0 (global_words (kept with_line empty_global c.loop-next.invariant.0)) c.loop-next.invariant.1
 
--- a line was read
-read_line : (c : In-Read) → Turned global_fields c.args.s.now c.args.start c.loop-next.at.at c.loop-next.seen c.loop-next.invariant.0 c.next_line-l.result c.in-Read.next
-read_line c = turned global_fields _ _ c.loop-next.invariant.2 c.next_line-l.ensures c.in-Read.is
-
 -- the words, with it
-kept_line : (c : After-store) → c.store.new.0 ≡ sets c.args.words.now 0 (global_words (kept with_line empty_global (c.loop-next.invariant.0 ++ ((read_line c.TO.In-Read).line ∷ []))))
+kept_line : (c : After-store) → c.store.new.0 ≡ sets c.args.words.now 0 (global_words (kept with_line empty_global (c.loop-next.invariant.0 ++ (((turned global_fields _ _ c.loop-next.invariant.2 c.next_line-l.ensures c.in-Read.is)).line ∷ []))))
 kept_line c =
-    let x = read_line c.TO.In-Read in
+    let x = (turned global_fields _ _ c.loop-next.invariant.2 c.next_line-l.ensures c.in-Read.is) in
     let xs = c.loop-next.invariant.0 in
     c.store.ensures
     ∙ ap (λ (w : List ℕ). stored_in w c.next_line-l.result.field c.next_line-l.result.value) c.loop-next.invariant.1
@@ -60,11 +56,11 @@ unfolding global_fields
 mark-with_field-requires c = search rules
 
 pub loop-next-smaller : goal.loop-next-smaller
-loop-next-smaller c = (read_line (goal.at.loop-next-smaller c).In-Read).less
+loop-next-smaller c = (turned global_fields _ _ c.loop-next.invariant.2 c.next_line-l.ensures c.in-Read.is).less
 
 pub loop-next-preserved : goal.loop-next-preserved
 unfolding global_fields
-loop-next-preserved c = (_, kept_line (goal.at.loop-next-preserved c).After-store, rw c.mark-with_field.ensures (read_line (goal.at.loop-next-preserved c).In-Read).going)
+loop-next-preserved c = (_, kept_line (goal.at.loop-next-preserved c).After-store, rw c.mark-with_field.ensures (turned global_fields _ _ c.loop-next.invariant.2 c.next_line-l.ensures c.in-Read.is).going)
 
 pub judge-requires : goal.judge-requires
 judge-requires c = omega (arith, long (goal.at.judge-requires c).After-slice_known-1, c.requires.0)
@@ -74,8 +70,8 @@ shape_of-words-in-End c = long (goal.at.shape_of-words-in-End c).After-slice_kno
 
 pub returns-in-End : goal.returns-in-End
 returns-in-End c = (
-  c.judge.ensures ∙ ap (judged_in _) c.loop-next.invariant.1 ∙ judged_words _ _ _ c.requires.0 ∙ ap (λ (l : Lines). (global_in l).verdict) (sym (lines_end global_fields _ _ c.loop-next.invariant.2 (at_end (goal.at.returns-in-End c).In-End-1))),
-  c.loop-next.invariant.1 ∙ ap (λ (xs : List Entry). sets c.args.words.now 0 (global_words (kept with_line empty_global xs))) (sym (read_end global_fields _ _ c.loop-next.invariant.2 (at_end (goal.at.returns-in-End c).In-End-1))),
+  c.judge.ensures ∙ ap (judged_in _) c.loop-next.invariant.1 ∙ judged_words _ _ _ c.requires.0 ∙ ap (λ (l : Lines). (global_in l).verdict) (sym (lines_end global_fields _ _ c.loop-next.invariant.2 (at_end (goal.at.returns-in-End c).In-End))),
+  c.loop-next.invariant.1 ∙ ap (λ (xs : List Entry). sets c.args.words.now 0 (global_words (kept with_line empty_global xs))) (sym (read_end global_fields _ _ c.loop-next.invariant.2 (at_end (goal.at.returns-in-End c).In-End))),
 )
 
 pub shape_of-words-in-Refused : goal.shape_of-words-in-Refused

@@ -14,31 +14,21 @@ use borrow.Author.Rules.{rules}
 use Rattle.head_lines.proofs.next_line.Goals.{After-field_of-field, After-line_value-value, Else-stood}
 use Rattle.head_lines.proofs.next_line.Goals as goal
 
--- the key
-abbrev key : After-field_of-field → List ℕ
-key c = part c.before.before.before.before.before.before.before.args.s.now c.before.before.before.start.given.0.0 c.before.before.before.start.given.0.1.0
-
-abbrev table : After-field_of-field → List Field
-table c = fields_of c.before.before.before.before.before.before.before.args.table
-
-named : (c : After-field_of-field) → c.field_of-field.result ≡ field_index (table c) (key c)
-named c = c.field_of-field.ensures ∙ ap (field_index (table c)) c.part_of.ensures
-
-at_key : (c : After-field_of-field) → line_at (table c) c.args.seen c.args.s.now c.args.c.at ≡ keyed_at (table c) c.args.seen c.in-Read.start (key c) (line_value_at c.args.s.now c.in-Read.next.at (kind_of (table c) (key c)))
+at_key : (c : After-field_of-field) → line_at (fields_of c.args.table) c.args.seen c.args.s.now c.args.c.at ≡ keyed_at (fields_of c.args.table) c.args.seen c.in-Read.start (part c.args.s.now c.in-Read.start c.in-Read.len) (line_value_at c.args.s.now c.in-Read.next.at (kind_of (fields_of c.args.table) (part c.args.s.now c.in-Read.start c.in-Read.len)))
 unfolding line_at
-at_key c = ap (line_of (table c) c.args.seen c.args.s.now) (sym c.next_key.ensures ∙ c.in-Read.is)
+at_key c = ap (line_of (fields_of c.args.table) c.args.seen c.args.s.now) (sym c.next_key.ensures ∙ c.in-Read.is)
 
-value : (c : After-line_value-value) → c.line_value-value.result ≡ value_in (line_value_at c.args.s.now c.in-Read.next.at (kind_of (table c.TO.After-field_of-field) (key c.TO.After-field_of-field)))
+value : (c : After-line_value-value) → c.line_value-value.result ≡ value_in (line_value_at c.args.s.now c.in-Read.next.at (kind_of (fields_of c.args.table) (part c.args.s.now c.in-Read.start c.in-Read.len)))
 value c =
     c.line_value-value.ensures
     ∙ ap (λ (t : Kind). value_in (line_value_at c.args.s.now c.in-Read.next.at t))
-    (c.kind_of.ensures ∙ ap (kind_at (table c.TO.After-field_of-field)) (named c.TO.After-field_of-field) ∙ kind_of_key (table c.TO.After-field_of-field) (key c.TO.After-field_of-field))
+    (c.kind_of.ensures ∙ ap (kind_at (fields_of c.args.table)) (c.field_of-field.ensures ∙ ap (field_index (fields_of c.args.table)) c.part_of.ensures) ∙ kind_of_key (fields_of c.args.table) (part c.args.s.now c.in-Read.start c.in-Read.len))
 
-new : (c : Else-stood) → stood_at c.args.seen (field_index (table c.TO.After-field_of-field) (key c.TO.After-field_of-field)) ≡ false
-new c = ap (stood_at c.args.seen) (sym (named c.TO.After-field_of-field)) ∙ sym c.stood.ensures ∙ c.if-stood.false
+new : (c : Else-stood) → stood_at c.args.seen (field_index (fields_of c.args.table) (part c.args.s.now c.in-Read.start c.in-Read.len)) ≡ false
+new c = ap (stood_at c.args.seen) (sym (c.field_of-field.ensures ∙ ap (field_index (fields_of c.args.table)) c.part_of.ensures)) ∙ sym c.stood.ensures ∙ c.if-stood.false
 
 pub returns-then-stood : goal.returns-then-stood
-returns-then-stood c = ap (made _ 0) c.blank-then-stood.ensures ∙ sym (ap (line_in (table (goal.at.returns-then-stood c).After-field_of-field)) (at_key (goal.at.returns-then-stood c).After-field_of-field) ∙ line_twice (table (goal.at.returns-then-stood c).After-field_of-field) c.args.seen _ (key (goal.at.returns-then-stood c).After-field_of-field) _ (ap (stood_at c.args.seen) (sym (named (goal.at.returns-then-stood c).After-field_of-field)) ∙ sym c.stood.ensures ∙ c.if-stood.true))
+returns-then-stood c = ap (made _ 0) c.blank-then-stood.ensures ∙ sym (ap (line_in (fields_of c.args.table)) (at_key (goal.at.returns-then-stood c).After-field_of-field) ∙ line_twice (fields_of c.args.table) c.args.seen _ (part c.args.s.now c.in-Read.start c.in-Read.len) _ (ap (stood_at c.args.seen) (sym (c.field_of-field.ensures ∙ ap (field_index (fields_of c.args.table)) c.part_of.ensures)) ∙ sym c.stood.ensures ∙ c.if-stood.true))
 
 pub returns-in-End : goal.returns-in-End
 unfolding line_at
@@ -49,7 +39,7 @@ unfolding line_at
 returns-in-Refused c = rw (sym c.next_key.ensures ∙ c.in-Refused.is) (ap (made _ 0) c.blank-in-Refused.ensures)
 
 pub returns-in-Read-outcome : goal.returns-in-Read-outcome
-returns-in-Read-outcome c = ap₂ (made _) (named (goal.at.returns-in-Read-outcome c).After-field_of-field) refl ∙ line_read (table (goal.at.returns-in-Read-outcome c).After-field_of-field) c.args.seen _ (key (goal.at.returns-in-Read-outcome c).After-field_of-field) _ (new (goal.at.returns-in-Read-outcome c).Else-stood) _ (value (goal.at.returns-in-Read-outcome c).After-line_value-value) c.in-Read-outcome.is ∙ ap (line_in (table (goal.at.returns-in-Read-outcome c).After-field_of-field)) (sym (at_key (goal.at.returns-in-Read-outcome c).After-field_of-field))
+returns-in-Read-outcome c = ap₂ (made _) (c.field_of-field.ensures ∙ ap (field_index (fields_of c.args.table)) c.part_of.ensures) refl ∙ line_read (fields_of c.args.table) c.args.seen _ (part c.args.s.now c.in-Read.start c.in-Read.len) _ (new (goal.at.returns-in-Read-outcome c).Else-stood) _ (value (goal.at.returns-in-Read-outcome c).After-line_value-value) c.in-Read-outcome.is ∙ ap (line_in (fields_of c.args.table)) (sym (at_key (goal.at.returns-in-Read-outcome c).After-field_of-field))
 
 pub returns-in-Refused-outcome : goal.returns-in-Refused-outcome
-returns-in-Refused-outcome c = line_wrong (table (goal.at.returns-in-Refused-outcome c).After-field_of-field) c.args.seen _ (key (goal.at.returns-in-Refused-outcome c).After-field_of-field) _ (new (goal.at.returns-in-Refused-outcome c).Else-stood) _ (value (goal.at.returns-in-Refused-outcome c).After-line_value-value) c.in-Refused-outcome.is ∙ ap (line_in (table (goal.at.returns-in-Refused-outcome c).After-field_of-field)) (sym (at_key (goal.at.returns-in-Refused-outcome c).After-field_of-field))
+returns-in-Refused-outcome c = line_wrong (fields_of c.args.table) c.args.seen _ (part c.args.s.now c.in-Read.start c.in-Read.len) _ (new (goal.at.returns-in-Refused-outcome c).Else-stood) _ (value (goal.at.returns-in-Refused-outcome c).After-line_value-value) c.in-Refused-outcome.is ∙ ap (line_in (fields_of c.args.table)) (sym (at_key (goal.at.returns-in-Refused-outcome c).After-field_of-field))

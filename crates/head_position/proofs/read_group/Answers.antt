@@ -13,11 +13,11 @@ use Rattle.head_brackets.specs.declared.RowAt.TheVariants as found
 use Rattle.head_brackets.proofs.Through.{row_less, line_less}
 use Rattle.head_position.specs.Group.{group_in, judged}
 use Rattle.head_position.proofs.Reading.{Reached, reached_none, reached_other, reached_taken, reached_no_line, broken, reached_line, ended}
-use Rattle.head_position.proofs.read_group.Goals.{In-Found-2}
+use Rattle.head_position.proofs.read_group.Goals.{In-Found}
 use Rattle.head_position.proofs.read_group.Goals as goal
 
 -- the row that was found
-row : (c : In-Found-2) → row_at c.args.s.now c.loop-row.at.at ≡ found.Found c.in-Found.row
+row : (c : In-Found) → row_at c.args.s.now c.loop-row.at.at ≡ found.Found c.in-Found.row
 row c = sym c.row_at.ensures ∙ c.in-Found.is
 
 pub put_span-requires : goal.put_span-requires
@@ -32,30 +32,30 @@ pub store-requires : goal.store-requires
 store-requires c = ap length c.loop-row.invariant.words ∙ length_position _
 
 pub loop-row-smaller-in-Read : goal.loop-row-smaller-in-Read
-loop-row-smaller-in-Read c = row_less _ _ _ _ c.loop-row.invariant.through (row (goal.at.loop-row-smaller-in-Read c).In-Found-2)
+loop-row-smaller-in-Read c = row_less _ _ _ _ c.loop-row.invariant.through (row (goal.at.loop-row-smaller-in-Read c).In-Found)
 
 pub loop-row-preserved-in-Read : goal.loop-row-preserved-in-Read
 loop-row-preserved-in-Read c =
-    reached_taken _ _ _ c.loop-row.invariant (row (goal.at.loop-row-preserved-in-Read c).In-Found-2) (sym c.same_part.ensures ∙ c.if-same_part.true) _ c.row_line-l.ensures c.in-Read.is _ c.mark-with_field.ensures _
+    reached_taken _ _ _ c.loop-row.invariant (row (goal.at.loop-row-preserved-in-Read c).In-Found) (sym c.same_part.ensures ∙ c.if-same_part.true) _ c.row_line-l.ensures c.in-Read.is _ c.mark-with_field.ensures _
     c.store.ensures
 
 pub loop-row-smaller-in-End-step : goal.loop-row-smaller-in-End-step
-loop-row-smaller-in-End-step c = row_less _ _ _ _ c.loop-row.invariant.through (row (goal.at.loop-row-smaller-in-End-step c).In-Found-2)
+loop-row-smaller-in-End-step c = row_less _ _ _ _ c.loop-row.invariant.through (row (goal.at.loop-row-smaller-in-End-step c).In-Found)
 
 pub loop-row-preserved-in-End-step : goal.loop-row-preserved-in-End-step
-loop-row-preserved-in-End-step c = reached_no_line _ _ _ c.loop-row.invariant (row (goal.at.loop-row-preserved-in-End-step c).In-Found-2) (sym c.same_part.ensures ∙ c.if-same_part.true) _ c.row_line-l.ensures c.in-End-step.is
+loop-row-preserved-in-End-step c = reached_no_line _ _ _ c.loop-row.invariant (row (goal.at.loop-row-preserved-in-End-step c).In-Found) (sym c.same_part.ensures ∙ c.if-same_part.true) _ c.row_line-l.ensures c.in-End-step.is
 
 pub shape_of-item-in-Refused : goal.shape_of-item-in-Refused
 shape_of-item-in-Refused c = ap length c.loop-row.invariant.words ∙ length_position _ ∙ sym (ap length c.requires)
 
 pub returns-in-Refused : goal.returns-in-Refused
-returns-in-Refused c = let a = broken _ _ _ c.loop-row.invariant (row (goal.at.returns-in-Refused c).In-Found-2) (sym c.same_part.ensures ∙ c.if-same_part.true) _ c.row_line-l.ensures c.in-Refused.is in (sym (ap (λ x. (group_in x).verdict) a.answer), a.words)
+returns-in-Refused c = let a = broken _ _ _ c.loop-row.invariant (row (goal.at.returns-in-Refused c).In-Found) (sym c.same_part.ensures ∙ c.if-same_part.true) _ c.row_line-l.ensures c.in-Refused.is in (sym (ap (λ x. (group_in x).verdict) a.answer), a.words)
 
 pub loop-row-smaller-else-same_part : goal.loop-row-smaller-else-same_part
-loop-row-smaller-else-same_part c = row_less _ _ _ _ c.loop-row.invariant.through (row (goal.at.loop-row-smaller-else-same_part c).In-Found-2)
+loop-row-smaller-else-same_part c = row_less _ _ _ _ c.loop-row.invariant.through (row (goal.at.loop-row-smaller-else-same_part c).In-Found)
 
 pub loop-row-preserved-else-same_part : goal.loop-row-preserved-else-same_part
-loop-row-preserved-else-same_part c = reached_other _ _ _ c.loop-row.invariant (row (goal.at.loop-row-preserved-else-same_part c).In-Found-2) (sym c.same_part.ensures ∙ c.if-same_part.false)
+loop-row-preserved-else-same_part c = reached_other _ _ _ c.loop-row.invariant (row (goal.at.loop-row-preserved-else-same_part c).In-Found) (sym c.same_part.ensures ∙ c.if-same_part.false)
 
 pub loop-row-smaller : goal.loop-row-smaller
 loop-row-smaller c = line_less _ _ _ _ c.loop-row.invariant.through (sym c.row_at.ensures ∙ c.in-Other.is)

@@ -13,25 +13,21 @@ use Rattle.head_brackets.specs.declared.RowAt.TheVariants as found
 use Rattle.head_brackets.proofs.Through.{row_less, line_less}
 use Rattle.head_group_words.proofs.Kept.{kept_long}
 use Rattle.head_streams.proofs.Reading.{streams, Reached, reached_none, reached_line, reached_known, refused_group, reached_more, reached_ninth, ended}
-use Rattle.head_streams.proofs.read_groups.Goals.{After-put1, After-put1-arg-1, After-slice_known-1, At-loop-row, In-Found-1, In-Found-2}
+use Rattle.head_streams.proofs.read_groups.Goals.{After-put1, After-put1-arg-1, After-slice_known-1, At-loop-row, In-Found}
 use Rattle.head_streams.proofs.read_groups.Goals as goal
 
 -- the row that was found
-row : (c : In-Found-2) → row_at c.args.s.now c.loop-row.at.at ≡ found.Found c.in-Found.row
+row : (c : In-Found) → row_at c.args.s.now c.loop-row.at.at ≡ found.Found c.in-Found.row
 row c = sym c.row_at.ensures ∙ c.in-Found.is
 
--- the words keep their number
-long : (c : At-loop-row) → length c.loop-row.words ≡ length c.args.words.now
-long c = kept_long streams c.loop-row.invariant.kept
-
 long_behind : (c : After-put1) → length c.put1.new.0 ≡ length c.args.words.now
-long_behind c = laid_long c.loop-row.words _ 407 (c.loop-row.n ∷ []) c.put1.ensures ∙ long c.TO.At-loop-row
+long_behind c = laid_long c.loop-row.words _ 407 (c.loop-row.n ∷ []) c.put1.ensures ∙ (kept_long streams c.loop-row.invariant.kept)
 
 pub loop-row-init : goal.loop-row-init
 loop-row-init c = reached_none _ _ _ (omega (arith, c.requires.0)) c.requires.1
 
 pub known-requires : goal.known-requires
-known-requires c = (omega arith, omega (arith, long (goal.at.known-requires c).After-slice_known-1, c.requires.0))
+known-requires c = (omega arith, omega (arith, (kept_long streams c.loop-row.invariant.kept), c.requires.0))
 
 pub slice_bounds-read_group-end : goal.slice_bounds-read_group-end
 slice_bounds-read_group-end c = refl
@@ -43,31 +39,31 @@ pub slice_bounds-put_all-end : goal.slice_bounds-put_all-end
 slice_bounds-put_all-end c = sym (ap length c.read_group.ensures.1 ∙ length_stream _)
 
 pub put_all-requires : goal.put_all-requires
-put_all-requires c = omega (arith, ap length c.read_group.ensures.1 ∙ length_stream _, long (goal.at.put_all-requires c).After-slice_known-1, c.if-n-lt8.true, c.requires.0)
+put_all-requires c = omega (arith, ap length c.read_group.ensures.1 ∙ length_stream _, (kept_long streams c.loop-row.invariant.kept), c.if-n-lt8.true, c.requires.0)
 
 pub loop-row-smaller-then-n-lt8 : goal.loop-row-smaller-then-n-lt8
-loop-row-smaller-then-n-lt8 c = row_less _ _ _ _ c.loop-row.invariant.through (row (goal.at.loop-row-smaller-then-n-lt8 c).In-Found-1)
+loop-row-smaller-then-n-lt8 c = row_less _ _ _ _ c.loop-row.invariant.through (row (goal.at.loop-row-smaller-then-n-lt8 c).In-Found)
 
 pub loop-row-preserved-then-n-lt8 : goal.loop-row-preserved-then-n-lt8
-loop-row-preserved-then-n-lt8 c = reached_more _ _ _ c.loop-row.invariant (row (goal.at.loop-row-preserved-then-n-lt8 c).In-Found-1) (sym c.known.ensures ∙ not-true _ c.if-not-known.true-raw) c.read_group.ensures.0 c.in-Accepted.is c.if-n-lt8.true c.put_all.ensures c.read_group.ensures.1
+loop-row-preserved-then-n-lt8 c = reached_more _ _ _ c.loop-row.invariant (row (goal.at.loop-row-preserved-then-n-lt8 c).In-Found) (sym c.known.ensures ∙ not-true _ c.if-not-known.true-raw) c.read_group.ensures.0 c.in-Accepted.is c.if-n-lt8.true c.put_all.ensures c.read_group.ensures.1
 
 pub loop-row-smaller-else-n-lt8 : goal.loop-row-smaller-else-n-lt8
-loop-row-smaller-else-n-lt8 c = row_less _ _ _ _ c.loop-row.invariant.through (row (goal.at.loop-row-smaller-else-n-lt8 c).In-Found-1)
+loop-row-smaller-else-n-lt8 c = row_less _ _ _ _ c.loop-row.invariant.through (row (goal.at.loop-row-smaller-else-n-lt8 c).In-Found)
 
 pub loop-row-preserved-else-n-lt8 : goal.loop-row-preserved-else-n-lt8
-loop-row-preserved-else-n-lt8 c = reached_ninth _ _ _ c.loop-row.invariant (row (goal.at.loop-row-preserved-else-n-lt8 c).In-Found-1) (sym c.known.ensures ∙ not-true _ c.if-not-known.true-raw) c.read_group.ensures.0 c.in-Accepted.is c.if-n-lt8.false
+loop-row-preserved-else-n-lt8 c = reached_ninth _ _ _ c.loop-row.invariant (row (goal.at.loop-row-preserved-else-n-lt8 c).In-Found) (sym c.known.ensures ∙ not-true _ c.if-not-known.true-raw) c.read_group.ensures.0 c.in-Accepted.is c.if-n-lt8.false
 
 pub shape_of-words-in-Refused : goal.shape_of-words-in-Refused
-shape_of-words-in-Refused c = long (goal.at.shape_of-words-in-Refused c).After-slice_known-1
+shape_of-words-in-Refused c = (kept_long streams c.loop-row.invariant.kept)
 
 pub returns-in-Refused : goal.returns-in-Refused
-returns-in-Refused c = let a = refused_group _ _ _ c.loop-row.invariant (row (goal.at.returns-in-Refused c).In-Found-1) (sym c.known.ensures ∙ not-true _ c.if-not-known.true-raw) c.read_group.ensures.0 c.in-Refused.is in (a.answer, a.words)
+returns-in-Refused c = let a = refused_group _ _ _ c.loop-row.invariant (row (goal.at.returns-in-Refused c).In-Found) (sym c.known.ensures ∙ not-true _ c.if-not-known.true-raw) c.read_group.ensures.0 c.in-Refused.is in (a.answer, a.words)
 
 pub loop-row-smaller-else-not-known : goal.loop-row-smaller-else-not-known
-loop-row-smaller-else-not-known c = row_less _ _ _ _ c.loop-row.invariant.through (row (goal.at.loop-row-smaller-else-not-known c).In-Found-1)
+loop-row-smaller-else-not-known c = row_less _ _ _ _ c.loop-row.invariant.through (row (goal.at.loop-row-smaller-else-not-known c).In-Found)
 
 pub loop-row-preserved-else-not-known : goal.loop-row-preserved-else-not-known
-loop-row-preserved-else-not-known c = reached_known _ _ _ c.loop-row.invariant (row (goal.at.loop-row-preserved-else-not-known c).In-Found-1) (sym c.known.ensures ∙ not-false _ c.if-not-known.false-raw)
+loop-row-preserved-else-not-known c = reached_known _ _ _ c.loop-row.invariant (row (goal.at.loop-row-preserved-else-not-known c).In-Found) (sym c.known.ensures ∙ not-false _ c.if-not-known.false-raw)
 
 pub loop-row-smaller : goal.loop-row-smaller
 loop-row-smaller c = line_less _ _ _ _ c.loop-row.invariant.through (sym c.row_at.ensures ∙ c.in-Other.is)
@@ -76,7 +72,7 @@ pub loop-row-preserved : goal.loop-row-preserved
 loop-row-preserved c = reached_line _ _ _ c.loop-row.invariant (sym c.row_at.ensures ∙ c.in-Other.is)
 
 pub put1-requires : goal.put1-requires
-put1-requires c = omega (arith, long (goal.at.put1-requires c).At-loop-row, c.requires.0)
+put1-requires c = omega (arith, (kept_long streams c.loop-row.invariant.kept), c.requires.0)
 
 pub judge-requires : goal.judge-requires
 judge-requires c = omega (arith, long_behind (goal.at.judge-requires c).After-put1-arg-1, c.requires.0)

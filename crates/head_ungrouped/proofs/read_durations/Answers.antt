@@ -16,17 +16,13 @@ use mathlib.Core.Path.{◌≡◌, sym, ap, ◌∙◌}
 use Rattle.head_ungrouped.proofs.read_durations.Goals.{After-store-durations, In-Read}
 use Rattle.head_ungrouped.proofs.read_durations.Goals as goal
 
--- a line was read
-read_line : (c : In-Read) → Turned position_fields c.args.s.now c.args.start c.loop-next.at.at c.loop-next.seen c.loop-next.invariant.0 c.next_line-l.result c.in-Read.next
-read_line c = turned position_fields _ _ c.loop-next.invariant.2 c.next_line-l.ensures c.in-Read.is
-
 -- what is kept, with it
-kept_line : (c : After-store-durations) → c.store-durations.result ≡ kept with_line no_durations (c.loop-next.invariant.0 ++ ((read_line c.TO.In-Read).line ∷ []))
+kept_line : (c : After-store-durations) → c.store-durations.result ≡ kept with_line no_durations (c.loop-next.invariant.0 ++ (((turned position_fields _ _ c.loop-next.invariant.2 c.next_line-l.ensures c.in-Read.is)).line ∷ []))
 kept_line c =
     c.store-durations.ensures
-    ∙ stored_line _ (read_line c.TO.In-Read).line (outcome.Read c.in-Read.next) (read_line c.TO.In-Read).field (read_line c.TO.In-Read).value
-    ∙ ap (λ (g : Durations). with_line g (read_line c.TO.In-Read).line) c.loop-next.invariant.1
-    ∙ sym (kept_more with_line no_durations c.loop-next.invariant.0 (read_line c.TO.In-Read).line)
+    ∙ stored_line _ (turned position_fields _ _ c.loop-next.invariant.2 c.next_line-l.ensures c.in-Read.is).line (outcome.Read c.in-Read.next) (turned position_fields _ _ c.loop-next.invariant.2 c.next_line-l.ensures c.in-Read.is).field (turned position_fields _ _ c.loop-next.invariant.2 c.next_line-l.ensures c.in-Read.is).value
+    ∙ ap (λ (g : Durations). with_line g (turned position_fields _ _ c.loop-next.invariant.2 c.next_line-l.ensures c.in-Read.is).line) c.loop-next.invariant.1
+    ∙ sym (kept_more with_line no_durations c.loop-next.invariant.0 (turned position_fields _ _ c.loop-next.invariant.2 c.next_line-l.ensures c.in-Read.is).line)
 
 pub loop-next-init : goal.loop-next-init
 unfolding unseen kept
@@ -37,11 +33,11 @@ unfolding position_fields
 mark-with_field-requires c = search rules
 
 pub loop-next-smaller : goal.loop-next-smaller
-loop-next-smaller c = (read_line (goal.at.loop-next-smaller c).In-Read).less
+loop-next-smaller c = (turned position_fields _ _ c.loop-next.invariant.2 c.next_line-l.ensures c.in-Read.is).less
 
 pub loop-next-preserved : goal.loop-next-preserved
 unfolding position_fields
-loop-next-preserved c = (_, kept_line (goal.at.loop-next-preserved c).After-store-durations, rw c.mark-with_field.ensures (read_line (goal.at.loop-next-preserved c).In-Read).going)
+loop-next-preserved c = (_, kept_line (goal.at.loop-next-preserved c).After-store-durations, rw c.mark-with_field.ensures (turned position_fields _ _ c.loop-next.invariant.2 c.next_line-l.ensures c.in-Read.is).going)
 
 pub returns-in-End : goal.returns-in-End
 returns-in-End c = c.judge.ensures ∙ ap (judged _) c.loop-next.invariant.1 ∙ ap durations_in (sym (lines_end position_fields _ _ c.loop-next.invariant.2 (end_of position_fields _ (ap (λ (l : Line). l.step) (sym c.next_line-l.ensures) ∙ c.in-End.is))))

@@ -4,31 +4,27 @@ use Rattle.load_choose.proofs.Words.{Counts, counts, k_inside, no_stream_uses, s
 use mathlib.Core.Path.{sym, ◌∙◌}
 use Prim.Native.Nat.{◌<◌}
 use native.Mathlib.Omega.{arith}
-use Rattle.load_choose.proofs.uses_gv.Goals.{In-At-2, Start}
+use Rattle.load_choose.proofs.uses_gv.Goals.{In-At, Start}
 use Rattle.load_choose.proofs.uses_gv.Goals as goal
 
--- the counts of the record are within their limits
-limits : (c : Start) → Counts c.args.words.now
-limits c = counts _ _ c.requires.words_value
-
 -- the group found is among the eight
-found_k : (c : In-At-2) → c.in-At.k < 8
-found_k c = k_inside c.args.file.now c.args.words.now c.args.i (limits c.TO.Start) (sym c.find_stream.ensures ∙ c.in-At.is)
+found_k : (c : In-At) → c.in-At.k < 8
+found_k c = k_inside c.args.file.now c.args.words.now c.args.i (counts _ _ c.requires.words_value) (sym c.find_stream.ensures ∙ c.in-At.is)
 
 pub overflow_mul-result : goal.overflow_mul-result
-overflow_mul-result c = omega (arith, found_k (goal.at.overflow_mul-result c).In-At-2)
+overflow_mul-result c = omega (arith, found_k (goal.at.overflow_mul-result c).In-At)
 
 pub overflow_add-result : goal.overflow_add-result
-overflow_add-result c = omega (arith, found_k (goal.at.overflow_add-result c).In-At-2)
+overflow_add-result c = omega (arith, found_k (goal.at.overflow_add-result c).In-At)
 
 pub overflow_add-result-in-At : goal.overflow_add-result-in-At
-overflow_add-result-in-At c = omega (arith, found_k (goal.at.overflow_add-result-in-At c).In-At-2)
+overflow_add-result-in-At c = omega (arith, found_k (goal.at.overflow_add-result-in-At c).In-At)
 
 pub offset_bounds-words-k : goal.offset_bounds-words-k
-offset_bounds-words-k c = omega (arith, found_k (goal.at.offset_bounds-words-k c).In-At-2)
+offset_bounds-words-k c = omega (arith, found_k (goal.at.offset_bounds-words-k c).In-At)
 
 pub bounds-words-k : goal.bounds-words-k
-bounds-words-k c = omega (arith, found_k (goal.at.bounds-words-k c).In-At-2, c.requires.in_bounds.0)
+bounds-words-k c = omega (arith, found_k (goal.at.bounds-words-k c).In-At, c.requires.in_bounds.0)
 
 pub returns-in-Nothing : goal.returns-in-Nothing
 returns-in-Nothing c =
@@ -38,4 +34,4 @@ returns-in-Nothing c =
 pub returns-in-At : goal.returns-in-At
 returns-in-At c =
     let x = c.args in
-    stream_uses x.file.now x.words.now x.i (limits (goal.at.returns-in-At c).Start) (sym c.find_stream.ensures ∙ c.in-At.is)
+    stream_uses x.file.now x.words.now x.i (counts _ _ c.requires.words_value) (sym c.find_stream.ensures ∙ c.in-At.is)
