@@ -109,7 +109,7 @@ impl Scalar {
 
 impl<'de> Deserializer<'de> {
     pub fn from_section(section: &'de [u8], delimiters: Delimiters) -> Deserializer<'de>
-        ensures { result ≡ holding section (cursor 0) delimiters }
+        ensures { result ≡ holding section.entry (cursor 0) delimiters }
     {
         Deserializer {
             section,
@@ -120,7 +120,7 @@ impl<'de> Deserializer<'de> {
 
     // On to the cursor that a step handed back.
     pub fn moved(self, cursor: Cursor) -> Deserializer<'de>
-        ensures { result ≡ holding self.section cursor self.delimiters }
+        ensures { result ≡ holding self.entry.section cursor self.entry.delimiters }
     {
         Deserializer {
             section: self.section,
@@ -130,40 +130,40 @@ impl<'de> Deserializer<'de> {
     }
 
     pub fn string(self) -> Text
-        ensures { result ≡ text_at (delimiters_of self.delimiters) self.section.now self.cursor.at }
+        ensures { result ≡ text_at (delimiters_of self.entry.delimiters) self.entry.section.now self.entry.cursor.at }
     {
         self.cursor.string(self.section, self.delimiters)
     }
 
     pub fn number(self) -> Number
-        ensures { result ≡ number_at self.section.now self.cursor.at }
+        ensures { result ≡ number_at self.entry.section.now self.entry.cursor.at }
     {
         self.cursor.number(self.section)
     }
 
     pub fn flag(self) -> Flag
-        ensures { result ≡ flag_at self.section.now self.cursor.at }
+        ensures { result ≡ flag_at self.entry.section.now self.entry.cursor.at }
     {
         self.cursor.flag(self.section)
     }
 
     // The delimiter of a sequence inside those that are open.
     pub fn delimiter(self, current: u32) -> Delimiter
-        ensures { result ≡ delimiter_at current (delimiters_of self.delimiters) self.section.now self.cursor.at }
+        ensures { result ≡ delimiter_at current (delimiters_of self.entry.delimiters) self.entry.section.now self.entry.cursor.at }
     {
         self.cursor
             .delimiter(self.section, current, self.delimiters)
     }
 
     pub fn pair(self) -> Pair
-        ensures { result ≡ pair_at (delimiters_of self.delimiters) self.section.now self.cursor.at }
+        ensures { result ≡ pair_at (delimiters_of self.entry.delimiters) self.entry.section.now self.entry.cursor.at }
     {
         self.cursor.pair(self.section, self.delimiters)
     }
 
     // By the method for what is asked.
     pub fn value(self, asked: Asked) -> Scalar
-        ensures { result ≡ scalar_at asked (delimiters_of self.delimiters) self.section.now self.cursor.at }
+        ensures { result ≡ scalar_at asked (delimiters_of self.entry.delimiters) self.entry.section.now self.entry.cursor.at }
     {
         match asked {
             Asked::Text => Scalar::of_text(self.string()),

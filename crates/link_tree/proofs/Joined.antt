@@ -117,6 +117,8 @@ pdfs_are : {qs : List Question} (ws : List WorkLine) (ls : List Line) → Forall
 unfolding pdfs_of L.pdfs
 pdfs_are [] [] Forall₂.nil = refl
 pdfs_are (a ∷ ws) (l ∷ ls) (Forall₂.cons s f) = ap₂ (λ x y. x ++ y) (ap pdf_of s.yes) (ap₂ (λ x y. x ++ y) (ap pdf_of s.no) (pdfs_are ws ls f))
+pdfs_are {qs = qs} [] (l ∷ ls) x'' = elim x'' [ ]
+pdfs_are {qs = qs} (a ∷ ws) [] x3 = elim x3 [ ]
 
 -- a PDF of a line is counted
 
@@ -164,6 +166,8 @@ module _ (qs : List Question) (w : List ℤ) where
       let r = line_nth (suc j) n k ls (omega arith) f in
       let e : suc j + k ≡ j + suc k = omega arith in
       (r.0, there r.1, subst (λ (i : ℕ). Says qs (line_in w i) r.0) e r.2)
+  line_nth j (suc n) zero [] h f = elim f [ ]
+  line_nth j (suc n) (suc k) [] h f = elim f [ ]
 
   nth_line : (j n k : ℕ) (ls : List Line) (l : Line) → Forall₂ (Says qs) (lines_from w j n) ls → Nth ls k l → (k < n) × Says qs (line_in w (j + k)) l
   unfolding lines_from
@@ -173,6 +177,8 @@ module _ (qs : List Question) (w : List ℤ) where
       let r = nth_line (suc j) n k ls l f t in
       let e : suc j + k ≡ j + suc k = omega arith in
       (omega (arith, r.0), subst (λ (i : ℕ). Says qs (line_in w i) l) e r.1)
+  nth_line j (suc n) zero [] l f t = elim f [ ]
+  nth_line j (suc n) (suc k) [] l f t = elim f [ ]
 
   module _ (n : ℕ) (room : 6 * n ≤ length w) (small : (i : ℕ) → mag (get_or w i (pos 0)) < 2 ^ 63) (ls : List Line) (said : Forall₂ (Says qs) (lines_from w 0 n) ls) where
     id_is : (e : ℕ) → e < n → id_at w e ≡ get_or w (6 * e) (pos 0)
@@ -267,6 +273,8 @@ module _ (qs : List Question) (w : List ℤ) where
             let R = r e in
             (branch ((line_in w j).question - 1) y z ∷ R.0, Forall₂.cons (row_is j l s p) R.1, ap (λ t. 0 ∷ ((line_in w j).question - 1) ∷ y ∷ z ∷ t) R.2)
         go (Fails f) p e r = let u : ◌≡◌ {A = ℕ} 0 1 = cc in absurd (omega arith)
+    rows_are k j zero (l ∷ lt) x4 e = elim x4 [ ]
+    rows_are k j (suc m) [] x4 e = elim x4 [ ]
 
     -- the records of the tree
     pub link_done : link_outcome w n ≡ Done → NotSingle ls → (rows : List Row) × Records qs (braces ls) rows × (flatten rows ≡ linked_rows w n)

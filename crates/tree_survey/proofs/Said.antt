@@ -50,12 +50,12 @@ module _ {A B : Type 0} {Part : ℕ → ℕ → Type 0} {Item : ℕ → ℕ → 
     zipped_largest : (f : C → ℕ) (g : A → ℕ) (m : ℕ) → ((i j : ℕ) (x : A) (y : B) → Item i j x y → f (code x y) ≡ g x) → {i j : ℕ} {xs : List A} {ys : List B} → Parted Part Item i j xs ys → largest f m (zip_with code xs ys) ≡ largest g m xs
     unfolding zip_with largest
     zipped_largest f g m e (only t) = ap (larger m) (e _ _ _ _ t)
-    zipped_largest f g m e (then {x = x} {xs = xs} t p r) = zipped_largest f g _ e r ∙ ap (λ (n : ℕ). largest g (larger m n) xs) (e _ _ _ _ t)
+    zipped_largest f g m e (then {x = x} {y = y} {xs = xs} t p r) = zipped_largest f g (larger m (f (code x y))) e r ∙ ap (λ (n : ℕ). largest g (larger m n) xs) (e _ _ _ _ t)
 
     zipped_any : (f : C → Bool) (g : A → Bool) (b : Bool) → ((i j : ℕ) (x : A) (y : B) → Item i j x y → f (code x y) ≡ g x) → {i j : ℕ} {xs : List A} {ys : List B} → Parted Part Item i j xs ys → any_of f b (zip_with code xs ys) ≡ any_of g b xs
     unfolding zip_with any_of
     zipped_any f g b e (only t) = ap (b ||◌) (e _ _ _ _ t)
-    zipped_any f g b e (then {xs = xs} t p r) = zipped_any f g _ e r ∙ ap (λ c. any_of g (b || c) xs) (e _ _ _ _ t)
+    zipped_any f g b e (then {x = x} {y = y} {xs = xs} t p r) = zipped_any f g (b || f (code x y)) e r ∙ ap (λ c. any_of g (b || c) xs) (e _ _ _ _ t)
 
 -- ---- lines
 

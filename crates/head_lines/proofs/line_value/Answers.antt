@@ -18,7 +18,7 @@ use Rattle.head_lines.proofs.line_value.Goals as goal
 
 -- the value behind the colon
 abbrev behind : After-read-v → Reading says.Value
-behind c = read_at (newline ∷ []) c.before.before.before.before.before.args.s.now (c.before.before.before.before.before.args.c.at + 1) (kind_from c.before.before.before.before.before.args.kind)
+behind c = read_at (newline ∷ []) c.args.s.now (c.args.c.at + 1) (kind_from c.args.kind)
 
 colon : (c : After-read-v) → line_value_at c.args.s.now c.args.c.at (kind_from c.args.kind) ≡ ended_of c.args.s.now (behind c)
 unfolding line_value_at

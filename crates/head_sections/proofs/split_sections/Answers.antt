@@ -24,8 +24,8 @@ returns-then-not-starts_with c = rw (sym c.newline_end-first.ensures, sym c.sect
 pub overflow_add-rest : goal.overflow_add-rest
 overflow_add-rest c = omega (arith, starts_in _ _ _ (omega arith) (sym c.starts_with.ensures ∙ not-false _ c.if-not-starts_with.false-raw), c.well_formed)
 
-pub UNKNOWN_overflow_sub_t30 : goal.UNKNOWN_overflow_sub_t30
-UNKNOWN_overflow_sub_t30 c = omega (arith, section_in _ _ _ (sym c.before.before.before.before.before.before.before.before.before.before.before.before.before.before.before.before.section-at.ensures ∙ c.before.before.before.before.before.before.before.before.before.before.before.before.before.before.global.given.1))
+pub overflow_sub-parts : goal.overflow_sub-parts
+overflow_sub-parts c = omega (arith, section_in _ _ _ (sym c.section_at.ensures ∙ c.in-Text.is))
 
 pub overflow_sub-parts-in-Text-section_at-2 : goal.overflow_sub-parts-in-Text-section_at-2
 overflow_sub-parts-in-Text-section_at-2 c = omega (arith, section_in _ _ _ (sym c.section_at-in-Text.ensures ∙ c.in-Text-section_at.is))

@@ -39,4 +39,4 @@ returns-in-Refused c =
     let room = size₂ a.work.now a.n a.leaves a.rows.now pre.1 pre.2 _ c.sort_leaves.ensures _ c.index_lines-ordered.ensures.1 ∙ pre.2 in
     let r = c.resolve_lines in
     let o = outcome_is a.work.now a.n a.leaves _ pre.1 room there r.ensures.0 in
-    ended o c.in-Refused.is (c.zero.ensures ∙ ap (λ (k : ℕ). replicate k 0) (r.auto.1.1.0 ∙ room ∙ sym pre.2))
+    ended o c.in-Refused.is (c.zero.ensures ∙ ap (λ (k : ℕ). replicate k 0) (r.auto.rows ∙ room ∙ sym pre.2))

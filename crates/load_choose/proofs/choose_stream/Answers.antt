@@ -18,7 +18,7 @@ found_k c = k_inside c.args.file.now c.args.words.now c.args.i (counts _ _ c.req
 pub returns-then-words-i : goal.returns-then-words-i
 returns-then-words-i c =
     let x = c.args in
-    not_numbered (made_by x.decreases x.gv) x.file.now x.words.now x.i c.if-words-i.true
+    not_numbered (made_by x.measured x.gv) x.file.now x.words.now x.i c.if-words-i.true
 
 pub overflow_mul-position : goal.overflow_mul-position
 overflow_mul-position c = omega (arith, found_p (goal.at.overflow_mul-position c).In-At)
@@ -38,15 +38,15 @@ entries_model-requires c = (omega (arith, found_k (goal.at.entries_model-require
 pub returns-in-Nothing : goal.returns-in-Nothing
 returns-in-Nothing c =
     let x = c.args in
-    without_position (made_by x.decreases x.gv) x.file.now x.words.now x.i c.if-words-i.false (sym c.find_position.ensures ∙ c.in-Nothing.is)
+    without_position (made_by x.measured x.gv) x.file.now x.words.now x.i c.if-words-i.false (sym c.find_position.ensures ∙ c.in-Nothing.is)
 
 pub returns-in-Nothing-find_stream : goal.returns-in-Nothing-find_stream
 returns-in-Nothing-find_stream c =
     let x = c.args in
-    without_stream (made_by x.decreases x.gv) x.file.now x.words.now x.i c.if-words-i.false (sym c.find_position.ensures ∙ c.in-At.is) (sym c.find_stream.ensures ∙ c.in-Nothing-find_stream.is)
+    without_stream (made_by x.measured x.gv) x.file.now x.words.now x.i c.if-words-i.false (sym c.find_position.ensures ∙ c.in-At.is) (sym c.find_stream.ensures ∙ c.in-Nothing-find_stream.is)
 
 pub returns-in-At-find_stream : goal.returns-in-At-find_stream
 returns-in-At-find_stream c =
     let x = c.args in
     c.entries_model.ensures
-    ∙ with_both (made_by x.decreases x.gv) x.file.now x.words.now x.i (counts _ _ c.requires.words_value) c.if-words-i.false (sym c.find_position.ensures ∙ c.in-At.is) (sym c.find_stream.ensures ∙ c.in-At-find_stream.is)
+    ∙ with_both (made_by x.measured x.gv) x.file.now x.words.now x.i (counts _ _ c.requires.words_value) c.if-words-i.false (sym c.find_position.ensures ∙ c.in-At.is) (sym c.find_stream.ensures ∙ c.in-At-find_stream.is)

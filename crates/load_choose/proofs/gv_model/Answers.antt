@@ -18,6 +18,6 @@ unfolding gv_by stream_at position_at
 returns c =
     let x = c.args in
     let w = x.words.now in
-    let v : ℕ = cond x.decreases (word_at w (x.stream + 2)) 0 in
+    let v : ℕ = cond x.measured (word_at w (x.stream + 2)) 0 in
     let e : 2 * (c.counted.result * 1) + 0 ≡ 2 * v = omega (arith, c.counted.ensures) in
     rw (sym c.has_gv.ensures ∙ not-false _ c.if-not-has_gv.false-raw) (c.model.ensures ∙ ap (model_of (range_at w (x.position + 26)) (range_at w (x.position + 23))) e)

@@ -16,26 +16,26 @@ pub choose_stream-requires : goal.choose_stream-requires
 choose_stream-requires c = record { in_bounds = c.requires; words_value = sym c.record_fits.ensures ∙ not-false _ c.if-not-record_fits.false-raw }
 
 pub choose_stream-requires-in-Gv : goal.choose_stream-requires-in-Gv
-choose_stream-requires-in-Gv c = (c.requires, sym c.record_fits.ensures ∙ not-false _ c.if-not-record_fits.false-raw)
+choose_stream-requires-in-Gv c = record { in_bounds = c.requires; words_value = sym c.record_fits.ensures ∙ not-false _ c.if-not-record_fits.false-raw }
 
 pub returns-in-Duration : goal.returns-in-Duration
 unfolding header_at global_at
 returns-in-Duration c =
     let x = c.args in
     let w = x.words.now in
-    let v : ℕ = cond x.decreases (word_at w 4) 0 in
+    let v : ℕ = cond x.measured (word_at w 4) 0 in
     let e : 2 * (c.counted.result * 1) + 0 ≡ 2 * v = omega (arith, c.counted.ensures) in
     rw (sym c.record_fits.ensures ∙ not-false _ c.if-not-record_fits.false-raw)
-    (c.model.ensures ∙ ap (model_of (range_at w 410) (range_at w 408)) e ∙ ap (asked_by x.decreases x.file.now (header_at w)) (sym c.in-Duration.is))
+    (c.model.ensures ∙ ap (model_of (range_at w 410) (range_at w 408)) e ∙ ap (asked_by x.measured x.file.now (header_at w)) (sym c.in-Duration.is))
 
 pub returns-in-Stream : goal.returns-in-Stream
 returns-in-Stream c =
     let x = c.args in
     rw (sym c.record_fits.ensures ∙ not-false _ c.if-not-record_fits.false-raw)
-    (c.choose_stream.ensures ∙ ap (asked_by x.decreases x.file.now (header_at x.words.now)) (sym c.in-Stream.is))
+    (c.choose_stream.ensures ∙ ap (asked_by x.measured x.file.now (header_at x.words.now)) (sym c.in-Stream.is))
 
 pub returns-in-Gv : goal.returns-in-Gv
 returns-in-Gv c =
     let x = c.args in
     rw (sym c.record_fits.ensures ∙ not-false _ c.if-not-record_fits.false-raw)
-    (c.choose_stream-in-Gv.ensures ∙ ap (asked_by x.decreases x.file.now (header_at x.words.now)) (sym c.in-Gv.is))
+    (c.choose_stream-in-Gv.ensures ∙ ap (asked_by x.measured x.file.now (header_at x.words.now)) (sym c.in-Gv.is))

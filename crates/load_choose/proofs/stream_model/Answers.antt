@@ -20,4 +20,4 @@ returns c =
     let w = x.words.now in
     c.model.ensures
     ∙ ap (λ (a : ℕ). model_of (range_at w (x.position + 21)) (range_at w (x.position + 19)) (2 * (a * word_at w (x.stream + 3)) + bit (not (eqb c.counted-msd.result 0)))) c.counted.ensures
-    ∙ ap (λ (b : Bool). model_of (range_at w (x.position + 21)) (range_at w (x.position + 19)) (2 * (cond x.decreases (word_at w (x.stream + 2)) 0 * word_at w (x.stream + 3)) + bit b)) (ap (λ (n : ℕ). not (eqb n 0)) c.counted-msd.ensures ∙ flagged x.decreases (word_at w (x.stream + 4)))
+    ∙ ap (λ (b : Bool). model_of (range_at w (x.position + 21)) (range_at w (x.position + 19)) (2 * (cond x.measured (word_at w (x.stream + 2)) 0 * word_at w (x.stream + 3)) + bit b)) (ap (λ (n : ℕ). not (eqb n 0)) c.counted-msd.ensures ∙ flagged x.measured (word_at w (x.stream + 4)))

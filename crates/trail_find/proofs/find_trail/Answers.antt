@@ -1,7 +1,6 @@
 -- `trail_find::find_trail`: by the count and the beginning in the last 12 bytes.
 use mathlib.Core.Path.{refl}
 use Rattle.trail_find.proofs.Laws.{trail_short, trail_rows, trail_elsewhere}
-use borrow.Author.Rules.{rules}
 use Rattle.trail_find.proofs.find_trail.Goals as goal
 
 pub returns-then-len-lt12 : goal.returns-then-len-lt12
