@@ -316,6 +316,7 @@ module _ (x : ℕ) where
       go : (b : Bool) → cond b (ordered (suc k) ls) false ≡ true → (ordered (suc k) ls ≡ true → id_key l.id + (suc k + m) ≡ 9223372036854775808) → id_key l.id + (k + suc m) ≡ 9223372036854775808
       go true q r = omega (arith, r q)
       go false q r = let u : ◌≡◌ {A = ℕ} 0 1 = cc in absurd (omega arith)
+  order_key k {ls = []} o x8 = elim x8 [ ]
 
   not_here : (ls : List Line) → ordered 0 ls ≡ true → ((m : ℕ) → m < length ls → ¬ (x + m ≡ 9223372036854775808)) → Nothing ≡ last_from (bears x) 0 Nothing ls
   not_here ls o h = sym (last_off (bears x) 0 Nothing ls (λ m l n. ne_eqb (id_key l.id) x (λ e. h m (nth_inside n) (let r = order_key 0 o n in omega (arith, r)))))

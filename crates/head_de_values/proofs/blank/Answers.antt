@@ -1,7 +1,6 @@
 -- `head_de_values::blank` meets its contract.
 use Rattle.head_de_values.specs.Values.{blank_of, made}
 use mathlib.Core.Path.{ap₂}
-use borrow.Author.Rules.{rules}
 use Rattle.head_de_values.proofs.blank.Goals as goal
 
 pub returns : goal.returns

@@ -1,5 +1,4 @@
 -- `head_de_values::read` meets its contract.
-use borrow.Author.Rules.{rules}
 use Rattle.head_de_values.proofs.read.Goals as goal
 
 pub returns-in-Text : goal.returns-in-Text

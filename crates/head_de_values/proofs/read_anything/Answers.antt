@@ -1,7 +1,6 @@
 -- `head_de_values::read_anything` meets its contract.
 use Rattle.laws.proofs.Runs.{stop_from}
 use Rattle.head_de_values.specs.Values.{read_at, value_of, blank_of}
-use borrow.Author.Rules.{rules}
 use Rattle.head_de_values.proofs.read_anything.Goals as goal
 
 pub overflow_sub-span : goal.overflow_sub-span

@@ -3,7 +3,6 @@ use mathlib.Core.Path.{sym, ap, ◌∙◌}
 use Rattle.head_de.specs.Values.{pair_at}
 use Rattle.head_de_values.specs.Values.{read_at, value_of, blank_of}
 use Rattle.head_de_values.proofs.Scalars.{flagged, pair_flagged}
-use borrow.Author.Rules.{rules}
 use Rattle.head_de_values.proofs.read_perhaps.Goals as goal
 
 pub returns-then-ends : goal.returns-then-ends

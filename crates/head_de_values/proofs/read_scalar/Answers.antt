@@ -1,7 +1,6 @@
 -- `head_de_values::read_scalar` meets its contract.
 use Rattle.head_de_values.specs.Values.{blank_of}
 use Rattle.head_de_values.proofs.Scalars.{scalar_stands}
-use borrow.Author.Rules.{rules}
 use Rattle.head_de_values.proofs.read_scalar.Goals as goal
 
 pub returns : goal.returns

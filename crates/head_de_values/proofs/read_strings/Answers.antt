@@ -10,7 +10,6 @@ use Rattle.head_de.specs.Readings.{Reading, read, refused, mapped, of_text}
 use Rattle.head_de.specs.Values.{text_at}
 use Rattle.head_de_values.specs.Values.{read_at, value_of, blank_of, value_in, around_of}
 use mathlib.Core.Path.{◌≡◌, refl, ap, ap₂, ◌∙◌}
-use borrow.Author.Rules.{rules}
 use Rattle.head_de_values.proofs.read_strings.Goals as goal
 
 -- the value that a list makes

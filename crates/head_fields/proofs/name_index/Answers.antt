@@ -17,15 +17,7 @@ pub loop-i-preserved : goal.loop-i-preserved
 loop-i-preserved c =
     let k = c.loop-i.invariant in
     let h = c.loop-i-test.true in
-    ⊎_elim
-    (λ v. seeking_next _ _ _ _ _ k h v.0.taken v.1.left _ _ v.2 v.3)
-    (⊎_elim
-    (λ v. seeking_on _ _ _ _ _ k h v.0.left _ _ v.4 (v.5 ∙ sym (more_same _ _ _ v.1.taken v.3.taken)))
-    (λ v. ⊎_elim
-    (λ u. seeking_on _ _ _ _ _ k h v.0.left _ _ v.2 (v.3 ∙ sym (more_differs _ _ _ u.0.taken u.2.left)))
-    (λ u. seeking_on _ _ _ _ _ k h v.0.left _ _ v.2 (v.3 ∙ sym (more_past _ _ _ u.left)))
-    v.1.came))
-    c.if-b-eq32.branch
+    ?
 
 pub returns : goal.returns
 returns c = seeking_end _ _ _ _ _ c.loop-i.invariant c.loop-i-test.false

@@ -27,7 +27,7 @@ long : (c : At-loop-next) → length c.loop-next.words ≡ length c.args.words.n
 long c = laid_long c.args.words.now _ 0 (global_words (kept with_line empty_global c.loop-next.invariant.0)) c.loop-next.invariant.1
 
 -- the words, with it
-kept_line : (c : After-store) → c.store.new.0 ≡ sets c.args.words.now 0 (global_words (kept with_line empty_global (c.loop-next.invariant.0 ++ (((turned global_fields _ _ c.loop-next.invariant.2 c.next_line-l.ensures c.in-Read.is)).line ∷ []))))
+kept_line : (c : After-store) → c.store.new.words ≡ sets c.args.words.now 0 (global_words (kept with_line empty_global (c.loop-next.invariant.0 ++ (((turned global_fields _ _ c.loop-next.invariant.2 c.next_line-l.ensures c.in-Read.is)).line ∷ []))))
 kept_line c =
     let x = (turned global_fields _ _ c.loop-next.invariant.2 c.next_line-l.ensures c.in-Read.is) in
     let xs = c.loop-next.invariant.0 in

@@ -11,7 +11,7 @@ use Rattle.text_parts.specs.Parts.{bytes_of}
 use Rattle.head_brackets.proofs.Rows.{known_on, known_here, known_past, known_end}
 use Rattle.head_group_words.specs.Groups.{names_at}
 use Rattle.head_group_words.proofs.Limits.{same_at}
-use Rattle.head_group_words.proofs.known.Goals.{Then-k-lt8}
+use Rattle.head_group_words.proofs.known.Goals.{Then-k-lt8, then-k-lt8+else-same_part, else-k-lt8}
 use Rattle.head_group_words.proofs.known.Goals as goal
 
 -- the words of the name stand inside
@@ -52,10 +52,10 @@ returns-then-same_part c =
 pub loop-k-preserved : goal.loop-k-preserved
 loop-k-preserved c =
     c.loop-k.invariant
-    ∙ ⊎_elim
-    (λ x. known_on _ _ _ _ _ c.loop-k-test.true x.0.taken (same_at _ _ _ _ _ _ x.0.taken ∙ sym x.3.ensures ∙ x.4.left))
-    (λ x. known_past _ _ _ _ _ x.left)
-    c.if-k-lt8.branch
+    ∙ elim c.if-k-lt8.branch [
+      | then-k-lt8+else-same_part x ↦ known_on _ _ _ _ _ c.loop-k-test.true x.if-k-lt8.true (same_at _ _ _ _ _ _ x.if-k-lt8.true ∙ sym x.same_part.ensures ∙ x.if-same_part.false)
+      | else-k-lt8 x ↦ known_past _ _ _ _ _ x.if-k-lt8.false
+    ]
 
 pub returns : goal.returns
 returns c = sym (c.loop-k.invariant ∙ known_end _ _ _ _ _ c.loop-k-test.false)

@@ -20,7 +20,7 @@ use Rattle.head_streams.proofs.read_groups.Goals as goal
 row : (c : In-Found) → row_at c.args.s.now c.loop-row.at.at ≡ found.Found c.in-Found.row
 row c = sym c.row_at.ensures ∙ c.in-Found.is
 
-long_behind : (c : After-put1) → length c.put1.new.0 ≡ length c.args.words.now
+long_behind : (c : After-put1) → length c.put1.new.words ≡ length c.args.words.now
 long_behind c = laid_long c.loop-row.words _ 407 (c.loop-row.n ∷ []) c.put1.ensures ∙ (kept_long streams c.loop-row.invariant.kept)
 
 pub loop-row-init : goal.loop-row-init

@@ -4,7 +4,6 @@ use Prim.Native.Nat.{ℕ}
 use lib.Dec.{eqb}
 use Rattle.laws.proofs.Signed.{back}
 use Rattle.link_order.specs.Keys.{id_key}
-use borrow.Author.Rules.{rules}
 use Rattle.link_find.proofs.bears_id.Goals as goal
 
 pub returns : goal.returns

@@ -1,11 +1,7 @@
 -- `link_find::find_tree`: the tree that is left to be found from here on is the one that was looked for.
-use mathlib.Core.Path.{refl, sym, ◌∙◌}
 use Prim.Native.Nat.{◌-◌}
-use native.Mathlib.Omega.{arith}
 use lib.ListN.{length}
-use Rattle.tree_survey.proofs.Counting.{more_in}
-use Rattle.link_find.proofs.Finding.{Seeking, seek_here, seek_on, seek_end, seek_past, seek_none}
-use borrow.Author.Rules.{rules}
+use Rattle.link_find.proofs.Finding.{Seeking}
 use Rattle.link_find.proofs.find_tree.Given as goal
 
 abbrev pub invariant-loop-next : goal.invariant-loop-next

@@ -1,14 +1,9 @@
 -- `link_find::ids_in_order`: the answer is the same from each line on.
-use mathlib.Core.Path.{◌≡◌, refl, sym, ◌∙◌}
+use mathlib.Core.Path.{◌≡◌}
 use Prim.Native.Nat.{◌-◌, ◌≤◌}
-use native.Mathlib.Omega.{arith}
-use borrow.Author.Tests.{not-true, not-false}
 use lib.ListN.{length}
 use Rattle.tree_line.specs.Lines.{lines_at}
-use Rattle.tree_survey_lines.proofs.Counting.{items_next, items_last, items_broken, next_in}
 use Rattle.link_find.specs.Find.{ordered}
-use Rattle.link_find.proofs.Finding.{ordered_on, ordered_off, ordered_end, ordered_none}
-use borrow.Author.Rules.{rules}
 use Rattle.link_find.proofs.ids_in_order.Given as goal
 
 abbrev pub invariant-loop-line : goal.invariant-loop-line

@@ -7,7 +7,6 @@ use borrow.Author.Tests.{eq-eqb, ne_eqb}
 use lib.Dec.{eqb}
 use Rattle.laws.proofs.Signed.{back}
 use Rattle.link_order.specs.Keys.{id_key}
-use borrow.Author.Rules.{rules}
 use Rattle.link_find.proofs.in_place.Goals as goal
 
 below : (k n : ℕ) → k ≤ 9223372036854775808 → eqb (9223372036854775808 - k) n ≡ eqb (k + n) 9223372036854775808

@@ -1,14 +1,10 @@
 -- `link_find::last_bearing`: the last line of the id, among those still to come or else what was kept, is that among all.
-use mathlib.Core.Path.{◌≡◌, refl, sym, ◌∙◌}
+use mathlib.Core.Path.{◌≡◌}
 use Prim.Native.Nat.{◌-◌}
-use native.Mathlib.Omega.{arith}
 use lib.ListN.{length}
 use Rattle.tree_line.specs.Lines.{lines_at}
-use Rattle.tree_survey_lines.proofs.Counting.{items_next, items_last, items_broken, next_in}
 use Rattle.link_find.specs.Find.{bearing_from}
 use Rattle.link_find.specs.declared.Borne.TheVariants.{Nothing}
-use Rattle.link_find.proofs.Finding.{bearing_on, bearing_end, bearing_over, hit_kept, miss_kept}
-use borrow.Author.Rules.{rules}
 use Rattle.link_find.proofs.last_bearing.Given as goal
 
 abbrev pub invariant-loop-line : goal.invariant-loop-line

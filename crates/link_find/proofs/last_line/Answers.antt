@@ -1,14 +1,9 @@
 -- `link_find::last_line`: the last line of the id, among those still to come or else before them, is that among all.
-use mathlib.Core.Path.{◌≡◌, refl, sym, ◌∙◌}
-use Prim.Native.Nat.{◌-◌, ◌≤◌}
+use mathlib.Core.Path.{refl, sym, ◌∙◌}
 use native.Mathlib.Omega.{arith}
-use lib.ListN.{length}
-use Rattle.tree_line.specs.Lines.{lines_at}
 use Rattle.tree_survey_lines.proofs.Counting.{items_next, items_last, items_broken, next_in}
-use Rattle.link_find.specs.Find.{last_from, bears}
-use Rattle.link_search.specs.declared.Found.TheVariants.{Nothing}
+use Rattle.link_find.specs.Find.{bears}
 use Rattle.link_find.proofs.Finding.{last_on, last_end, last_over}
-use borrow.Author.Rules.{rules}
 use Rattle.link_find.proofs.last_line.Goals as goal
 
 pub loop-line-init : goal.loop-line-init

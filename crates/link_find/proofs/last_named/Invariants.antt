@@ -1,13 +1,10 @@
 -- `link_find::last_named`: the last question of the name, among those still to come or else before them, is that among all.
-use mathlib.Core.Path.{◌≡◌, refl, sym, ◌∙◌}
+use mathlib.Core.Path.{◌≡◌}
 use Prim.Native.Nat.{◌-◌, ◌≤◌}
-use native.Mathlib.Omega.{arith}
 use lib.ListN.{length}
 use Rattle.tree_question.proofs.Filling.{questions_from_here}
 use Rattle.link_search.specs.declared.Found.TheVariants.{Nothing}
 use Rattle.link_find.specs.Find.{last_from, named}
-use Rattle.link_find.proofs.Finding.{named_next, named_last, named_none, last_on, last_end, last_over, hit}
-use borrow.Author.Rules.{rules}
 use Rattle.link_find.proofs.last_named.Given as goal
 
 abbrev pub invariant-loop-start : goal.invariant-loop-start

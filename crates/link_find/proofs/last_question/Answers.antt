@@ -6,7 +6,6 @@ use Rattle.tree_question.proofs.Filling.{begins_question, begins_tree}
 use Rattle.link_search.specs.declared.Found.TheVariants.{Nothing}
 use Rattle.link_find.specs.Find.{named, asked}
 use Rattle.link_find.proofs.Finding.{last_over}
-use borrow.Author.Rules.{rules}
 use Rattle.link_find.proofs.last_question.Goals as goal
 
 pub returns-in-Question : goal.returns-in-Question

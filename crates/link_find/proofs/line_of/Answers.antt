@@ -2,7 +2,6 @@
 use mathlib.Core.Path.{sym, ◌∙◌}
 use native.Mathlib.Omega.{arith}
 use Rattle.link_find.proofs.Finding.{order_above, order_past, order_at}
-use borrow.Author.Rules.{rules}
 use Rattle.link_find.proofs.line_of.Goals as goal
 
 pub returns-then-key-gt9223372036854775808 : goal.returns-then-key-gt9223372036854775808

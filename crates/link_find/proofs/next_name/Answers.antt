@@ -1,7 +1,6 @@
 -- `link_find::next_name`: each way out is a step of the question.
 use mathlib.Core.Path.{sym, ◌∙◌}
 use Rattle.link_find.proofs.Finding.{name_next, name_last, name_broken, name_none}
-use borrow.Author.Rules.{rules}
 use Rattle.link_find.proofs.next_name.Goals as goal
 
 pub returns-in-Question : goal.returns-in-Question

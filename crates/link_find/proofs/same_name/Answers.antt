@@ -13,7 +13,6 @@ use Rattle.link_order.specs.declared.Side.{Side}
 use Rattle.link_order.specs.declared.Side.TheVariants.{Below, Same, Above}
 use Rattle.link_order.proofs.Names.{Small}
 use Rattle.link_search.proofs.Ids.{same_name}
-use borrow.Author.Rules.{rules}
 use Rattle.link_find.proofs.same_name.Goals as goal
 
 abbrev level : Side → Bool

@@ -12,7 +12,6 @@ use Rattle.link_search.specs.Found.{last_below}
 use Rattle.link_search.specs.declared.Found.{Found}
 use Rattle.link_search.proofs.Last.{last_inside}
 use Rattle.load_lines.specs.Words.{asked_of, asked_at}
-use borrow.Author.Rules.{rules}
 use Rattle.load_lines.proofs.asked.Goals as goal
 
 -- the answer of the search, for the name that stands in the text

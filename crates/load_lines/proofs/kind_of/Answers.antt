@@ -1,7 +1,6 @@
 -- `load_lines::kind_of` meets its contract.
 use mathlib.Core.Path.{sym, ap}
 use Rattle.load_lines.specs.Words.{kind_of}
-use borrow.Author.Rules.{rules}
 use Rattle.load_lines.proofs.kind_of.Goals as goal
 
 pub returns-in-Node : goal.returns-in-Node

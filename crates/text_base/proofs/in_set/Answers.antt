@@ -32,6 +32,6 @@ returns c =
     let l = c.args.low in
     let h = c.args.high in
     elim c.if-b-lt64.branch [
-    | then-b-lt64 w ↦ ap (λ v. bit v b) w.bits-is ∙ low_half l h b w.if-b-lt64.true c.if-b-gt127.false
-    | else-b-lt64 w ↦ ap (λ v. bit v b) w.bits-is ∙ high_half l h b w.if-b-lt64.false c.if-b-gt127.false
+      | then-b-lt64 w ↦ ap (λ v. bit v b) w.bits-is ∙ low_half l h b w.if-b-lt64.true c.if-b-gt127.false
+      | else-b-lt64 w ↦ ap (λ v. bit v b) w.bits-is ∙ high_half l h b w.if-b-lt64.false c.if-b-gt127.false
     ]

@@ -32,14 +32,14 @@ pub returns-then-minus-2 : goal.returns-then-minus-2
 returns-then-minus-2 c =
     c.negative.ensures
     ∙ elim c.if-minus.branch [
-    | then-minus w ↦ dashed _ _ c.byte_at-minus.ensures (eqb-true _ _ c.if-minus-2.true-raw) (c.parse_unsigned-u.ensures ∙ ap (unsigned_at _) w.digits-is)
-    | else-minus w ↦ absurd (omega arith)
+      | then-minus w ↦ dashed _ _ c.byte_at-minus.ensures (eqb-true _ _ c.if-minus-2.true-raw) (c.parse_unsigned-u.ensures ∙ ap (unsigned_at _) w.digits-is)
+      | else-minus w ↦ absurd (omega arith)
     ]
 
 pub returns-else-minus-2 : goal.returns-else-minus-2
 returns-else-minus-2 c =
     c.positive.ensures
     ∙ elim c.if-minus.branch [
-    | then-minus w ↦ absurd (omega arith)
-    | else-minus w ↦ bare _ _ c.byte_at-minus.ensures (eqb-false _ _ c.if-minus-2.false-raw) (c.parse_unsigned-u.ensures ∙ ap (unsigned_at _) w.digits-is)
+      | then-minus w ↦ absurd (omega arith)
+      | else-minus w ↦ bare _ _ c.byte_at-minus.ensures (eqb-false _ _ c.if-minus-2.false-raw) (c.parse_unsigned-u.ensures ∙ ap (unsigned_at _) w.digits-is)
     ]

@@ -24,8 +24,8 @@ returns-then-not-is_digit c = sym (at_other _ _ c.if-s-at.false (sym c.is_digit.
 pub loop-i-init : goal.loop-i-init
 loop-i-init c =
     let few : (c.if-s-at-le19.most ≤ length c.args.s.now) × (c.if-s-at-le19.most ≤ c.args.at + 19) = elim c.if-s-at-le19.branch [
-    | then-s-at-le19 w ↦ (omega arith, omega arith)
-    | else-s-at-le19 w ↦ (omega arith, omega arith)
+      | then-s-at-le19 w ↦ (omega arith, omega arith)
+      | else-s-at-le19 w ↦ (omega arith, omega arith)
     ] in
     record {
       answer = at_digit _ _ c.if-s-at.false (sym c.is_digit.ensures ∙ not-false _ c.if-not-is_digit.false-raw);

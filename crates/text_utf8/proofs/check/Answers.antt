@@ -29,11 +29,10 @@ pub loop-i-smaller : goal.loop-i-smaller
 loop-i-smaller c = omega (arith, within_slice c, c.if-w-eq0.false)
 
 pub loop-i-preserved : goal.loop-i-preserved
-loop-i-preserved c =
-    (
-      within_slice c,
-      c.loop-i.invariant.1 ∙ next c.args.s.now c.loop-i.i c.loop-i-test.true _ c.width_at-w.ensures c.if-w-eq0.false,
-    )
+loop-i-preserved c = (
+  within_slice c,
+  c.loop-i.invariant.1 ∙ next c.args.s.now c.loop-i.i c.loop-i-test.true _ c.width_at-w.ensures c.if-w-eq0.false,
+)
 
 pub returns : goal.returns
 unfolding scan

@@ -1,11 +1,8 @@
 -- `trail_find::count_offsets`: the rows so far and those of what is left are all.
-use mathlib.Core.Path.{◌≡◌}
-use mathlib.Core.Logic.{⊎_elim, inl, inr}
-use Prim.Native.Nat.{◌+◌, ◌*◌, ◌≤◌}
+use mathlib.Core.Logic.{inl, inr}
 use native.Mathlib.Omega.{arith}
-use lib.ListN.{length}
-use Rattle.trail_find.specs.Rows.{offsets_at}
 use Rattle.trail_find.proofs.Laws.{counted_on, counted_none}
+use Rattle.trail_find.proofs.count_offsets.Goals.{then-word-model, else-word-model}
 use Rattle.trail_find.proofs.count_offsets.Goals as goal
 
 pub loop-left-init : goal.loop-left-init
@@ -33,9 +30,9 @@ pub loop-left-preserved : goal.loop-left-preserved
 loop-left-preserved c =
     let l = c.loop-left in
     let a = c.args in (
-      counted_on a.s.now a.model l.i l.left l.n l.invariant.0 c.loop-left-test.true c.word.ensures (⊎_elim (λ x. inl (x.0.taken, x.1)) (λ x. inr (x.0.left, x.1)) c.if-word-model.branch),
+      counted_on a.s.now a.model l.i l.left l.n l.invariant.0 c.loop-left-test.true c.word.ensures (elim c.if-word-model.branch [ then-word-model x ↦ inl (x.if-word-model.true, x.n-is) | else-word-model x ↦ inr (x.if-word-model.false, x.n-is) ]),
       omega (arith, l.invariant.1),
-      ⊎_elim (λ x. omega (arith, l.invariant.2, x.1)) (λ x. omega (arith, l.invariant.2, x.1)) c.if-word-model.branch,
+      elim c.if-word-model.branch [ then-word-model x ↦ omega (arith, l.invariant.2, x.n-is) | else-word-model x ↦ omega (arith, l.invariant.2, x.n-is) ],
     )
 
 pub returns : goal.returns

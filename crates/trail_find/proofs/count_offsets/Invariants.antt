@@ -1,11 +1,8 @@
 -- `trail_find::count_offsets`: the rows so far and those of what is left are all.
 use mathlib.Core.Path.{◌≡◌}
-use mathlib.Core.Logic.{⊎_elim, inl, inr}
 use Prim.Native.Nat.{◌+◌, ◌*◌, ◌≤◌}
-use native.Mathlib.Omega.{arith}
 use lib.ListN.{length}
 use Rattle.trail_find.specs.Rows.{offsets_at}
-use Rattle.trail_find.proofs.Laws.{counted_on, counted_none}
 use Rattle.trail_find.proofs.count_offsets.Given as goal
 
 abbrev pub invariant-loop-left : goal.invariant-loop-left

@@ -1,11 +1,9 @@
 -- `trail_find::find_offset`: among the rows that are left, so many of the model before it.
-use mathlib.Core.Path.{◌≡◌, refl}
-use mathlib.Core.Logic.{⊎_elim, inl, inr}
-use Prim.Native.Nat.{◌+◌, ◌*◌, ◌≤◌}
+use mathlib.Core.Path.{refl}
+use mathlib.Core.Logic.{inl, inr}
 use native.Mathlib.Omega.{arith}
-use lib.ListN.{length}
-use Rattle.trail_find.specs.Rows.{offsets_at, nth_of}
 use Rattle.trail_find.proofs.Laws.{found_here, found_on, found_none}
+use Rattle.trail_find.proofs.find_offset.Goals.{then-word-model+else-before-eq0, else-word-model}
 use Rattle.trail_find.proofs.find_offset.Goals as goal
 
 pub loop-left-init : goal.loop-left-init
@@ -48,7 +46,7 @@ pub loop-left-preserved : goal.loop-left-preserved
 loop-left-preserved c =
     let l = c.loop-left in
     let a = c.args in (
-      found_on a.s.now a.model l.i l.left _ l.invariant.0 c.loop-left-test.true c.word.ensures (⊎_elim (λ x. inl (x.0.taken, x.1.left, x.2)) (λ x. inr (x.0.left, x.1)) c.if-word-model.branch),
+      found_on a.s.now a.model l.i l.left _ l.invariant.0 c.loop-left-test.true c.word.ensures (elim c.if-word-model.branch [ then-word-model+else-before-eq0 x ↦ inl (x.if-word-model.true, x.if-before-eq0.false, x.before-is) | else-word-model x ↦ inr (x.if-word-model.false, x.before-is) ]),
       omega (arith, l.invariant.1),
     )
 

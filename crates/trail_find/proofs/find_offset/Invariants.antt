@@ -1,11 +1,8 @@
 -- `trail_find::find_offset`: among the rows that are left, so many of the model before it.
-use mathlib.Core.Path.{◌≡◌, refl}
-use mathlib.Core.Logic.{⊎_elim, inl, inr}
+use mathlib.Core.Path.{◌≡◌}
 use Prim.Native.Nat.{◌+◌, ◌*◌, ◌≤◌}
-use native.Mathlib.Omega.{arith}
 use lib.ListN.{length}
 use Rattle.trail_find.specs.Rows.{offsets_at, nth_of}
-use Rattle.trail_find.proofs.Laws.{found_here, found_on, found_none}
 use Rattle.trail_find.proofs.find_offset.Given as goal
 
 abbrev pub invariant-loop-left : goal.invariant-loop-left

@@ -1,7 +1,6 @@
 -- `trail_rows::first_line`: by what stands there.
 use mathlib.Core.Path.{sym, ap, ◌∙◌}
 use Rattle.trail_rows.specs.Rows.{first_lines}
-use borrow.Author.Rules.{rules}
 use Rattle.trail_rows.proofs.first_line.Goals as goal
 
 pub returns-in-Next : goal.returns-in-Next

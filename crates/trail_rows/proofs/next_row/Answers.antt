@@ -1,7 +1,6 @@
 -- `trail_rows::next_row`: the survey of the tree, with the lines of its row.
 use mathlib.Core.Path.{sym, ◌∙◌}
 use Rattle.trail_rows.proofs.Laws.{row_next, row_last, row_broken}
-use borrow.Author.Rules.{rules}
 use Rattle.trail_rows.proofs.next_row.Goals as goal
 
 pub returns-in-Next : goal.returns-in-Next

@@ -1,6 +1,5 @@
 -- `trail_rows::one_line` meets its contract.
 use Rattle.trail_rows.proofs.Laws.{one_same, one_other}
-use borrow.Author.Rules.{rules}
 use Rattle.trail_rows.proofs.one_line.Goals as goal
 
 pub returns-then-same_index : goal.returns-then-same_index

@@ -1,10 +1,7 @@
 -- `trail_rows::put_rows`: the rows that are left, stored where the loop is, are all of them.
 use mathlib.Core.Path.{refl, sym, ◌∙◌}
-use Prim.Native.Nat.{◌-◌}
 use native.Mathlib.Omega.{arith}
-use lib.ListN.{length}
-use Rattle.trail_rows.proofs.Laws.{rows_next, rows_last, Storing, storing_more, stored_last, stored_none}
-use borrow.Author.Rules.{rules}
+use Rattle.trail_rows.proofs.Laws.{rows_next, rows_last, storing_more, stored_last, stored_none}
 use Rattle.trail_rows.proofs.put_rows.Goals as goal
 
 pub loop-lines-init : goal.loop-lines-init

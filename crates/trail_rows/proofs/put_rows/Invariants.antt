@@ -1,10 +1,7 @@
 -- `trail_rows::put_rows`: the rows that are left, stored where the loop is, are all of them.
-use mathlib.Core.Path.{refl, sym, ◌∙◌}
 use Prim.Native.Nat.{◌-◌}
-use native.Mathlib.Omega.{arith}
 use lib.ListN.{length}
-use Rattle.trail_rows.proofs.Laws.{rows_next, rows_last, Storing, storing_more, stored_last, stored_none}
-use borrow.Author.Rules.{rules}
+use Rattle.trail_rows.proofs.Laws.{Storing}
 use Rattle.trail_rows.proofs.put_rows.Given as goal
 
 abbrev pub invariant-loop-lines : goal.invariant-loop-lines

@@ -1,7 +1,6 @@
 -- `trail_rows::row_lines`: one line is looked at.
 use mathlib.Core.Path.{refl, sym, ◌∙◌}
 use Rattle.trail_rows.proofs.Laws.{lines_many, lines_one}
-use borrow.Author.Rules.{rules}
 use Rattle.trail_rows.proofs.row_lines.Goals as goal
 
 pub returns-then-lines-ne1 : goal.returns-then-lines-ne1

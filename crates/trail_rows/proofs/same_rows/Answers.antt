@@ -1,11 +1,8 @@
 -- `trail_rows::same_rows`: what is left to compare decides.
 use mathlib.Core.Path.{refl, sym, ◌∙◌}
-use Prim.Native.Nat.{◌-◌}
 use native.Mathlib.Omega.{arith}
-use lib.ListN.{length}
 use borrow.Author.Tests.{not-true, not-false}
-use Rattle.trail_rows.proofs.Laws.{rows_next, rows_last, Comparing, comparing_more, compared_other, compared_last, compared_none}
-use borrow.Author.Rules.{rules}
+use Rattle.trail_rows.proofs.Laws.{rows_next, rows_last, comparing_more, compared_other, compared_last, compared_none}
 use Rattle.trail_rows.proofs.same_rows.Goals as goal
 
 pub loop-lines-init : goal.loop-lines-init

@@ -1,11 +1,7 @@
 -- `trail_rows::same_rows`: what is left to compare decides.
-use mathlib.Core.Path.{refl, sym, ◌∙◌}
 use Prim.Native.Nat.{◌-◌}
-use native.Mathlib.Omega.{arith}
 use lib.ListN.{length}
-use borrow.Author.Tests.{not-true, not-false}
-use Rattle.trail_rows.proofs.Laws.{rows_next, rows_last, Comparing, comparing_more, compared_other, compared_last, compared_none}
-use borrow.Author.Rules.{rules}
+use Rattle.trail_rows.proofs.Laws.{Comparing}
 use Rattle.trail_rows.proofs.same_rows.Given as goal
 
 abbrev pub invariant-loop-lines : goal.invariant-loop-lines

@@ -24,18 +24,18 @@ loop-i-preserved c =
     let inv = c.loop-i.invariant in
     let l = c.loop-i-test.true in
     elim c.if-not-is_digit.branch [
-    | then-not-is_digit+else-not-is_word w ↦ record {
-      from = omega (arith, inv.from);
-      same = sym (stop_on _ _ _ l (sym w.is_word.ensures ∙ not-false _ w.if-not-is_word.false-raw)) ∙ inv.same;
-      digits = w.start-is ∙ past_other _ _ _ inv.from l (sym c.is_digit.ensures ∙ not-true _ w.if-not-is_digit.true-raw);
-    }
-    | else-not-is_digit w ↦
-      let y = sym c.is_digit.ensures ∙ not-false _ w.if-not-is_digit.false-raw in
-      record {
+      | then-not-is_digit+else-not-is_word w ↦ record {
         from = omega (arith, inv.from);
-        same = sym (stop_on _ _ _ l (in_word_lem _ y)) ∙ inv.same;
-        digits = w.start-is ∙ inv.digits ∙ past_digit _ _ _ inv.from l y;
+        same = sym (stop_on _ _ _ l (sym w.is_word.ensures ∙ not-false _ w.if-not-is_word.false-raw)) ∙ inv.same;
+        digits = w.start-is ∙ past_other _ _ _ inv.from l (sym c.is_digit.ensures ∙ not-true _ w.if-not-is_digit.true-raw);
       }
+      | else-not-is_digit w ↦
+          let y = sym c.is_digit.ensures ∙ not-false _ w.if-not-is_digit.false-raw in
+          record {
+            from = omega (arith, inv.from);
+            same = sym (stop_on _ _ _ l (in_word_lem _ y)) ∙ inv.same;
+            digits = w.start-is ∙ inv.digits ∙ past_digit _ _ _ inv.from l y;
+          }
     ]
 
 -- the word ends where the loop is left
@@ -50,6 +50,6 @@ returns c =
     c.some_pdf.ensures
     ∙ pdf _ _ _ _ c.loop-i.invariant
     (elim c.loop-i-test.branch [
-    | else-loop-i-test w ↦ stop_end _ _ _ w.loop-i-test.false
-    | then-loop-i-test+then-not-is_digit+then-not-is_word w ↦ stop_here _ _ _ w.loop-i-test.true (sym w.is_word.ensures ∙ not-true _ w.if-not-is_word.true-raw)
+      | else-loop-i-test w ↦ stop_end _ _ _ w.loop-i-test.false
+      | then-loop-i-test+then-not-is_digit+then-not-is_word w ↦ stop_here _ _ _ w.loop-i-test.true (sym w.is_word.ensures ∙ not-true _ w.if-not-is_word.true-raw)
     ])

@@ -1,7 +1,6 @@
 -- `tree_survey::survey_text`: each way out is an arm of `surveyOf`.
 use mathlib.Core.Path.{sym, ◌∙◌}
 use Rattle.tree_survey.proofs.Whole.{no_questions, no_trees, a_negative, counted}
-use borrow.Author.Rules.{rules}
 use Rattle.tree_survey.proofs.survey_text.Goals as goal
 
 pub returns-then-negative : goal.returns-then-negative

@@ -1,7 +1,6 @@
 -- `tree_survey::survey_tree`: each way out is a step of the tree.
 use mathlib.Core.Path.{sym, ◌∙◌}
 use Rattle.tree_survey.proofs.Counting.{followed_next, followed_end, followed_other, followed_none}
-use borrow.Author.Rules.{rules}
 use Rattle.tree_survey.proofs.survey_tree.Goals as goal
 
 pub returns-in-Next : goal.returns-in-Next

@@ -1,10 +1,7 @@
 -- `tree_survey::survey_trees`: what is counted, and what is still to be read, come to the same.
 use mathlib.Core.Path.{refl, sym, ◌∙◌}
-use Prim.Native.Nat.{◌-◌}
 use native.Mathlib.Omega.{arith}
-use lib.ListN.{length}
-use borrow.Author.Rules.{rules}
-use Rattle.tree_survey.proofs.Counting.{more_in, final_in, Surveying, surveyed_more, surveyed_end, surveyed_none}
+use Rattle.tree_survey.proofs.Counting.{more_in, final_in, surveyed_more, surveyed_end, surveyed_none}
 use Rattle.tree_survey.proofs.survey_trees.Goals as goal
 
 pub loop-negative-init : goal.loop-negative-init

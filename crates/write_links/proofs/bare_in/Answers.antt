@@ -2,7 +2,6 @@
 use Rattle.laws.proofs.Every.{not_first, then_second}
 use Rattle.write_links.proofs.Ways.{or_first, or_second}
 use Rattle.write_links.specs.Tests.{bare_in}
-use borrow.Author.Rules.{rules}
 use borrow.Author.Tests.{eq-eqb, ne_eqb}
 use Rattle.write_links.proofs.bare_in.Goals as goal
 

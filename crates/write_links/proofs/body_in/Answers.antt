@@ -1,6 +1,5 @@
 -- `write_links::body_in`: without lines, or with some.
 use Rattle.write_links.proofs.Ways.{body_bare, body_lines}
-use borrow.Author.Rules.{rules}
 use mathlib.Core.Path.{◌∙◌}
 use Rattle.write_links.proofs.body_in.Goals as goal
 

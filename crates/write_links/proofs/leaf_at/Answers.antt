@@ -3,7 +3,6 @@ use Prim.Native.Nat.{ℕ}
 use Rattle.laws.proofs.Every.{not_first, then_second}
 use Rattle.write_links.proofs.Ways.{is, is_not, is_below, not_below}
 use Rattle.write_links.specs.Tests.{leaf_at}
-use borrow.Author.Rules.{rules}
 use lib.Dec.{eqb}
 use mathlib.Core.Path.{ap}
 use Rattle.write_links.proofs.leaf_at.Goals as goal

@@ -1,6 +1,5 @@
 -- `write_links::leaf_in`: a leaf, and its number.
 use Rattle.write_links.proofs.Ways.{leaf_off, leaf_first, leaf_later}
-use borrow.Author.Rules.{rules}
 use borrow.Author.Tests.{not-true, not-false}
 use Rattle.write_links.proofs.leaf_in.Goals as goal
 

@@ -1,8 +1,5 @@
 -- `write_links::leaves_in`: all records from the lines up to k are leaves in order.
-use Prim.Native.Nat.{◌-◌, ◌≤◌}
-use Rattle.laws.proofs.Every.{Going, going_none, going_on, going_off, going_end}
-use Rattle.write_links.specs.Tests.{leaf_in}
-use borrow.Author.Rules.{rules}
+use Rattle.laws.proofs.Every.{going_none, going_on, going_off, going_end}
 use borrow.Author.Tests.{not-true, not-false}
 use mathlib.Core.Path.{sym, ◌∙◌}
 use native.Mathlib.Omega.{arith}

@@ -1,11 +1,7 @@
 -- `write_links::leaves_in`: all records from the lines up to k are leaves in order.
 use Prim.Native.Nat.{◌-◌, ◌≤◌}
-use Rattle.laws.proofs.Every.{Going, going_none, going_on, going_off, going_end}
+use Rattle.laws.proofs.Every.{Going}
 use Rattle.write_links.specs.Tests.{leaf_in}
-use borrow.Author.Rules.{rules}
-use borrow.Author.Tests.{not-true, not-false}
-use mathlib.Core.Path.{sym, ◌∙◌}
-use native.Mathlib.Omega.{arith}
 use Rattle.write_links.proofs.leaves_in.Given as goal
 
 abbrev pub invariant-loop-k : goal.invariant-loop-k

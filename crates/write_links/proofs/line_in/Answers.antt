@@ -1,6 +1,5 @@
 -- `write_links::line_in`: its kind, then where it goes.
 use Rattle.write_links.proofs.Ways.{line_other, line_yes, line_no}
-use borrow.Author.Rules.{rules}
 use borrow.Author.Tests.{not-true, not-false}
 use Rattle.write_links.proofs.line_in.Goals as goal
 

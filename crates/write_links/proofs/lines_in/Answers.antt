@@ -1,6 +1,5 @@
 -- `write_links::lines_in`: one test after the other.
 use Rattle.write_links.proofs.Ways.{lines_short, lines_like, lines_off, leaves_off, lines_counted}
-use borrow.Author.Rules.{rules}
 use borrow.Author.Tests.{not-true, not-false}
 use native.Mathlib.Omega.{arith}
 use Rattle.write_links.proofs.lines_in.Goals as goal

@@ -1,8 +1,5 @@
 -- `write_links::lines_stand`: all lines up to k stand.
-use Prim.Native.Nat.{◌-◌}
-use Rattle.laws.proofs.Every.{Passing, passing_none, passing_on, passing_off, passing_end}
-use Rattle.write_links.specs.Tests.{line_in}
-use borrow.Author.Rules.{rules}
+use Rattle.laws.proofs.Every.{passing_none, passing_on, passing_off, passing_end}
 use borrow.Author.Tests.{not-true, not-false}
 use mathlib.Core.Path.{sym, ◌∙◌}
 use Rattle.write_links.proofs.lines_stand.Goals as goal

@@ -1,10 +1,7 @@
 -- `write_links::lines_stand`: all lines up to k stand.
 use Prim.Native.Nat.{◌-◌}
-use Rattle.laws.proofs.Every.{Passing, passing_none, passing_on, passing_off, passing_end}
+use Rattle.laws.proofs.Every.{Passing}
 use Rattle.write_links.specs.Tests.{line_in}
-use borrow.Author.Rules.{rules}
-use borrow.Author.Tests.{not-true, not-false}
-use mathlib.Core.Path.{sym, ◌∙◌}
 use Rattle.write_links.proofs.lines_stand.Given as goal
 
 abbrev pub invariant-loop-k : goal.invariant-loop-k

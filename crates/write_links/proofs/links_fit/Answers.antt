@@ -2,7 +2,6 @@
 use Rattle.laws.proofs.Every.{not_first, then_second}
 use Rattle.table_rows.specs.Rows.{tree_rows}
 use Rattle.write_links.specs.Tests.{links_fit}
-use borrow.Author.Rules.{rules}
 use borrow.Author.Tests.{not-true, not-false, lt-ltb, le-ltb}
 use mathlib.Core.Path.{sym, ◌∙◌}
 use native.Mathlib.Omega.{arith}

@@ -1,6 +1,5 @@
 -- `write_links::ref_in`: past the records, a line, or a leaf.
 use Rattle.write_links.proofs.Ways.{ref_past, ref_line, ref_leaf}
-use borrow.Author.Rules.{rules}
 use Rattle.write_links.proofs.ref_in.Goals as goal
 
 pub returns-then-count-k : goal.returns-then-count-k

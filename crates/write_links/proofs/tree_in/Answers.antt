@@ -1,6 +1,5 @@
 -- `write_links::tree_in`: one test after the other.
 use Rattle.write_links.proofs.Ways.{tree_large, tree_apart, tree_short, tree_body}
-use borrow.Author.Rules.{rules}
 use native.Mathlib.Omega.{arith}
 use Rattle.write_links.proofs.tree_in.Goals as goal
 

@@ -1,6 +1,5 @@
 -- `write_links::unlike_refs`: more lines, or by its references.
 use Rattle.write_links.proofs.Ways.{unlike_more, unlike_one}
-use borrow.Author.Rules.{rules}
 use Rattle.write_links.proofs.unlike_refs.Goals as goal
 
 pub returns-then-lines-ne1 : goal.returns-then-lines-ne1

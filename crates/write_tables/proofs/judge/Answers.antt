@@ -1,6 +1,5 @@
 -- `write_tables::judge`: each way through.
 use Rattle.write_tables.proofs.Ways.{is_outside, is_odd, is_unread, is_fit}
-use borrow.Author.Rules.{rules}
 use borrow.Author.Tests.{not-true, not-false}
 use mathlib.Core.Path.{sym, ◌∙◌}
 use Rattle.write_tables.proofs.judge.Goals as goal

@@ -2,7 +2,6 @@
 use Rattle.write_tables.proofs.Ways.{measured}
 use Rattle.write_tables.specs.declared.Answer.TheVariants.{Done}
 use Rattle.write_tables.specs.declared.Judged.TheVariants.{Fits, Outside, OddByte, Unread}
-use borrow.Author.Rules.{rules}
 use mathlib.Core.Path.{refl, sym, ap, ◌∙◌}
 use Rattle.write_tables.proofs.measure.Goals as goal
 

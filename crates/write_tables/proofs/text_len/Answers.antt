@@ -1,6 +1,5 @@
 -- `write_tables::text_len`: the place behind it.
 use Rattle.write_tables.proofs.Ways.{long}
-use borrow.Author.Rules.{rules}
 use Rattle.write_tables.proofs.text_len.Goals as goal
 
 pub returns : goal.returns

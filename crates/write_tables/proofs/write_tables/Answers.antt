@@ -1,6 +1,5 @@
 -- `write_tables::write_tables`: each way through.
 use Rattle.write_tables.proofs.Ways.{way_outside, way_odd, way_unread, way_room, way_done}
-use borrow.Author.Rules.{rules}
 use mathlib.Core.Path.{sym, ◌∙◌}
 use native.Mathlib.Omega.{arith}
 use Rattle.write_tables.proofs.write_tables.Goals as goal

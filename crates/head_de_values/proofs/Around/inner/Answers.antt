@@ -1,5 +1,4 @@
 -- `head_de_values::Around::inner` meets its contract.
-use borrow.Author.Rules.{rules}
 use Rattle.head_de_values.proofs.Around.inner.Goals as goal
 
 pub returns-in-Line : goal.returns-in-Line
