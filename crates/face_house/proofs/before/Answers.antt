@@ -2,7 +2,6 @@
 use mathlib.Core.Path.{sym, ◌∙◌}
 use Rattle.load_bounds.specs.Bounds.{held_of}
 use Rattle.face_house.proofs.Laws.{before_held, before_by}
-use borrow.Author.Rules.{rules}
 use Rattle.face_house.proofs.before.Goals as goal
 
 pub returns-then-holding : goal.returns-then-holding

@@ -2,7 +2,6 @@
 use mathlib.Core.Path.{refl}
 use mathlib.Core.Logic.{inl, inr}
 use Rattle.face_house.specs.Answers.{HouseTells}
-use borrow.Author.Rules.{rules}
 use Rattle.face_house.proofs.house_said.Goals as goal
 
 pub returns-then-out-lt-HOUSE_OUT : goal.returns-then-out-lt-HOUSE_OUT

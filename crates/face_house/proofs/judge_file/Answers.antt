@@ -7,8 +7,6 @@ use Rattle.load_model.specs.Load.{lent}
 use Rattle.face_record.specs.declared.Said.{Said}
 use Rattle.face_trail.proofs.Above.{opened_long}
 use Rattle.face_house.proofs.Laws.{house_first, house_unopened, house-opened}
-use borrow.Author.Rules.{rules}
-use Rattle.face_house.proofs.judge_file.Goals.{After-bounds, After-bounds-theirs}
 use Rattle.face_house.proofs.judge_file.Goals as goal
 
 pub returns-then-number-ne0 : goal.returns-then-number-ne0

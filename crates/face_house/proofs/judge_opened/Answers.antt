@@ -3,7 +3,6 @@ use mathlib.Core.Path.{sym, ◌∙◌}
 use Rattle.load_model.specs.Load.{lent}
 use Rattle.load_bounds.specs.Bounds.{side_of, held_of}
 use Rattle.face_house.proofs.Laws.{opened_refused, few_types, opened-judged}
-use borrow.Author.Rules.{rules}
 use Rattle.face_house.proofs.judge_opened.Goals as goal
 
 pub put_bounds-requires : goal.put_bounds-requires

@@ -1,6 +1,5 @@
 -- `face_house::put_bounds`: four numbers, and the fifth.
 use Rattle.face_house.proofs.Laws.{bounds_put}
-use borrow.Author.Rules.{rules}
 use Rattle.face_house.proofs.put_bounds.Goals as goal
 
 pub returns : goal.returns

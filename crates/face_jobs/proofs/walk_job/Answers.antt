@@ -1,5 +1,4 @@
 -- `face_jobs::walk_job`: a start past the answers, or the walk from it.
-use borrow.Author.Rules.{rules}
 use Rattle.face_jobs.proofs.Laws.{job_past, job_walked}
 use Rattle.face_jobs.proofs.walk_job.Goals as goal
 

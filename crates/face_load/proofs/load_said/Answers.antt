@@ -4,7 +4,6 @@ use Rattle.load_model.specs.Load.{lent}
 use Rattle.load_bounds.specs.Bounds.{side_of, held_of}
 use Rattle.face_record.proofs.Laws.{judged_room}
 use Rattle.face_load.proofs.Laws.{load_fit, load_unfit}
-use borrow.Author.Rules.{rules}
 use Rattle.face_load.proofs.load_said.Goals as goal
 
 pub load-loaded-requires : goal.load-loaded-requires

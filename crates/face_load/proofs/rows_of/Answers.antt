@@ -1,7 +1,6 @@
 -- `face_load::rows_of`: by how the load ends.
 use mathlib.Core.Path.{sym, ap, ◌∙◌}
 use Rattle.face_model.specs.Answers.{no_rows, rows_by}
-use borrow.Author.Rules.{rules}
 use Rattle.face_load.proofs.rows_of.Goals as goal
 
 pub returns-in-Done : goal.returns-in-Done

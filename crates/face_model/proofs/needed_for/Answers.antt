@@ -1,6 +1,5 @@
 -- `face_model::needed_for`: field by field.
 use mathlib.Core.Path.{refl}
-use borrow.Author.Rules.{rules}
 use Rattle.face_model.proofs.needed_for.Goals as goal
 
 pub returns : goal.returns

@@ -4,7 +4,6 @@ use native.Mathlib.Omega.{arith}
 use Rattle.face_record.proofs.Laws.{judged_room}
 use Rattle.face_model.specs.Answers.{not_needed}
 use Rattle.face_model.proofs.Laws.{values_small, needs_model, needs_refused, needs_unfit}
-use borrow.Author.Rules.{rules}
 use Rattle.face_model.proofs.needs_said.Goals as goal
 
 pub needs-requires : goal.needs-requires

@@ -1,7 +1,6 @@
 -- `face_model::walk_said`: by how the walk ends.
 use mathlib.Core.Path.{sym, ap, ◌∙◌}
 use Rattle.face_model.specs.Answers.{ended_by}
-use borrow.Author.Rules.{rules}
 use Rattle.face_model.proofs.walk_said.Goals as goal
 
 pub returns-in-Pdf : goal.returns-in-Pdf

@@ -1,6 +1,5 @@
 -- `face_model::which_of`: by zero and parity.
 use Rattle.face_model.proofs.Laws.{which_duration, which_stream, which_gv}
-use borrow.Author.Rules.{rules}
 use Rattle.face_model.proofs.which_of.Goals as goal
 
 pub returns-then-n-eq0 : goal.returns-then-n-eq0

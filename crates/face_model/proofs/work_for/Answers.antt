@@ -1,6 +1,5 @@
 -- `face_model::work_for`: by whether the product fits.
 use Rattle.face_model.proofs.Laws.{work_most, work_all}
-use borrow.Author.Rules.{rules}
 use Rattle.face_model.proofs.work_for.Goals as goal
 
 pub returns-then-lines-gt3074457345618258602 : goal.returns-then-lines-gt3074457345618258602

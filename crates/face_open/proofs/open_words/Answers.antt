@@ -1,6 +1,5 @@
 -- `face_open::open_words`: a file that is refused, too few words, or the record copied.
 use mathlib.Core.Path.{sym, ◌∙◌}
-use borrow.Author.Rules.{rules}
 use Rattle.face_open.proofs.Laws.{says_refused, says_few, says_done}
 use Rattle.face_open.proofs.open_words.Goals.{After-open}
 use Rattle.face_open.proofs.open_words.Goals as goal

@@ -1,6 +1,5 @@
 -- `face_open::refused`: number and place.
 use mathlib.Core.Path.{refl}
-use borrow.Author.Rules.{rules}
 use Rattle.face_open.proofs.refused.Goals as goal
 
 pub returns : goal.returns

@@ -1,6 +1,5 @@
 -- `face_put::keep_rows`: the rows, or as they were.
 use Rattle.face_put.proofs.Laws.{keep_done, keep_not}
-use borrow.Author.Rules.{rules}
 use Rattle.face_put.proofs.keep_rows.Goals as goal
 
 pub returns-then-rows-eq0 : goal.returns-then-rows-eq0

@@ -1,7 +1,6 @@
 -- `face_put::put3`: number by number.
 use native.Mathlib.Omega.{arith}
 use lib.ListN.{length-set}
-use borrow.Author.Rules.{rules}
 use Rattle.face_put.proofs.put3.Goals as goal
 
 pub bounds-out-1 : goal.bounds-out-1

@@ -1,6 +1,5 @@
 -- `face_put::put_needed`: part by part.
 use Rattle.face_put.proofs.Laws.{needed-written}
-use borrow.Author.Rules.{rules}
 use Rattle.face_put.proofs.put_needed.Goals as goal
 
 pub returns : goal.returns

@@ -1,6 +1,5 @@
 -- `face_put::put_rows`: part by part.
 use Rattle.face_put.proofs.Laws.{rows_written}
-use borrow.Author.Rules.{rules}
 use Rattle.face_put.proofs.put_rows.Goals as goal
 
 pub returns : goal.returns

@@ -2,7 +2,6 @@
 use mathlib.Core.Path.{◌∙◌}
 use borrow.Author.Tests.{not-true, not-false}
 use Rattle.face_record.proofs.Laws.{in_none, in_past, in_long, in_file}
-use borrow.Author.Rules.{rules}
 use Rattle.face_record.proofs.comment_in.Goals as goal
 
 pub returns-then-not-there : goal.returns-then-not-there

@@ -2,7 +2,6 @@
 use mathlib.Core.Path.{sym, ◌∙◌}
 use native.Mathlib.Omega.{arith}
 use Rattle.face_record.proofs.Laws.{judged_room, comment_fit, comment_unfit}
-use borrow.Author.Rules.{rules}
 use Rattle.face_record.proofs.comment_said.Goals as goal
 
 pub bounds-words-94 : goal.bounds-words-94

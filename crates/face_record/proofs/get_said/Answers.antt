@@ -2,7 +2,6 @@
 use mathlib.Core.Path.{sym, ◌∙◌}
 use native.Mathlib.Omega.{arith}
 use Rattle.face_record.proofs.Laws.{judged_room, get_there, get_past, get-unfit}
-use borrow.Author.Rules.{rules}
 use Rattle.face_record.proofs.get_said.Goals as goal
 
 pub bounds-words-field : goal.bounds-words-field

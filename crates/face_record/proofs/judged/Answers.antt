@@ -1,7 +1,6 @@
 -- `face_record::judged`: by length and flags.
 use mathlib.Core.Path.{sym, ◌∙◌}
 use Rattle.face_record.proofs.Laws.{judged_few, judged_fit, judged_bad}
-use borrow.Author.Rules.{rules}
 use Rattle.face_record.proofs.judged.Goals as goal
 
 pub returns-then-words-lt-WORDS : goal.returns-then-words-lt-WORDS

@@ -2,7 +2,6 @@
 use mathlib.Core.Path.{sym, ◌∙◌}
 use native.Mathlib.Omega.{arith}
 use Rattle.face_record.proofs.Laws.{judged_room, pair_there, pair_past, pair_unfit}
-use borrow.Author.Rules.{rules}
 use Rattle.face_record.proofs.pair_said.Goals as goal
 
 pub bounds-words-at : goal.bounds-words-at

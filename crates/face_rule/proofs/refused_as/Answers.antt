@@ -1,7 +1,6 @@
 -- `face_rule::refused_as`: number, place and line of a refusal.
 use mathlib.Core.Path.{◌∙◌}
 use Rattle.face_rule.specs.Answers.{house}
-use borrow.Author.Rules.{rules}
 use Rattle.face_rule.proofs.refused_as.Goals as goal
 
 pub returns : goal.returns

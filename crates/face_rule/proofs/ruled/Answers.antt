@@ -3,7 +3,6 @@ use mathlib.Core.Path.{ap, ◌∙◌}
 use Prim.Native.Nat.{ℕ}
 use Rattle.face_rule.specs.Answers.{ruled_by}
 use Rattle.face_rule.proofs.Laws.{ruled_type, ruled_model}
-use borrow.Author.Rules.{rules}
 use Rattle.face_rule.proofs.ruled.Goals as goal
 
 pub returns-then-number-eq0 : goal.returns-then-number-eq0

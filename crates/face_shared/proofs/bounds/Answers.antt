@@ -2,7 +2,6 @@
 use mathlib.Core.Path.{refl}
 use lib.ListN.{get_or}
 use Rattle.face_shared.proofs.Laws.{bounds_are}
-use borrow.Author.Rules.{rules}
 use Rattle.face_shared.proofs.bounds.Goals as goal
 
 pub returns : goal.returns

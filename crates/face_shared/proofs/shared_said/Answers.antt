@@ -5,7 +5,6 @@ use Rattle.written.specs.Sharing.{holds}
 use Rattle.load_model.specs.Load.{lent}
 use Rattle.face_shared.specs.Answers.{held_at}
 use Rattle.face_shared.proofs.Laws.{shared_held, shared_overlap, shared_loads, judged-standing}
-use borrow.Author.Rules.{rules}
 use Rattle.face_shared.proofs.shared_said.Goals as goal
 
 pub returns-then-holding : goal.returns-then-holding

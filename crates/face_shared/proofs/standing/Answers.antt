@@ -1,6 +1,5 @@
 -- `face_shared::standing`: the side, then the bounds.
 use Rattle.face_shared.proofs.Laws.{standing_past, standing_in}
-use borrow.Author.Rules.{rules}
 use Rattle.face_shared.proofs.standing.Goals as goal
 
 pub returns-then-side-gt-TOP : goal.returns-then-side-gt-TOP

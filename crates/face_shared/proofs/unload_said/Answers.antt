@@ -1,7 +1,6 @@
 -- `face_shared::unload_said`: the side, then the unload.
 use Rattle.face_shared.specs.Answers.{held_at}
 use Rattle.face_shared.proofs.Laws.{unload_past, unload_side}
-use borrow.Author.Rules.{rules}
 use Rattle.face_shared.proofs.unload_said.Goals as goal
 
 pub returns-then-side-gt-TOP : goal.returns-then-side-gt-TOP

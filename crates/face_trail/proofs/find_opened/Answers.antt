@@ -5,7 +5,6 @@ use borrow.Author.Tests.{not-true, not-false}
 use Rattle.head_words.specs.Words.{header_at}
 use Rattle.face_trail.specs.Answers.{found}
 use Rattle.face_trail.proofs.Laws.{data_short, found_short, found-sum, found_by_lem}
-use borrow.Author.Rules.{rules}
 use Rattle.face_trail.proofs.find_opened.Goals as goal
 
 pub returns-then-data_of-lt-LAST : goal.returns-then-data_of-lt-LAST

@@ -4,7 +4,6 @@ use native.Mathlib.Omega.{arith}
 use Rattle.head_words.specs.Words.{header_at}
 use Rattle.trail_voice.proofs.Laws.{counted}
 use Rattle.face_trail.proofs.Laws.{rows_size, count_other, begin_other, rows_other, rows_same}
-use borrow.Author.Rules.{rules}
 use Rattle.face_trail.proofs.find_rows.Goals as goal
 
 pub returns-then-word-n : goal.returns-then-word-n

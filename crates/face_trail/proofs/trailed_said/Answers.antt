@@ -6,7 +6,6 @@ use lib.ListN.{length}
 use Rattle.face_record.specs.declared.Said.{Said}
 use Rattle.face_trail.proofs.Above.{opened_long}
 use Rattle.face_trail.proofs.Laws.{trailed_unopened, trailed_opened}
-use borrow.Author.Rules.{rules}
 use Rattle.face_trail.proofs.trailed_said.Goals as goal
 
 pub returns-then-said-ne0 : goal.returns-then-said-ne0

@@ -7,7 +7,6 @@ use lib.ListN.{length}
 use Rattle.face_record.specs.declared.Said.{Said}
 use Rattle.face_trail.proofs.Above.{opened_long}
 use Rattle.face_trail.proofs.Laws.{trailer_unopened, trailer_opened}
-use borrow.Author.Rules.{rules}
 use Rattle.face_trail.proofs.trailer_said.Goals as goal
 
 pub returns-then-said-ne0 : goal.returns-then-said-ne0

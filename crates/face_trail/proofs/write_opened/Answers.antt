@@ -5,7 +5,6 @@ use Rattle.head_words.specs.Words.{header_at}
 use Rattle.trail_voice.proofs.Laws.{counted}
 use Rattle.face_trail.specs.Answers.{wrote}
 use Rattle.face_trail.proofs.Laws.{small, rows_size, fits, fits_after, written_refused, written_none, written_done}
-use borrow.Author.Rules.{rules}
 use Rattle.face_trail.proofs.write_opened.Goals as goal
 
 pub overflow_mul-bytes : goal.overflow_mul-bytes

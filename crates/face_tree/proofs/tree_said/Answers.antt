@@ -6,7 +6,6 @@ use Rattle.load_model.specs.Load.{lent}
 use Rattle.face_shared.specs.Answers.{held_at}
 use Rattle.face_shared.proofs.Laws.{judged-standing}
 use Rattle.face_tree.proofs.Laws.{tree_held, tree_overlap, tree_loads}
-use borrow.Author.Rules.{rules}
 use Rattle.face_tree.proofs.tree_said.Goals as goal
 
 pub returns-then-holding : goal.returns-then-holding

@@ -1,6 +1,5 @@
 -- `face_write::length_said`: the answer in numbers.
 use Rattle.face_write.specs.Answers.{wrote_by, length_said}
-use borrow.Author.Rules.{rules}
 use mathlib.Core.Path.{ap, ◌∙◌}
 use Rattle.face_write.proofs.length_said.Goals as goal
 

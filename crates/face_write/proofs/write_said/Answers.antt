@@ -1,6 +1,5 @@
 -- `face_write::write_said`: the answer in numbers.
 use Rattle.face_write.specs.Answers.{wrote_by, write_said, write_left}
-use borrow.Author.Rules.{rules}
 use mathlib.Core.Path.{ap, ◌∙◌}
 use Rattle.face_write.proofs.write_said.Goals as goal
 

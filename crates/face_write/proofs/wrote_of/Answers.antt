@@ -1,6 +1,5 @@
 -- `face_write::wrote_of`: each case by its number.
 use Rattle.face_write.specs.Answers.{wrote_by}
-use borrow.Author.Rules.{rules}
 use mathlib.Core.Path.{sym, ap}
 use Rattle.face_write.proofs.wrote_of.Goals as goal
 

@@ -9,7 +9,6 @@ use Prim.Native.Nat.{◌+◌, ◌<◌}
 use borrow.Author.Tests.{ne_eqb}
 use native.Mathlib.Omega.{arith}
 use mathlib.Core.Path.{sym, ap, ◌∙◌}
-use borrow.Author.Rules.{rules}
 use Rattle.head_brackets.proofs.row_at.Goals.{In-Bracketed}
 use Rattle.head_brackets.proofs.row_at.Goals as goal
 

@@ -7,13 +7,12 @@ use Rattle.head_de.specs.Readings.{Reading}
 use Rattle.head_de_values.specs.Values.{value_in, read_at}
 use Rattle.head_fields.proofs.Fields.{kind_of_key}
 use Rattle.head_fields.specs.Fields.{fields_of, field_index, kind_at}
-use Rattle.written.specs.HeaderText.{Kind, Value, Field, kind_of}
+use Rattle.written.specs.HeaderText.{Kind, Value, kind_of}
 use Rattle.head_lines.proofs.Lines.{made, line_twice, line_read, line_wrong}
 use Rattle.head_lines.specs.Lines.{stood_at}
 use Rattle.head_brackets.specs.Rows.{row_line_at, field_name}
 use mathlib.Core.Path.{◌≡◌, refl, sym, ap, ap₂, ◌∙◌}
-use borrow.Author.Rules.{rules}
-use Rattle.head_brackets.proofs.row_line.Goals.{After-field_of-field, After-read-value, Else-stood}
+use Rattle.head_brackets.proofs.row_line.Goals.{After-read-value, Else-stood}
 use Rattle.head_brackets.proofs.row_line.Goals as goal
 
 -- its value

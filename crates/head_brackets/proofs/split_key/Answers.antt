@@ -9,7 +9,6 @@ use Prim.Native.Nat.{◌-◌}
 use borrow.Author.Tests.{ne_eqb, le-leb, lt-leb}
 use native.Mathlib.Omega.{arith}
 use mathlib.Core.Path.{sym, ◌∙◌}
-use borrow.Author.Rules.{rules}
 use Rattle.head_brackets.proofs.split_key.Goals as goal
 
 pub returns-then-n-eq0 : goal.returns-then-n-eq0

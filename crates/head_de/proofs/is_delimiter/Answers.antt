@@ -3,7 +3,6 @@ use Rattle.written.specs.Bytes.{one_of}
 use borrow.Author.Tests.{eq-eqb, ne_eqb}
 use mathlib.Core.Bool.{Bool, true, false, ◌||◌}
 use mathlib.Core.Path.{◌≡◌, refl}
-use borrow.Author.Rules.{rules}
 use Rattle.head_de.proofs.is_delimiter.Goals as goal
 
 -- a test with nothing to add

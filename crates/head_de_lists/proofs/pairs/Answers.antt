@@ -4,7 +4,6 @@ use Rattle.head_de_lists.specs.declared.Outcome.{Outcome}
 use Rattle.head_de_lists.specs.declared.Ranges.{Ranges}
 use Rattle.head_de_lists.specs.Lists.{list_at}
 use mathlib.Core.Path.{sym, ap, ◌∙◌}
-use borrow.Author.Rules.{rules}
 use Rattle.head_de_lists.proofs.pairs.Goals as goal
 
 abbrev made : Outcome → Ranges → PairList

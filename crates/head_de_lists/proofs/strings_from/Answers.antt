@@ -1,13 +1,11 @@
 -- `head_de_lists::strings_from` meets its contract. The invariant: what is left gives the answer.
-use borrow.Author.Rules.{rules}
 use Rattle.head_de_lists.specs.declared.StringList.{StringList}
 use Rattle.head_de_lists.specs.declared.Outcome.{Outcome}
 use Rattle.written.specs.Bytes.{Span}
-use mathlib.Core.List.{List, [], ◌∷◌, ◌++◌}
+use mathlib.Core.List.{[], ◌∷◌, ◌++◌}
 use Prim.Native.Nat.{ℕ, ◌-◌, ◌<◌}
 use lib.ListN.{length}
 use Rattle.head_de_lists.specs.declared.Spans.{Spans}
-use Rattle.head_de.specs.declared.Cursor.{Cursor}
 use Rattle.head_de.proofs.Moves.{read_moves, text_moves}
 use Rattle.head_de.specs.Readings.{read, of_text}
 use Rattle.head_de.specs.Values.{delimiters_of, text_at}

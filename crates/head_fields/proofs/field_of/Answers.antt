@@ -1,6 +1,5 @@
 -- `head_fields::field_of`: each text of names is that of its table.
 use mathlib.Core.Path.{refl, ◌∙◌}
-use borrow.Author.Rules.{rules}
 use Rattle.written.specs.Bytes.{bytes}
 use Rattle.written.specs.Record.{global_fields, stream_fields, stream_group, position_fields, position_group}
 use Rattle.head_fields.specs.Fields.{field_index}

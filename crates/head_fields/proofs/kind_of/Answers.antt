@@ -1,7 +1,6 @@
 -- `head_fields::kind_of` meets its contract.
 use Rattle.written.specs.Record.{stream_fields}
 use Rattle.head_fields.specs.Fields.{kind_at}
-use borrow.Author.Rules.{rules}
 use Rattle.head_fields.proofs.kind_of.Goals as goal
 
 pub returns-in-Global : goal.returns-in-Global

@@ -1,7 +1,5 @@
 -- `head_fields::missing` meets its contract.
-use borrow.Author.Rules.{rules}
 use Rattle.head_fields.proofs.Fields.{missing_on, missing_here}
-use Prim.Native.Nat.{◌≤◌}
 use Rattle.head_fields.specs.Fields.{any_missing}
 use borrow.Author.Tests.{not-true, not-false}
 use native.Mathlib.Omega.{arith}

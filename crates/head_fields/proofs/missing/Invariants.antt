@@ -1,11 +1,7 @@
 -- `head_fields::missing` meets its contract.
-use borrow.Author.Rules.{rules}
-use Rattle.head_fields.proofs.Fields.{missing_on, missing_here}
 use Prim.Native.Nat.{◌≤◌}
 use Rattle.head_fields.specs.Fields.{any_missing}
-use borrow.Author.Tests.{not-true, not-false}
-use native.Mathlib.Omega.{arith}
-use mathlib.Core.Path.{◌≡◌, refl, sym, ◌∙◌}
+use mathlib.Core.Path.{◌≡◌}
 use Rattle.head_fields.proofs.missing.Given as goal
 
 abbrev pub invariant-loop-k : goal.invariant-loop-k

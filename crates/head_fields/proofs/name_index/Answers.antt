@@ -1,10 +1,5 @@
 -- `head_fields::name_index`: the names passed and the number of the key among those left give the answer in each turn.
-use mathlib.Core.Path.{sym, ◌∙◌}
-use mathlib.Core.Logic.{⊎_elim}
-use Prim.Native.Nat.{◌-◌}
-use borrow.Author.Rules.{rules}
-use lib.ListN.{length}
-use Rattle.head_fields.proofs.Listed.{more_same, more_differs, more_past, Seeking, seeking_none, seeking_here, seeking_next, seeking_on, seeking_end}
+use Rattle.head_fields.proofs.Listed.{seeking_none, seeking_here, seeking_end}
 use Rattle.head_fields.proofs.name_index.Goals as goal
 
 pub loop-i-init : goal.loop-i-init

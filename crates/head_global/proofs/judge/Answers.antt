@@ -1,6 +1,5 @@
 -- `head_global::judge` meets its contract.
 use mathlib.Core.Path.{sym, ◌∙◌}
-use borrow.Author.Rules.{rules}
 use borrow.Author.Tests.{lt-ltb, le-ltb}
 use Rattle.head_global.specs.Global.{judged_in}
 use Rattle.head_global.proofs.judge.Goals as goal

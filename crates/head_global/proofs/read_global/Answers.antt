@@ -2,7 +2,7 @@
 --
 use mathlib.Core.Path.{◌≡◌, sym, ap, ◌∙◌}
 use mathlib.Core.List.{List, [], ◌∷◌, ◌++◌}
-use Prim.Native.Nat.{ℕ, ◌-◌}
+use Prim.Native.Nat.{ℕ}
 use native.Mathlib.Omega.{arith}
 use borrow.Author.Rules.{rules}
 use lib.ListN.{length}
@@ -16,10 +16,10 @@ use Rattle.head_words.proofs.Items.{laid_long}
 use Rattle.head_de_lists.specs.declared.Outcome.TheVariants as outcome
 use Rattle.head_lines.specs.Lines.{end, wrong, line_at, Lines, kept, unseen}
 use Rattle.head_lines.specs.declared.Line.{Line}
-use Rattle.head_lines.proofs.Going.{Going, going_first, end_of, wrong_of, lines_end, lines_wrong, read_end, read_wrong, Turned, turned, kept_more}
+use Rattle.head_lines.proofs.Going.{going_first, end_of, wrong_of, lines_end, lines_wrong, read_end, read_wrong, turned, kept_more}
 use Rattle.head_global.specs.Global.{stored_in, judged_in, with_line, global_in}
 use Rattle.head_global.proofs.Stored.{stored_line, stored_words, empty_words, judged_words}
-use Rattle.head_global.proofs.read_global.Goals.{After-slice_known-1, After-store, At-loop-next, In-End, In-Read, In-Refused}
+use Rattle.head_global.proofs.read_global.Goals.{After-slice_known-1, After-store, At-loop-next, In-End, In-Refused}
 use Rattle.head_global.proofs.read_global.Goals as goal
 
 -- the words stay as many

@@ -1,12 +1,7 @@
 -- `head_group_words::judge` meets its contract: the counts from k on pass no limit.
-use mathlib.Core.Path.{◌≡◌, refl, ◌∙◌}
-use Prim.Native.Nat.{◌-◌, ◌*◌, ◌≤◌}
-use native.Mathlib.Nat.{mul-le-mul_left}
-use native.Mathlib.Omega.{arith}
-use borrow.Author.Rules.{rules}
-use borrow.Author.Tests.{lt-ltb, le-ltb}
-use Rattle.head_group_words.specs.Groups.{many_at, judged_in}
-use Rattle.head_group_words.proofs.Limits.{many_here, many_on}
+use mathlib.Core.Path.{◌≡◌}
+use Prim.Native.Nat.{◌≤◌}
+use Rattle.head_group_words.specs.Groups.{many_at}
 use Rattle.head_group_words.proofs.judge.Given as goal
 
 abbrev pub invariant-loop-k : goal.invariant-loop-k

@@ -1,15 +1,11 @@
 -- `head_group_words::known` meets its contract: the names from k on give the answer.
 use mathlib.Core.Path.{◌≡◌, sym, ◌∙◌}
-use mathlib.Core.Logic.{⊎_elim}
 use Prim.Native.Nat.{◌+◌, ◌-◌, ◌*◌, ◌≤◌}
 use native.Mathlib.Nat.{mul-le-mul_left}
 use native.Mathlib.Omega.{arith}
-use borrow.Author.Rules.{rules}
 use lib.ListN.{length}
-use Rattle.head_brackets.specs.Rows.{known_from, known_in}
-use Rattle.text_parts.specs.Parts.{bytes_of}
+use Rattle.head_brackets.specs.Rows.{known_in}
 use Rattle.head_brackets.proofs.Rows.{known_on, known_here, known_past, known_end}
-use Rattle.head_group_words.specs.Groups.{names_at}
 use Rattle.head_group_words.proofs.Limits.{same_at}
 use Rattle.head_group_words.proofs.known.Goals.{Then-k-lt8, then-k-lt8+else-same_part, else-k-lt8}
 use Rattle.head_group_words.proofs.known.Goals as goal

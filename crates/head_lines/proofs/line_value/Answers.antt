@@ -12,7 +12,6 @@ use Rattle.head_lines.specs.Lines.{line_value_at, ended_of}
 use borrow.Author.Tests.{ne_eqb}
 use native.Mathlib.Omega.{arith}
 use mathlib.Core.Path.{◌≡◌, sym, ap, ◌∙◌}
-use borrow.Author.Rules.{rules}
 use Rattle.head_lines.proofs.line_value.Goals.{After-read-v}
 use Rattle.head_lines.proofs.line_value.Goals as goal
 

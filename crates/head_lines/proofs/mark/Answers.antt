@@ -1,7 +1,6 @@
 -- `head_lines::mark` meets its contract.
 use Rattle.head_lines.specs.Lines.{marked}
 use borrow.Author.Tests.{lt-ltb, le-ltb}
-use borrow.Author.Rules.{rules}
 use Rattle.head_lines.proofs.mark.Goals as goal
 
 pub returns-then-field-n : goal.returns-then-field-n

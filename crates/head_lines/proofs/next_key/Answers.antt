@@ -2,7 +2,6 @@
 use Rattle.head_lines.specs.Lines.{key_at}
 use borrow.Author.Tests.{ne_eqb}
 use mathlib.Core.Path.{sym, ◌∙◌}
-use borrow.Author.Rules.{rules}
 use Rattle.head_lines.proofs.next_key.Goals as goal
 
 pub returns-then-byte_at-eq256 : goal.returns-then-byte_at-eq256

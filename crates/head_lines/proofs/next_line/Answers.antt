@@ -1,16 +1,13 @@
 -- `head_lines::next_line` meets its contract.
-use Prim.Native.Nat.{ℕ}
 use mathlib.Core.Bool.{false}
-use mathlib.Core.List.{List}
 use Rattle.head_de_values.specs.Values.{value_in}
 use Rattle.head_fields.proofs.Fields.{kind_of_key}
 use Rattle.head_fields.specs.Fields.{fields_of, field_index, kind_at}
-use Rattle.written.specs.HeaderText.{Kind, Field, kind_of}
+use Rattle.written.specs.HeaderText.{Kind, kind_of}
 use Rattle.written.specs.Bytes.{part}
 use Rattle.head_lines.proofs.Lines.{made, line_twice, line_read, line_wrong}
 use Rattle.head_lines.specs.Lines.{line_at, line_of, line_in, keyed_at, stood_at, line_value_at}
 use mathlib.Core.Path.{◌≡◌, refl, sym, ap, ap₂, ◌∙◌}
-use borrow.Author.Rules.{rules}
 use Rattle.head_lines.proofs.next_line.Goals.{After-field_of-field, After-line_value-value, Else-stood}
 use Rattle.head_lines.proofs.next_line.Goals as goal
 

@@ -1,7 +1,6 @@
 -- `head_lines::stood` meets its contract.
 use Rattle.head_lines.specs.Lines.{stood_at}
 use borrow.Author.Tests.{lt-ltb, le-ltb}
-use borrow.Author.Rules.{rules}
 use Rattle.head_lines.proofs.stood.Goals as goal
 
 pub returns-then-field-lt10 : goal.returns-then-field-lt10

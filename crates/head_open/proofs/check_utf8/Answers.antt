@@ -5,7 +5,6 @@ use Rattle.text_utf8.specs.Check.{check_of}
 use Rattle.head_open.specs.Open.{utf8_of}
 use native.Mathlib.Omega.{arith}
 use mathlib.Core.Path.{sym, ap, ◌∙◌}
-use borrow.Author.Rules.{rules}
 use Rattle.head_open.proofs.check_utf8.Goals as goal
 
 pub overflow_add-result : goal.overflow_add-result

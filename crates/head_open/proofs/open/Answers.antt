@@ -1,6 +1,5 @@
 -- `head_open::open` meets its contract.
 use mathlib.Core.Path.{refl, sym, ◌∙◌}
-use borrow.Author.Rules.{rules}
 use borrow.Author.Tests.{lt-ltb, le-ltb}
 use Rattle.head_open.specs.Open.{refused_with, open_of}
 use Rattle.head_open.specs.Left.{open_left}

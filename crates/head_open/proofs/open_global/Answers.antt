@@ -1,6 +1,5 @@
 -- `head_open::open_global` meets its contract.
 use mathlib.Core.Path.{refl, sym, ◌∙◌}
-use borrow.Author.Rules.{rules}
 use Rattle.head_open.specs.Open.{global_of}
 use Rattle.head_open.specs.Left.{global_left}
 use Rattle.head_open.proofs.open_global.Goals as goal

@@ -1,7 +1,6 @@
 -- `head_open::open_parts` meets its contract: each section finds its words still 0.
 use mathlib.Core.Path.{refl, sym, ap, ◌∙◌}
 use native.Mathlib.Omega.{arith}
-use borrow.Author.Rules.{rules}
 use lib.Seq.{sets}
 use Rattle.head_words.specs.Words.{span_words}
 use Rattle.head_open.specs.Open.{refused_with, parts_of}

@@ -1,7 +1,6 @@
 -- `head_open::open_positions` meets its contract.
 use mathlib.Core.Path.{refl, sym, ◌∙◌}
 use native.Mathlib.Omega.{arith}
-use borrow.Author.Rules.{rules}
 use Rattle.head_open.specs.Open.{positions_of, no_positions_for}
 use Rattle.head_open.specs.Left.{positions_left}
 use Rattle.head_open.proofs.Left.{position_verdict, zeros_durations}

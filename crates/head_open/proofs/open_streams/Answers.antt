@@ -1,6 +1,5 @@
 -- `head_open::open_streams` meets its contract.
 use mathlib.Core.Path.{refl, sym, ◌∙◌}
-use borrow.Author.Rules.{rules}
 use Rattle.head_open.specs.Open.{streams_of}
 use Rattle.head_open.specs.Left.{streams_left}
 use Rattle.head_open.proofs.open_streams.Goals as goal

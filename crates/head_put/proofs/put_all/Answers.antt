@@ -1,8 +1,6 @@
 -- `head_put::put_all`: what is left to copy gives the whole.
-use Prim.Native.Nat.{◌-◌}
 use native.Mathlib.Omega.{arith}
-use borrow.Author.Rules.{rules}
-use Rattle.head_put.proofs.Laid.{Copying, copying_none, copying_more, copying_done}
+use Rattle.head_put.proofs.Laid.{copying_none, copying_more, copying_done}
 use Rattle.head_put.proofs.put_all.Goals as goal
 
 pub loop-k-init : goal.loop-k-init

@@ -1,12 +1,9 @@
 -- `head_put::put_ranges`: what is left to write gives the whole.
-use mathlib.Core.Path.{refl}
 use Prim.Native.Nat.{◌-◌}
-use native.Mathlib.Omega.{arith}
-use borrow.Author.Rules.{rules}
 use lib.ListN.{get_or}
 use Rattle.head_record.specs.Empty.{no_range}
 use Rattle.head_words.specs.Words.{range_words}
-use Rattle.head_words.proofs.Items.{Laying, laying_none, laying_more, laying_done}
+use Rattle.head_words.proofs.Items.{Laying}
 use Rattle.head_put.proofs.put_ranges.Given as goal
 
 abbrev pub invariant-loop-k : goal.invariant-loop-k

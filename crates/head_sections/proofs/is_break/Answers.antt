@@ -6,7 +6,6 @@ use Rattle.head_sections.specs.Split.{break_here}
 use borrow.Author.Tests.{ne_eqb}
 use native.Mathlib.Omega.{arith}
 use mathlib.Core.Path.{sym, ap, ◌∙◌}
-use borrow.Author.Rules.{rules}
 use Rattle.head_sections.proofs.is_break.Goals as goal
 
 pub returns-then-byte_at-ne10 : goal.returns-then-byte_at-ne10

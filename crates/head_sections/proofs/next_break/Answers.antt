@@ -1,10 +1,6 @@
 -- `head_sections::next_break` meets its contract. The place is the same from each place that the loop passes.
-use borrow.Author.Rules.{rules}
 use Rattle.head_sections.proofs.Breaks.{break_here_lem, break_on, break_end}
-use Rattle.head_sections.specs.Split.{break_at}
-use lib.ListN.{length}
-use Prim.Native.Nat.{◌-◌}
-use mathlib.Core.Path.{◌≡◌, refl, sym, ◌∙◌}
+use mathlib.Core.Path.{refl, sym, ◌∙◌}
 use Rattle.head_sections.proofs.next_break.Goals as goal
 
 pub loop-i-init : goal.loop-i-init

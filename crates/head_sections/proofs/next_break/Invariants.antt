@@ -1,10 +1,8 @@
 -- `head_sections::next_break` meets its contract. The place is the same from each place that the loop passes.
-use borrow.Author.Rules.{rules}
-use Rattle.head_sections.proofs.Breaks.{break_here_lem, break_on, break_end}
 use Rattle.head_sections.specs.Split.{break_at}
 use lib.ListN.{length}
 use Prim.Native.Nat.{◌-◌}
-use mathlib.Core.Path.{◌≡◌, refl, sym, ◌∙◌}
+use mathlib.Core.Path.{◌≡◌}
 use Rattle.head_sections.proofs.next_break.Given as goal
 
 abbrev pub invariant-loop-i : goal.invariant-loop-i

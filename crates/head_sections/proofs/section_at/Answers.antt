@@ -4,7 +4,6 @@ use Rattle.head_sections.specs.Split.{section_at}
 use borrow.Author.Tests.{not-true, not-false, lt-ltb, le-ltb}
 use native.Mathlib.Omega.{arith}
 use mathlib.Core.Path.{sym, ◌∙◌}
-use borrow.Author.Rules.{rules}
 use Rattle.head_sections.proofs.section_at.Goals as goal
 
 pub returns-then-not-starts_with : goal.returns-then-not-starts_with

@@ -5,7 +5,6 @@ use Rattle.head_sections.specs.Split.{split_of}
 use borrow.Author.Tests.{not-true, not-false}
 use native.Mathlib.Omega.{arith}
 use mathlib.Core.Path.{sym, ◌∙◌}
-use borrow.Author.Rules.{rules}
 use Rattle.head_sections.proofs.split_sections.Goals as goal
 
 pub overflow_add-behind_global : goal.overflow_add-behind_global

@@ -1,7 +1,6 @@
 -- `head_sections::starts_with` meets its contract.
 use Rattle.head_sections.specs.Split.{starts_at}
 use mathlib.Core.Path.{sym}
-use borrow.Author.Rules.{rules}
 use Rattle.head_sections.proofs.starts_with.Goals as goal
 
 pub returns : goal.returns

@@ -1,8 +1,7 @@
 -- `head_stream::read_group` meets its contract. The invariant: what is left of the rows gives the answer.
 use mathlib.Core.Path.{◌≡◌, refl, sym, ap, ◌∙◌}
-use Prim.Native.Nat.{◌-◌, ◌≤◌}
+use Prim.Native.Nat.{◌≤◌}
 use native.Mathlib.Omega.{arith}
-use borrow.Author.Rules.{rules}
 use lib.ListN.{length}
 use Rattle.head_record.specs.Empty.{empty_stream}
 use Rattle.head_words.specs.Words.{flat, stream_words}
@@ -12,7 +11,7 @@ use Rattle.head_brackets.specs.Rows.{row_at}
 use Rattle.head_brackets.specs.declared.RowAt.TheVariants as found
 use Rattle.head_brackets.proofs.Through.{row_less, line_less}
 use Rattle.head_stream.specs.Group.{group_in, judged}
-use Rattle.head_stream.proofs.Reading.{Reached, reached_none, reached_other, reached_taken, reached_no_line, broken, reached_line, ended}
+use Rattle.head_stream.proofs.Reading.{reached_none, reached_other, reached_taken, reached_no_line, broken, reached_line, ended}
 use Rattle.head_stream.proofs.read_group.Goals.{In-Found}
 use Rattle.head_stream.proofs.read_group.Goals as goal
 

@@ -1,7 +1,6 @@
 -- `head_stream::store` meets its contract: each arm by what it stores; a list and its count are one run.
 use mathlib.Core.Path.{◌∙◌}
 use native.Mathlib.Omega.{arith}
-use borrow.Author.Rules.{rules}
 use borrow.Author.Tests.{ne_eqb}
 use Rattle.head_words.specs.Words.{spans_words}
 use Rattle.head_words.proofs.Items.{laid_before}

@@ -1,9 +1,7 @@
 -- `head_streams::read_groups` meets its contract. The invariant: what is left of the rows gives the answer.
 use mathlib.Core.Path.{◌≡◌, refl, sym, ap, ◌∙◌}
 use mathlib.Core.List.{[], ◌∷◌}
-use Prim.Native.Nat.{◌-◌}
 use native.Mathlib.Omega.{arith}
-use borrow.Author.Rules.{rules}
 use borrow.Author.Tests.{not-true, not-false}
 use lib.ListN.{length}
 use Rattle.head_words.proofs.Items.{laid_long}
@@ -12,8 +10,8 @@ use Rattle.head_brackets.specs.Rows.{row_at}
 use Rattle.head_brackets.specs.declared.RowAt.TheVariants as found
 use Rattle.head_brackets.proofs.Through.{row_less, line_less}
 use Rattle.head_group_words.proofs.Kept.{kept_long}
-use Rattle.head_streams.proofs.Reading.{streams, Reached, reached_none, reached_line, reached_known, refused_group, reached_more, reached_ninth, ended}
-use Rattle.head_streams.proofs.read_groups.Goals.{After-put1, After-put1-arg-1, After-slice_known-1, At-loop-row, In-Found}
+use Rattle.head_streams.proofs.Reading.{streams, reached_none, reached_line, reached_known, refused_group, reached_more, reached_ninth, ended}
+use Rattle.head_streams.proofs.read_groups.Goals.{After-put1, After-put1-arg-1, In-Found}
 use Rattle.head_streams.proofs.read_groups.Goals as goal
 
 -- the row that was found

@@ -1,7 +1,6 @@
 -- `head_ungrouped::judge` meets its contract.
 use Rattle.head_ungrouped.specs.Ungrouped.{judged}
 use mathlib.Core.Path.{sym, ◌∙◌}
-use borrow.Author.Rules.{rules}
 use Rattle.head_ungrouped.proofs.judge.Goals as goal
 
 pub returns-then-missing : goal.returns-then-missing

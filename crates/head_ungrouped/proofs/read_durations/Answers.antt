@@ -4,16 +4,13 @@ use Rattle.head_ungrouped.specs.declared.Durations.{Durations}
 use Rattle.head_de_lists.specs.declared.Outcome.TheVariants as outcome
 use Rattle.head_lines.specs.declared.Line.{Line}
 use Rattle.head_ungrouped.proofs.Stored.{stored_line}
-use Rattle.head_lines.proofs.Going.{Going, going_first, end_of, wrong_of, lines_end, lines_wrong, Turned, turned, kept_more}
+use Rattle.head_lines.proofs.Going.{going_first, end_of, wrong_of, lines_end, lines_wrong, turned, kept_more}
 use Rattle.head_lines.specs.Lines.{kept, unseen}
 use Rattle.head_ungrouped.specs.Ungrouped.{no_durations, with_line, durations_in, judged}
 use Rattle.written.specs.Record.{position_fields}
-use Rattle.written.specs.HeaderText.{Entry}
-use lib.ListN.{length}
-use mathlib.Core.List.{List, [], ◌∷◌, ◌++◌}
-use Prim.Native.Nat.{◌-◌}
+use mathlib.Core.List.{[], ◌∷◌, ◌++◌}
 use mathlib.Core.Path.{◌≡◌, sym, ap, ◌∙◌}
-use Rattle.head_ungrouped.proofs.read_durations.Goals.{After-store-durations, In-Read}
+use Rattle.head_ungrouped.proofs.read_durations.Goals.{After-store-durations}
 use Rattle.head_ungrouped.proofs.read_durations.Goals as goal
 
 -- what is kept, with it

@@ -1,18 +1,13 @@
 -- `head_ungrouped::read_durations` meets its contract. The invariant: what is left gives the answer, and what is kept is what the lines so far make of it.
-use borrow.Author.Rules.{rules}
-use Rattle.head_ungrouped.specs.declared.Durations.{Durations}
-use Rattle.head_de_lists.specs.declared.Outcome.TheVariants as outcome
-use Rattle.head_lines.specs.declared.Line.{Line}
-use Rattle.head_ungrouped.proofs.Stored.{stored_line}
-use Rattle.head_lines.proofs.Going.{Going, going_first, end_of, wrong_of, lines_end, lines_wrong, Turned, turned, kept_more}
-use Rattle.head_lines.specs.Lines.{kept, unseen}
-use Rattle.head_ungrouped.specs.Ungrouped.{no_durations, with_line, durations_in, judged}
+use Rattle.head_lines.proofs.Going.{Going}
+use Rattle.head_lines.specs.Lines.{kept}
+use Rattle.head_ungrouped.specs.Ungrouped.{no_durations, with_line}
 use Rattle.written.specs.Record.{position_fields}
 use Rattle.written.specs.HeaderText.{Entry}
 use lib.ListN.{length}
-use mathlib.Core.List.{List, [], ◌∷◌, ◌++◌}
+use mathlib.Core.List.{List}
 use Prim.Native.Nat.{◌-◌}
-use mathlib.Core.Path.{◌≡◌, sym, ap, ◌∙◌}
+use mathlib.Core.Path.{◌≡◌}
 use Rattle.head_ungrouped.proofs.read_durations.Given as goal
 
 abbrev pub invariant-loop-next : goal.invariant-loop-next

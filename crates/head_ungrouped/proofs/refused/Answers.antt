@@ -1,7 +1,6 @@
 -- `head_ungrouped::refused` meets its contract.
 use Rattle.head_ungrouped.specs.Ungrouped.{made}
 use mathlib.Core.Path.{ap}
-use borrow.Author.Rules.{rules}
 use Rattle.head_ungrouped.proofs.refused.Goals as goal
 
 pub returns : goal.returns

@@ -1,6 +1,5 @@
 -- `head_words::group_flags`: flag by flag.
 use mathlib.Core.Path.{sym, ◌∙◌}
-use borrow.Author.Rules.{rules}
 use borrow.Author.Tests.{not-true, not-false}
 use Rattle.laws.proofs.Every.{not_first, then_second}
 use Rattle.head_words.specs.Words.{group_flags}

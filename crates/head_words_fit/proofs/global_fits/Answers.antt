@@ -1,5 +1,4 @@
 -- `head_words_fit::global_fits`: string by string.
-use borrow.Author.Rules.{rules}
 use borrow.Author.Tests.{not-true, not-false, eq-eqb, ne_eqb}
 use mathlib.Core.Path.{sym, ◌∙◌}
 use Rattle.head_record_fits.specs.Fits.{global_fits}

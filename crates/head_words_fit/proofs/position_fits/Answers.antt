@@ -4,7 +4,6 @@ use mathlib.Core.Path.{refl, sym, ◌∙◌}
 use Rattle.laws.proofs.Every.{not_first, then_second}
 use Rattle.head_record_fits.specs.Fits.{position_fits}
 use Rattle.head_words.specs.Words.{position_at}
-use borrow.Author.Rules.{rules}
 use Rattle.head_words_fit.proofs.position_fits.Goals as goal
 
 pub returns-then-not-span_fits : goal.returns-then-not-span_fits

@@ -1,5 +1,4 @@
 -- `head_words_fit::record_fits`: part by part.
-use borrow.Author.Rules.{rules}
 use borrow.Author.Tests.{not-true, not-false, le-leb, lt-leb}
 use mathlib.Core.Path.{sym, ◌∙◌}
 use Rattle.head_record_fits.specs.Fits.{record_fits}

@@ -7,7 +7,6 @@ use Prim.Native.Nat.{ℕ, ◌+◌, ◌<◌}
 use lib.Dec.{leb}
 use Rattle.head_record_fits.specs.Fits.{span_fits}
 use Rattle.head_record_fits.proofs.Fits.{sum-leb}
-use borrow.Author.Rules.{rules}
 use Rattle.head_words_fit.proofs.span_fits.Goals as goal
 
 over : (a b n : ℕ) → n < a → false ≡ leb (a + b) n

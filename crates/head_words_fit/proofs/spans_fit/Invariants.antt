@@ -1,13 +1,7 @@
 -- `head_words_fit::spans_fit`: k strings are left, and the answer is theirs.
-use borrow.Author.Rules.{rules}
-use borrow.Author.Tests.{not-true, not-false}
-use native.Mathlib.Omega.{arith}
-use mathlib.Core.Path.{sym, ◌∙◌}
 use Rattle.head_record_fits.specs.Fits.{span_fits}
-use Rattle.head_record_fits.proofs.Each.{Left, counted_over, left_all, left_none}
-use Rattle.head_record_fits.proofs.Fits.{none_fits}
+use Rattle.head_record_fits.proofs.Each.{Left}
 use Rattle.head_words.specs.Words.{spans_at}
-use Rattle.head_words_fit.proofs.Runs.{run_off, run_on}
 use Rattle.head_words_fit.proofs.spans_fit.Given as goal
 
 abbrev pub invariant-loop-k : goal.invariant-loop-k

@@ -1,5 +1,4 @@
 -- `head_words_fit::stream_fits` meets its contract.
-use borrow.Author.Rules.{rules}
 use borrow.Author.Tests.{not-true, not-false}
 use mathlib.Core.Path.{sym, ◌∙◌}
 use Rattle.laws.proofs.Every.{not_first, then_second}

@@ -1,6 +1,5 @@
 -- `house_model::judge_model` meets its contract.
 use mathlib.Core.Path.{refl}
-use borrow.Author.Rules.{rules}
 use borrow.Author.Tests.{not-true, not-false}
 use Rattle.house_model.proofs.Laws.{names_room, leaves_room, patterns_back, other_ids, other_names, other_leaves, other_means, other_variances, no_other}
 use Rattle.house_model.proofs.judge_model.Goals as goal

@@ -1,10 +1,7 @@
 -- `house_names::all_last` meets its contract.
 use mathlib.Core.Path.{sym, ◌∙◌}
-use Prim.Native.Nat.{◌-◌}
-use lib.ListN.{length}
-use borrow.Author.Rules.{rules}
 use borrow.Author.Tests.{not-true, not-false}
-use Rattle.laws.proofs.Every.{Passing, passing_none, passing_on, passing_off, passing_end}
+use Rattle.laws.proofs.Every.{passing_none, passing_on, passing_off, passing_end}
 use Rattle.house_names.specs.Names.{is_last, all_last}
 use Rattle.house_names.proofs.all_last.Goals as goal
 

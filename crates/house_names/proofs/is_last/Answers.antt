@@ -8,7 +8,6 @@ use Rattle.link_order.specs.Keys.{name_at}
 use Rattle.link_search.specs.Found.{last_below}
 use Rattle.link_search.specs.declared.Found.{Found}
 use Rattle.house_names.specs.Names.{last_is}
-use borrow.Author.Rules.{rules}
 use Rattle.house_names.proofs.is_last.Goals.{After-last_question}
 use Rattle.house_names.proofs.is_last.Goals as goal
 

@@ -5,7 +5,6 @@ use lib.ListN.{length}
 use native.Mathlib.Omega.{arith}
 use Rattle.load_text.proofs.Laws.{Asked, index_room, index_count, is_index, patterns_over}
 use Rattle.house_names.specs.Names.{all_last}
-use borrow.Author.Rules.{rules}
 use Rattle.house_names.proofs.names_once.Goals as goal
 
 pub index_names-requires : goal.index_names-requires

@@ -2,7 +2,6 @@
 use native.Mathlib.Omega.{arith}
 use Rattle.load_bounds.specs.Bounds.{side_of}
 use Rattle.house_own.proofs.Laws.{own_loaded, own_rule, own_back}
-use borrow.Author.Rules.{rules}
 use Rattle.house_own.proofs.judge_own.Goals as goal
 
 pub own_part-q-requires : goal.own_part-q-requires

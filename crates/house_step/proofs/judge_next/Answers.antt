@@ -6,7 +6,6 @@ use Rattle.load_plan.proofs.Laws.{needs_sound}
 use Rattle.load_model.specs.Load.{lent}
 use Rattle.load_bounds.specs.Bounds.{side_of, held_of}
 use Rattle.house_step.proofs.Laws.{next_refused, next_planned}
-use borrow.Author.Rules.{rules}
 use Rattle.house_step.proofs.judge_next.Goals as goal
 
 pub data_of-requires : goal.data_of-requires

@@ -3,7 +3,6 @@ use mathlib.Core.Path.{sym, ◌∙◌}
 use Rattle.load_model.specs.Load.{lent}
 use Rattle.load_bounds.specs.Bounds.{side_of, held_of}
 use Rattle.house_step.proofs.Laws.{loaded_in, step_refused, step_judged}
-use borrow.Author.Rules.{rules}
 use Rattle.house_step.proofs.judge_planned.Goals as goal
 
 pub judge_own-rule-requires : goal.judge_own-rule-requires

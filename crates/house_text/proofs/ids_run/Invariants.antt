@@ -1,13 +1,8 @@
 -- `house_text::ids_run` meets its contract.
-use mathlib.Core.Path.{refl, sym, ◌∙◌}
 use Prim.Native.Nat.{ℕ, ◌-◌}
-use native.Mathlib.Omega.{arith}
 use lib.ListN.{length}
-use borrow.Author.Rules.{rules}
-use borrow.Author.Tests.{not-true, not-false}
-use Rattle.tree_survey.proofs.Counting.{more_in}
 use Rattle.house_text.specs.Text.{body_ids}
-use Rattle.house_text.proofs.Laws.{Judging, judge_off, judge_on, judge_last, judge_none}
+use Rattle.house_text.proofs.Laws.{Judging}
 use Rattle.house_text.proofs.ids_run.Given as goal
 
 abbrev pub invariant-loop-next : goal.invariant-loop-next

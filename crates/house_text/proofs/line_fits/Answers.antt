@@ -2,7 +2,6 @@
 use mathlib.Core.Path.{sym, ◌∙◌}
 use borrow.Author.Tests.{not-true, not-false}
 use Rattle.laws.proofs.Every.{not_first, then_second}
-use borrow.Author.Rules.{rules}
 use Rattle.house_text.proofs.line_fits.Goals as goal
 
 pub returns-then-not-ref_fits : goal.returns-then-not-ref_fits

@@ -1,13 +1,8 @@
 -- `house_text::lines_fit` meets its contract.
-use mathlib.Core.Path.{◌≡◌, refl, sym, ◌∙◌}
-use Prim.Native.Nat.{◌-◌}
+use mathlib.Core.Path.{refl, sym, ◌∙◌}
 use native.Mathlib.Omega.{arith}
-use lib.ListN.{length}
-use borrow.Author.Rules.{rules}
 use borrow.Author.Tests.{not-true, not-false}
-use Rattle.tree_line.specs.Lines.{lines_at}
 use Rattle.tree_survey_lines.proofs.Counting.{items_next, items_last, items_broken, next_in}
-use Rattle.house_text.specs.Text.{lines_fit}
 use Rattle.house_text.proofs.Laws.{lines_off, lines_on, lines_last, lines_none}
 use Rattle.house_text.proofs.lines_fit.Goals as goal
 

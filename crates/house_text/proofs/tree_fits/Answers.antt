@@ -1,6 +1,5 @@
 -- `house_text::tree_fits` meets its contract.
 use mathlib.Core.Path.{sym, ap, ◌∙◌}
-use borrow.Author.Rules.{rules}
 use Rattle.tree_body.specs.declared.TreeHead.{TreeHead}
 use Rattle.load_trees.specs.Trees.{head_body}
 use Rattle.house_text.specs.Text.{lines_fit, body_fits}

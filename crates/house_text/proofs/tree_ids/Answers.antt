@@ -4,7 +4,6 @@ use Rattle.tree_body.specs.declared.TreeHead.{TreeHead}
 use Rattle.link_find.specs.Find.{ordered}
 use Rattle.load_trees.specs.Trees.{head_body}
 use Rattle.house_text.specs.Text.{body_ids}
-use borrow.Author.Rules.{rules}
 use Rattle.house_text.proofs.tree_ids.Goals as goal
 
 pub returns-in-Lone : goal.returns-in-Lone

@@ -2,7 +2,6 @@
 use mathlib.Core.Path.{sym, ◌∙◌}
 use borrow.Author.Tests.{ne_eqb, eq-eqb}
 use Rattle.house_types.proofs.Laws.{number_broken, number_kept}
-use borrow.Author.Rules.{rules}
 use Rattle.house_types.proofs.judge_types.Goals as goal
 
 pub returns-then-words : goal.returns-then-words

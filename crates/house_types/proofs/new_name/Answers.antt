@@ -1,10 +1,8 @@
 -- `house_types::new_name`: no name below k has the bytes of the i-th.
 use mathlib.Core.Path.{refl}
-use Prim.Native.Nat.{◌-◌}
 use native.Mathlib.Omega.{arith}
-use Rattle.laws.proofs.Every.{Passing, passing_none}
-use Rattle.house_types.proofs.Laws.{other, name_on, name_twice, name_new}
-use borrow.Author.Rules.{rules}
+use Rattle.laws.proofs.Every.{passing_none}
+use Rattle.house_types.proofs.Laws.{name_on, name_twice, name_new}
 use Rattle.house_types.proofs.new_name.Goals as goal
 
 pub loop-k-init : goal.loop-k-init

@@ -1,13 +1,10 @@
 -- `house_types::types_once`: the names below i are new, each where it stands.
 use mathlib.Core.Path.{sym, ◌∙◌}
-use Prim.Native.Nat.{◌-◌}
 use native.Mathlib.Omega.{arith}
 use borrow.Author.Tests.{not-true, not-false}
-use Rattle.laws.proofs.Every.{Passing, passing_none, passing_on}
-use Rattle.head_words.specs.Words.{word_at, header_at}
+use Rattle.laws.proofs.Every.{passing_none, passing_on}
 use Rattle.house_types.specs.Types.{new_name}
 use Rattle.house_types.proofs.Laws.{types_twice, types_all}
-use borrow.Author.Rules.{rules}
 use Rattle.house_types.proofs.types_once.Goals as goal
 
 pub loop-i-init : goal.loop-i-init

@@ -2,7 +2,6 @@
 use mathlib.Core.Path.{sym, ap, ◌∙◌}
 use mathlib.Core.Bool.{Bool}
 use Rattle.house_values.specs.Values.{good_value}
-use borrow.Author.Rules.{rules}
 use Rattle.house_values.proofs.good_value.Goals as goal
 
 pub returns-then-variance : goal.returns-then-variance

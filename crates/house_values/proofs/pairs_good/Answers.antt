@@ -1,11 +1,9 @@
 -- `house_values::pairs_good` meets its contract.
 use mathlib.Core.Path.{sym, ◌∙◌}
-use Prim.Native.Nat.{◌-◌}
 use native.Mathlib.Omega.{arith}
-use borrow.Author.Rules.{rules}
 use borrow.Author.Tests.{not-true, not-false}
-use Rattle.house_values.specs.Values.{pair_good, pairs_good}
-use Rattle.laws.proofs.Every.{Passing, passing_none, passing_on, passing_off, passing_end}
+use Rattle.house_values.specs.Values.{pairs_good}
+use Rattle.laws.proofs.Every.{passing_none, passing_on, passing_off, passing_end}
 use Rattle.house_values.proofs.pairs_good.Goals as goal
 
 pub loop-k-init : goal.loop-k-init

@@ -1,12 +1,10 @@
 -- `house_voice::judge_voice`: the models that are left, from the state that the loop is in, end as all do.
-use mathlib.Core.Path.{sym, ◌∙◌}
 use Prim.Native.Nat.{◌-◌}
 use Rattle.head_words.specs.Words.{header_at}
 use Rattle.load_model.specs.Load.{lent}
 use Rattle.load_bounds.specs.Bounds.{side_of, held_of}
 use Rattle.trail_voice.specs.Voice.{which_number}
-use Rattle.house_voice.proofs.Laws.{Judging, judging_none, fits_so, judging_more, goes_up, voice_refused, voice_judged}
-use borrow.Author.Rules.{rules}
+use Rattle.house_voice.proofs.Laws.{Judging}
 use Rattle.house_voice.proofs.judge_voice.Given as goal
 
 abbrev pub invariant-loop-refusal : goal.invariant-loop-refusal

@@ -1,7 +1,6 @@
 -- `label_answers::answers_said`: a row that doesn't fit, a slice that is too short, or all bytes.
 use mathlib.Core.Path.{sym, ◌∙◌}
 use native.Mathlib.Omega.{arith}
-use borrow.Author.Rules.{rules}
 use borrow.Author.Tests.{not-true, not-false}
 use Rattle.label_answers.proofs.Laws.{refused_outside, refused_short, answered_all}
 use Rattle.label_answers.proofs.answers_said.Goals as goal

@@ -1,9 +1,7 @@
 -- `label_answers::any_matches`: no pattern up to k matches.
 use mathlib.Core.Path.{sym, ◌∙◌}
-use Prim.Native.Nat.{◌+◌, ◌-◌}
 use native.Mathlib.Omega.{arith}
-use borrow.Author.Rules.{rules}
-use Rattle.laws.proofs.Every.{Seeking, seeking_none, seeking_on, seeking_here, seeking_end}
+use Rattle.laws.proofs.Every.{seeking_none, seeking_on, seeking_here, seeking_end}
 use Rattle.label_answers.specs.Answering.{pattern_matches}
 use Rattle.label_answers.proofs.Laws.{in_table, row_each, row_matches_lem}
 use Rattle.label_answers.proofs.any_matches.Goals as goal

@@ -1,9 +1,7 @@
 -- `label_answers::fill_answers`: the bytes still to be written, from question q on.
 use Prim.Native.Nat.{◌-◌}
-use native.Mathlib.Omega.{arith}
-use borrow.Author.Rules.{rules}
 use Rattle.label_answers.specs.Answering.{row_matches}
-use Rattle.label_answers.proofs.Laws.{Filling, filling_none, filling_more, filling_end, filled, rows_each}
+use Rattle.label_answers.proofs.Laws.{Filling}
 use Rattle.label_answers.proofs.fill_answers.Given as goal
 
 abbrev pub invariant-loop-q : goal.invariant-loop-q

@@ -1,7 +1,6 @@
 -- `label_answers::pattern_fits`: no such row, or by its bytes.
 use Prim.Native.Nat.{◌+◌, ◌<◌}
 use native.Mathlib.Omega.{arith}
-use borrow.Author.Rules.{rules}
 use borrow.Author.Tests.{not-true, not-false}
 use Rattle.table_rows.specs.Rows.{pattern_rows}
 use Rattle.table_rows.proofs.Stand.{told, below}

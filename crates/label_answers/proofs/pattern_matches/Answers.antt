@@ -1,6 +1,5 @@
 -- `label_answers::pattern_matches`: an empty pattern, or the match of its bytes.
 use native.Mathlib.Omega.{arith}
-use borrow.Author.Rules.{rules}
 use Rattle.label_answers.proofs.Laws.{in_table, in_data, matches_empty, matches_part}
 use Rattle.label_answers.proofs.pattern_matches.Goals as goal
 

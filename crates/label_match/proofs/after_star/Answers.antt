@@ -1,9 +1,6 @@
 -- `label_match::after_star`: what is behind j matches some end of the label from i on exactly where the whole does.
-use Prim.Native.Nat.{◌-◌}
 use native.Mathlib.Omega.{arith}
-use lib.ListN.{length}
-use borrow.Author.Rules.{rules}
-use Rattle.label_match.proofs.Laws.{Behind, behind_none, behind_last, behind_nowhere, behind_more, part-plain}
+use Rattle.label_match.proofs.Laws.{behind_none, behind_last, behind_nowhere, behind_more, part-plain}
 use Rattle.label_match.proofs.after_star.Goals as goal
 
 pub loop-from-init : goal.loop-from-init

@@ -1,9 +1,7 @@
 -- `label_match::after_star`: what is behind j matches some end of the label from i on exactly where the whole does.
 use Prim.Native.Nat.{◌-◌}
-use native.Mathlib.Omega.{arith}
 use lib.ListN.{length}
-use borrow.Author.Rules.{rules}
-use Rattle.label_match.proofs.Laws.{Behind, behind_none, behind_last, behind_nowhere, behind_more, part-plain}
+use Rattle.label_match.proofs.Laws.{Behind}
 use Rattle.label_match.proofs.after_star.Given as goal
 
 abbrev pub invariant-loop-from : goal.invariant-loop-from

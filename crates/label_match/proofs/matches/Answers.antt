@@ -1,7 +1,6 @@
 -- `label_match::matches`: the part before the first star in front, then what is behind it.
 use mathlib.Core.Path.{sym, ◌∙◌}
 use native.Mathlib.Omega.{arith}
-use borrow.Author.Rules.{rules}
 use borrow.Author.Tests.{not-true, not-false}
 use lib.Seq.{length-take-le}
 use Rattle.label_match.proofs.Laws.{match_short, match_off, match_plain, match_parted}

@@ -1,9 +1,6 @@
 -- `label_match::part_end`: no star up to `end`.
-use Prim.Native.Nat.{◌-◌}
 use native.Mathlib.Omega.{arith}
-use lib.ListN.{length}
-use borrow.Author.Rules.{rules}
-use Rattle.label_match.proofs.Laws.{Starless, starless_none, starless_more, part-star, part_whole}
+use Rattle.label_match.proofs.Laws.{starless_none, starless_more, part-star, part_whole}
 use Rattle.label_match.proofs.part_end.Goals as goal
 
 pub loop-end-init : goal.loop-end-init

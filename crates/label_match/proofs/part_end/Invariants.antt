@@ -1,9 +1,7 @@
 -- `label_match::part_end`: no star up to `end`.
 use Prim.Native.Nat.{◌-◌}
-use native.Mathlib.Omega.{arith}
 use lib.ListN.{length}
-use borrow.Author.Rules.{rules}
-use Rattle.label_match.proofs.Laws.{Starless, starless_none, starless_more, part-star, part_whole}
+use Rattle.label_match.proofs.Laws.{Starless}
 use Rattle.label_match.proofs.part_end.Given as goal
 
 abbrev pub invariant-loop-end : goal.invariant-loop-end

@@ -1,11 +1,8 @@
 -- `label_match::stands`: k bytes of the part stand, and the answer is that of the others.
 use mathlib.Core.Path.{sym, ◌∙◌}
-use Prim.Native.Nat.{◌-◌}
 use native.Mathlib.Omega.{arith}
-use lib.ListN.{length}
-use borrow.Author.Rules.{rules}
 use borrow.Author.Tests.{not-true, not-false}
-use Rattle.label_match.proofs.Laws.{Standing, standing_none, standing_more, standing_off, standing_end}
+use Rattle.label_match.proofs.Laws.{standing_none, standing_more, standing_off, standing_end}
 use Rattle.label_match.proofs.stands.Goals as goal
 
 pub loop-k-init : goal.loop-k-init

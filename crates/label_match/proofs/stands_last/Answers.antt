@@ -1,5 +1,4 @@
 -- `label_match::stands_last`: no room for the part, or at the very end.
-use borrow.Author.Rules.{rules}
 use Rattle.label_match.proofs.Laws.{last_short, last_stands}
 use Rattle.label_match.proofs.stands_last.Goals as goal
 

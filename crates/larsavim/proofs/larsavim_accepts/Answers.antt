@@ -4,7 +4,6 @@ use mathlib.Core.List.{[], ◌∷◌}
 use lib.Seq.{sets}
 use Rattle.error.specs.declared.Told.{Told}
 use Rattle.larsavim.specs.Accepts.{AcceptTells}
-use borrow.Author.Rules.{rules}
 use Rattle.larsavim.proofs.larsavim_accepts.Goals as goal
 
 pub returns-then-out-lt-ACCEPTS_OUT : goal.returns-then-out-lt-ACCEPTS_OUT

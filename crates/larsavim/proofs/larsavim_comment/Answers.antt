@@ -1,7 +1,6 @@
 -- `larsavim::larsavim_comment`: too short, or written.
 use Rattle.larsavim.specs.Face.{part_numbers}
 use Rattle.larsavim.proofs.Laws.{short, full}
-use borrow.Author.Rules.{rules}
 use Rattle.larsavim.proofs.larsavim_comment.Goals as goal
 
 pub returns-then-out-lt-COMMENT_OUT : goal.returns-then-out-lt-COMMENT_OUT

@@ -1,7 +1,6 @@
 -- `larsavim::larsavim_depth`: too short, or told.
 use mathlib.Core.Path.{refl}
 use Rattle.larsavim.specs.Depths.{DepthTells}
-use borrow.Author.Rules.{rules}
 use Rattle.larsavim.proofs.larsavim_depth.Goals as goal
 
 pub returns-then-out-lt-DEPTH_OUT : goal.returns-then-out-lt-DEPTH_OUT

@@ -1,7 +1,6 @@
 -- `larsavim::larsavim_get`: too short, or written.
 use Rattle.larsavim.specs.Face.{said_numbers}
 use Rattle.larsavim.proofs.Laws.{short, full}
-use borrow.Author.Rules.{rules}
 use Rattle.larsavim.proofs.larsavim_get.Goals as goal
 
 pub returns-then-out-lt-GET_OUT : goal.returns-then-out-lt-GET_OUT

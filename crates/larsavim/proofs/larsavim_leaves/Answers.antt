@@ -1,7 +1,6 @@
 -- `larsavim::larsavim_leaves`: the bool as a number.
 use mathlib.Core.Path.{ap}
 use Rattle.head_words.specs.Words.{flag_word}
-use borrow.Author.Rules.{rules}
 use Rattle.larsavim.proofs.larsavim_leaves.Goals as goal
 
 pub returns : goal.returns

@@ -4,7 +4,6 @@ use lib.Seq.{sets}
 use Rattle.load_model.specs.Load.{lent}
 use Rattle.face_put.specs.Put.{rows_numbers}
 use Rattle.larsavim.proofs.Laws.{answer_short, answer_full, out_short, out_full, left_short, left_full, load_alone}
-use borrow.Author.Rules.{rules}
 use Rattle.larsavim.proofs.larsavim_load.Goals as goal
 
 pub returns-then-out-lt-LOAD_OUT : goal.returns-then-out-lt-LOAD_OUT

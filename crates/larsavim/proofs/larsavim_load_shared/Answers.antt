@@ -2,7 +2,6 @@
 use mathlib.Core.Path.{refl}
 use mathlib.Core.Logic.{inl, inr}
 use Rattle.larsavim.specs.Sharing.{LoadShares}
-use borrow.Author.Rules.{rules}
 use Rattle.larsavim.proofs.larsavim_load_shared.Goals as goal
 
 pub returns-then-out-lt-LOAD_OUT : goal.returns-then-out-lt-LOAD_OUT

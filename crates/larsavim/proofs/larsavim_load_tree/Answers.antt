@@ -2,7 +2,6 @@
 use mathlib.Core.Path.{refl}
 use mathlib.Core.Logic.{inl, inr}
 use Rattle.larsavim.specs.Sharing.{TreeShares}
-use borrow.Author.Rules.{rules}
 use Rattle.larsavim.proofs.larsavim_load_tree.Goals as goal
 
 pub returns-then-out-lt-LOAD_OUT : goal.returns-then-out-lt-LOAD_OUT

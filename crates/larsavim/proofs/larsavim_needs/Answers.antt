@@ -1,7 +1,6 @@
 -- `larsavim::larsavim_needs`: too short, or written.
 use Rattle.face_put.specs.Put.{needed_numbers}
 use Rattle.larsavim.proofs.Laws.{short, full}
-use borrow.Author.Rules.{rules}
 use Rattle.larsavim.proofs.larsavim_needs.Goals as goal
 
 pub returns-then-out-lt-NEEDS_OUT : goal.returns-then-out-lt-NEEDS_OUT

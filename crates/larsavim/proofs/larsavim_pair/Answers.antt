@@ -1,7 +1,6 @@
 -- `larsavim::larsavim_pair`: too short, or written.
 use Rattle.larsavim.specs.Face.{pair_numbers}
 use Rattle.larsavim.proofs.Laws.{short, full}
-use borrow.Author.Rules.{rules}
 use Rattle.larsavim.proofs.larsavim_pair.Goals as goal
 
 pub returns-then-out-lt-PAIR_OUT : goal.returns-then-out-lt-PAIR_OUT

@@ -3,7 +3,6 @@ use mathlib.Core.Path.{ap, ◌∙◌}
 use lib.Seq.{sets}
 use Rattle.larsavim.specs.Trails.{written_numbers}
 use Rattle.larsavim.proofs.Laws.{answer_short, answer_full, out_short, out_full, left_short, left_full}
-use borrow.Author.Rules.{rules}
 use Rattle.larsavim.proofs.larsavim_trailer.Goals as goal
 
 pub returns-then-out-lt-TRAILER_OUT : goal.returns-then-out-lt-TRAILER_OUT

@@ -4,7 +4,6 @@ use mathlib.Core.Logic.{inl, inr}
 use borrow.Author.Tests.{not-true, not-false}
 use Rattle.larsavim.specs.Sharing.{UnloadTells}
 use Rattle.larsavim.proofs.Sharing.{unload_refused, unload_zeroed}
-use borrow.Author.Rules.{rules}
 use Rattle.larsavim.proofs.larsavim_unload.Goals as goal
 
 pub returns-then-held-lt-BOUNDS : goal.returns-then-held-lt-BOUNDS

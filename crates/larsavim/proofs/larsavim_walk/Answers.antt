@@ -1,7 +1,6 @@
 -- `larsavim::larsavim_walk`: too short, or written.
 use Rattle.larsavim.specs.Face.{ended_numbers}
 use Rattle.larsavim.proofs.Laws.{short, full}
-use borrow.Author.Rules.{rules}
 use Rattle.larsavim.proofs.larsavim_walk.Goals as goal
 
 pub returns-then-out-lt-WALK_OUT : goal.returns-then-out-lt-WALK_OUT

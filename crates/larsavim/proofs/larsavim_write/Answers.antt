@@ -1,7 +1,6 @@
 -- `larsavim::larsavim_write`: too short, or written.
 use Rattle.larsavim.proofs.Laws.{answer_short, answer_full, out_short, out_full, left_short, left_full}
 use Rattle.larsavim.specs.Write.{wrote_numbers}
-use borrow.Author.Rules.{rules}
 use lib.Seq.{sets}
 use mathlib.Core.Path.{ap, ◌∙◌}
 use Rattle.larsavim.proofs.larsavim_write.Goals as goal

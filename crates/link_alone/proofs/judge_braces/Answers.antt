@@ -5,7 +5,6 @@ use Rattle.link_alone.specs.Alone.{ended}
 use Rattle.link_fits.specs.Fits.{leaves_from}
 use Rattle.link_alone.specs.declared.Single.TheVariants.{Several}
 use Rattle.link_alone.proofs.Judging.{counted_many, braces_are, braces_broken}
-use borrow.Author.Rules.{rules}
 use Rattle.link_alone.proofs.judge_braces.Goals as goal
 
 pub single_of-requires : goal.single_of-requires

@@ -2,7 +2,6 @@
 use mathlib.Core.Path.{sym, ap, ◌∙◌}
 use Rattle.link_alone.specs.Alone.{judged_line}
 use Rattle.link_alone.specs.declared.Judged.TheVariants.{Told}
-use borrow.Author.Rules.{rules}
 use Rattle.link_alone.proofs.judge_line.Goals as goal
 
 pub returns-in-Goes : goal.returns-in-Goes

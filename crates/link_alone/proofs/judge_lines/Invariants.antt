@@ -1,13 +1,9 @@
 -- `link_alone::judge_lines`: what is judged, and what is still to be judged, come to the same.
-use mathlib.Core.Path.{refl, sym, ◌∙◌}
 use Prim.Native.Nat.{◌-◌}
-use native.Mathlib.Omega.{arith}
 use lib.ListN.{length}
 use Rattle.tree_question.specs.Questions.{questions_at}
 use Rattle.tree_line.specs.Lines.{lines_at}
-use Rattle.tree_survey_lines.proofs.Counting.{next_in}
-use Rattle.link_alone.proofs.Judging.{Going, judged_on, judged_refused, judged_last, judged_none}
-use borrow.Author.Rules.{rules}
+use Rattle.link_alone.proofs.Judging.{Going}
 use Rattle.link_alone.proofs.judge_lines.Given as goal
 
 abbrev pub invariant-loop-line : goal.invariant-loop-line

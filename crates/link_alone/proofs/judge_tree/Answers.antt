@@ -5,7 +5,6 @@ use lib.Dec.{eqb}
 use Rattle.tree_question.specs.Questions.{questions_at}
 use Rattle.link_alone.specs.Alone.{judged_head}
 use Rattle.link_alone.specs.declared.Judged.TheVariants.{Told}
-use borrow.Author.Rules.{rules}
 use Rattle.link_alone.proofs.judge_tree.Goals as goal
 
 pub returns-in-Lone : goal.returns-in-Lone

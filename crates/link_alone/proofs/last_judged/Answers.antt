@@ -2,7 +2,6 @@
 use mathlib.Core.Path.{sym, ap, ◌∙◌}
 use Rattle.link_alone.specs.Alone.{ended}
 use Rattle.link_alone.specs.declared.Judged.TheVariants.{Told}
-use borrow.Author.Rules.{rules}
 use Rattle.link_alone.proofs.last_judged.Goals as goal
 
 pub returns-in-Told : goal.returns-in-Told

@@ -13,7 +13,6 @@ use Rattle.link_alone.specs.Alone.{target_in, link_asked, link_of, link_in}
 use Rattle.link_fits.specs.Fits.{nowhere}
 use Rattle.link_fits.specs.declared.Target.{Target}
 use Rattle.link_alone.specs.declared.LineLink.TheVariants as link
-use borrow.Author.Rules.{rules}
 use Rattle.link_alone.proofs.link_line.Goals as goal
 
 module _ (s : List ℕ) (qs : List QuestionPlace) (ls : List Line) (l : Line) {y : Target} (p : y ≡ target_in ls l.yes) where

@@ -1,6 +1,5 @@
 -- `link_alone::one_of`: by whether its references are equal.
 use Rattle.link_alone.proofs.Judging.{one_same, one_other}
-use borrow.Author.Rules.{rules}
 use Rattle.link_alone.proofs.one_of.Goals as goal
 
 pub returns-then-same_index : goal.returns-then-same_index

@@ -7,7 +7,6 @@ use Prim.Native.Nat.{ℕ}
 use Rattle.laws.proofs.Every.{not_first, then_second}
 use Rattle.table_rows.specs.Rows.{record_rows, record_kind, record_yes}
 use Rattle.link_fits.specs.Fits.{is_leaf}
-use borrow.Author.Rules.{rules}
 use Rattle.link_fits.proofs.is_leaf.Goals as goal
 
 pub returns-then-record_rows-i : goal.returns-then-record_rows-i

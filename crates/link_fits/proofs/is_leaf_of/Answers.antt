@@ -6,7 +6,6 @@ use Prim.Native.Nat.{ℕ}
 use Rattle.laws.proofs.Every.{not_first, then_second}
 use Rattle.link_fits.specs.Fits.{leaf_of}
 use Rattle.link_fits.proofs.Rows.{leaf_there}
-use borrow.Author.Rules.{rules}
 use Rattle.link_fits.proofs.is_leaf_of.Goals as goal
 
 pub returns-then-not-is_leaf : goal.returns-then-not-is_leaf

@@ -2,7 +2,6 @@
 use mathlib.Core.Path.{sym, ap, ◌∙◌}
 use Rattle.link_fits.specs.Fits.{leads_to}
 use Rattle.link_fits.specs.declared.Target.{Target}
-use borrow.Author.Rules.{rules}
 use Rattle.link_fits.proofs.leads_to.Goals as goal
 
 pub returns-in-Line : goal.returns-in-Line

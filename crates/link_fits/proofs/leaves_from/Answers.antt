@@ -1,12 +1,9 @@
 -- `link_fits::leaves_from`: the rest is tested as all are.
 use mathlib.Core.Path.{sym, ◌∙◌}
-use Prim.Native.Nat.{◌-◌}
 use native.Mathlib.Omega.{arith}
 use borrow.Author.Tests.{not-true, not-false}
-use Rattle.laws.proofs.Every.{Going, going_none, going_on, going_off, going_end}
-use Rattle.table_rows.specs.Rows.{record_rows}
+use Rattle.laws.proofs.Every.{going_none, going_on, going_off, going_end}
 use Rattle.link_fits.specs.Fits.{is_leaf, leaves_from}
-use borrow.Author.Rules.{rules}
 use Rattle.link_fits.proofs.leaves_from.Goals as goal
 
 pub loop-i-init : goal.loop-i-init

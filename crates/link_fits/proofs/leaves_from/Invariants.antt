@@ -1,12 +1,8 @@
 -- `link_fits::leaves_from`: the rest is tested as all are.
-use mathlib.Core.Path.{sym, ◌∙◌}
 use Prim.Native.Nat.{◌-◌}
-use native.Mathlib.Omega.{arith}
-use borrow.Author.Tests.{not-true, not-false}
-use Rattle.laws.proofs.Every.{Going, going_none, going_on, going_off, going_end}
+use Rattle.laws.proofs.Every.{Going}
 use Rattle.table_rows.specs.Rows.{record_rows}
-use Rattle.link_fits.specs.Fits.{is_leaf, leaves_from}
-use borrow.Author.Rules.{rules}
+use Rattle.link_fits.specs.Fits.{is_leaf}
 use Rattle.link_fits.proofs.leaves_from.Given as goal
 
 abbrev pub invariant-loop-i : goal.invariant-loop-i

@@ -5,7 +5,6 @@ use borrow.Author.Tests.{lt-ltb, le-ltb, eq-eqb, ne_eqb, not-true, not-false}
 use Rattle.laws.proofs.Every.{not_first, then_second}
 use Rattle.table_rows.specs.Rows.{record_rows, record_kind, record_question}
 use Rattle.link_fits.specs.Fits.{leads_to, row_fits}
-use borrow.Author.Rules.{rules}
 use Rattle.link_fits.proofs.row_fits.Goals as goal
 
 pub returns-then-record_rows-k : goal.returns-then-record_rows-k

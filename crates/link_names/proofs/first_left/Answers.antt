@@ -1,12 +1,9 @@
 -- `link_names::first_left`: those before are gone.
-use mathlib.Core.Path.{◌≡◌, ap}
+use mathlib.Core.Path.{ap}
 use native.Mathlib.Omega.{arith}
-use Prim.Native.Nat.{ℕ, ◌-◌, ◌<◌}
 use mathlib.Core.Bool.{true}
-use lib.ListN.{get_or}
 use Rattle.link_names.specs.Names.{is_gone, off, none}
 use Rattle.link_names.proofs.Laws.{first_more, gone_not}
-use borrow.Author.Rules.{rules}
 use Rattle.link_names.proofs.first_left.Goals as goal
 
 pub loop-j-init : goal.loop-j-init

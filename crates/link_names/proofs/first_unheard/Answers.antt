@@ -1,7 +1,6 @@
 -- `link_names::first_unheard`: the keys, then those that are left of them, then the first.
 use native.Mathlib.Omega.{arith}
 use Rattle.link_names.proofs.Laws.{keys_keyed, from_keys}
-use borrow.Author.Rules.{rules}
 use Rattle.link_names.proofs.first_unheard.Goals as goal
 
 pub mark_all-requires : goal.mark_all-requires

@@ -1,9 +1,6 @@
 -- `link_names::gone_from`: one more, as long as it is gone.
-use native.Mathlib.Omega.{arith}
 use Prim.Native.Nat.{◌-◌}
 use Rattle.link_names.specs.Names.{Gone}
-use Rattle.link_names.proofs.Laws.{gone_more}
-use borrow.Author.Rules.{rules}
 use Rattle.link_names.proofs.gone_from.Given as goal
 
 abbrev pub invariant-loop-j : goal.invariant-loop-j

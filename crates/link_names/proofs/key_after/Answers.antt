@@ -3,7 +3,6 @@ use mathlib.Core.Path.{sym, ap, ◌∙◌}
 use mathlib.Core.Bool.{Bool, cond}
 use Rattle.written.specs.Bytes.{same}
 use Rattle.link_names.proofs.Laws.{key_other}
-use borrow.Author.Rules.{rules}
 use Rattle.link_names.proofs.key_after.Goals as goal
 
 pub returns-then-before-key : goal.returns-then-before-key

@@ -1,6 +1,5 @@
 -- `link_names::key_of`: by length and last byte.
 use Rattle.link_names.proofs.Laws.{key_none, key_is}
-use borrow.Author.Rules.{rules}
 use Rattle.link_names.proofs.key_of.Goals as goal
 
 pub returns-then-n-eq0 : goal.returns-then-n-eq0

@@ -4,7 +4,6 @@ use Rattle.laws.specs.Steps.{Reading}
 use Rattle.written.specs.Said.{QuestionPlace}
 use Rattle.tree_question.proofs.Filling.{begins_question, begins_tree}
 use Rattle.link_names.proofs.Laws.{heard_in, silent_none, silent_some}
-use borrow.Author.Rules.{rules}
 use Rattle.link_names.proofs.look_up.Goals as goal
 
 pub first_unheard-requires : goal.first_unheard-requires

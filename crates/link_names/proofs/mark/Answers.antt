@@ -1,10 +1,6 @@
 -- `link_names::mark`: name by name.
 use native.Mathlib.Omega.{arith}
-use Prim.Native.Nat.{ℕ, ◌-◌}
-use Rattle.written.specs.Bytes.{same}
-use Rattle.link_names.specs.Names.{name_in}
-use Rattle.link_names.proofs.Laws.{Marking, marking_from, marking_on, marking_end, marking_key}
-use borrow.Author.Rules.{rules}
+use Rattle.link_names.proofs.Laws.{marking_from, marking_on, marking_end, marking_key}
 use Rattle.link_names.proofs.mark.Goals as goal
 
 pub loop-j-init : goal.loop-j-init

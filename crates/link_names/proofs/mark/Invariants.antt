@@ -1,10 +1,8 @@
 -- `link_names::mark`: name by name.
-use native.Mathlib.Omega.{arith}
 use Prim.Native.Nat.{ℕ, ◌-◌}
 use Rattle.written.specs.Bytes.{same}
 use Rattle.link_names.specs.Names.{name_in}
-use Rattle.link_names.proofs.Laws.{Marking, marking_from, marking_on, marking_end, marking_key}
-use borrow.Author.Rules.{rules}
+use Rattle.link_names.proofs.Laws.{Marking}
 use Rattle.link_names.proofs.mark.Given as goal
 
 abbrev pub invariant-loop-j : goal.invariant-loop-j

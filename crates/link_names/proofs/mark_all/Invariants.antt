@@ -1,12 +1,8 @@
 -- `link_names::mark_all`: question by question, as long as a key is left.
-use mathlib.Core.Path.{refl, sym, ◌∙◌}
-use native.Mathlib.Omega.{arith}
 use Prim.Native.Nat.{◌-◌, ◌≤◌}
 use lib.ListN.{length}
-use Rattle.link_find.proofs.Finding.{named_next, named_last, named_none}
 use Rattle.link_names.specs.Names.{Gone}
-use Rattle.link_names.proofs.Laws.{gone_none, gone_fewer, marked_gone, Hearing, hearing_on, hearing_last, hearing_over, hearing_none}
-use borrow.Author.Rules.{rules}
+use Rattle.link_names.proofs.Laws.{Hearing}
 use Rattle.link_names.proofs.mark_all.Given as goal
 
 abbrev pub invariant-loop-start : goal.invariant-loop-start

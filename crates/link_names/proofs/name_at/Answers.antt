@@ -5,7 +5,6 @@ use Rattle.written.specs.Bytes.{in_name}
 use Rattle.laws.proofs.Runs.{stop_from}
 use Rattle.text_parts.specs.Parts.{part_inside}
 use Prim.Native.Nat.{ℕ, ◌-◌}
-use borrow.Author.Rules.{rules}
 use Rattle.link_names.proofs.name_at.Goals as goal
 
 pub overflow_sub-name_end : goal.overflow_sub-name_end

@@ -1,10 +1,8 @@
 -- `link_names::set_keys`: name by name.
 use mathlib.Core.Path.{ap, ◌∙◌}
 use native.Mathlib.Omega.{arith}
-use Prim.Native.Nat.{◌-◌}
 use Rattle.link_names.specs.Names.{key_of}
-use Rattle.link_names.proofs.Laws.{Keying, keying_none, keying_on, keying_end}
-use borrow.Author.Rules.{rules}
+use Rattle.link_names.proofs.Laws.{keying_none, keying_on, keying_end}
 use Rattle.link_names.proofs.set_keys.Goals as goal
 
 pub loop-j-init : goal.loop-j-init

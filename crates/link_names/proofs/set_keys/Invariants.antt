@@ -1,10 +1,6 @@
 -- `link_names::set_keys`: name by name.
-use mathlib.Core.Path.{ap, ◌∙◌}
-use native.Mathlib.Omega.{arith}
 use Prim.Native.Nat.{◌-◌}
-use Rattle.link_names.specs.Names.{key_of}
-use Rattle.link_names.proofs.Laws.{Keying, keying_none, keying_on, keying_end}
-use borrow.Author.Rules.{rules}
+use Rattle.link_names.proofs.Laws.{Keying}
 use Rattle.link_names.proofs.set_keys.Given as goal
 
 abbrev pub invariant-loop-j : goal.invariant-loop-j

@@ -6,7 +6,6 @@ use lib.IntN.{pos}
 use lib.ListN.{get_or}
 use Rattle.laws.proofs.Signed.{back}
 use Rattle.text_parts.specs.Parts.{nat_of}
-use borrow.Author.Rules.{rules}
 use Rattle.link_rows.proofs.question_of.Goals as goal
 
 pub returns-then-row-eq0 : goal.returns-then-row-eq0

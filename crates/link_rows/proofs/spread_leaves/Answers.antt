@@ -1,6 +1,6 @@
 -- `link_rows::spread_leaves`: the leaves from k on stand as rows, those before it side by side.
 use native.Mathlib.Omega.{arith}
-use Rattle.link_rows.proofs.Laws.{Spreading, spread_none, spread_more, spread_done}
+use Rattle.link_rows.proofs.Laws.{spread_none, spread_more, spread_done}
 use Rattle.link_rows.proofs.spread_leaves.Goals as goal
 
 pub loop-k-init : goal.loop-k-init

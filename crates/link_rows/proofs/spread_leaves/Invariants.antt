@@ -1,6 +1,5 @@
 -- `link_rows::spread_leaves`: the leaves from k on stand as rows, those before it side by side.
-use native.Mathlib.Omega.{arith}
-use Rattle.link_rows.proofs.Laws.{Spreading, spread_none, spread_more, spread_done}
+use Rattle.link_rows.proofs.Laws.{Spreading}
 use Rattle.link_rows.proofs.spread_leaves.Given as goal
 
 abbrev pub invariant-loop-k : goal.invariant-loop-k

@@ -1,7 +1,6 @@
 -- `link_rows::write_lines`: the lines before k stand as rows, what stands behind them is as before.
-use Prim.Native.Nat.{◌-◌}
 use native.Mathlib.Omega.{arith}
-use Rattle.link_rows.proofs.Laws.{Writing, write_none, write_more, write_done}
+use Rattle.link_rows.proofs.Laws.{write_none, write_more, write_done}
 use Rattle.link_rows.proofs.write_lines.Goals as goal
 
 pub loop-k-init : goal.loop-k-init

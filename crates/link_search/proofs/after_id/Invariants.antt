@@ -1,11 +1,7 @@
 -- `link_search::after_id`: the test holds below lo and fails from hi on.
-use mathlib.Core.Path.{sym, ap, ◌∙◌}
 use Prim.Native.Nat.{◌-◌}
-use borrow.Author.Rules.{rules}
-use borrow.Author.Tests.{le-leb, lt-leb}
 use lib.Dec.{leb}
-use Rattle.link_search.proofs.Halves.{Between, between_none, between_up, between_down, between_done}
-use Rattle.laws.proofs.Signed.{back}
+use Rattle.link_search.proofs.Halves.{Between}
 use Rattle.link_order.specs.Keys.{id_key, id_at}
 use Rattle.link_search.proofs.after_id.Given as goal
 

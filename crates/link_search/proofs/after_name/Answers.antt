@@ -1,9 +1,7 @@
 -- `link_search::after_name`: the test holds below lo and fails from hi on.
 use mathlib.Core.Path.{sym, ap, ◌∙◌}
-use Prim.Native.Nat.{◌-◌}
-use borrow.Author.Rules.{rules}
 use lib.Dec.{leb}
-use Rattle.link_search.proofs.Halves.{Between, between_none, between_up, between_down, between_done}
+use Rattle.link_search.proofs.Halves.{between_none, between_up, between_down, between_done}
 use Rattle.link_order.specs.Keys.{name_key, name_at}
 use Rattle.link_search.proofs.after_name.Goals as goal
 

@@ -1,9 +1,7 @@
 -- `link_search::before_leaf`: the test holds below lo and fails from hi on.
-use Prim.Native.Nat.{◌-◌}
-use borrow.Author.Rules.{rules}
 use borrow.Author.Tests.{lt-ltb, le-ltb}
 use lib.Dec.{ltb}
-use Rattle.link_search.proofs.Halves.{Between, between_none, between_up, between_down, between_done}
+use Rattle.link_search.proofs.Halves.{between_none, between_up, between_down, between_done}
 use Rattle.link_search.proofs.before_leaf.Goals as goal
 
 pub loop-lo-init : goal.loop-lo-init

@@ -2,7 +2,6 @@
 use mathlib.Core.Path.{sym}
 use native.Mathlib.Omega.{arith}
 use Rattle.link_search.proofs.First.{ascend_falls, first_found, first_other}
-use borrow.Author.Rules.{rules}
 use Rattle.link_search.proofs.first_leaf.Goals as goal
 
 pub before_leaf-before-requires : goal.before_leaf-before-requires

@@ -8,7 +8,6 @@ use Rattle.link_order.specs.Keys.{id_key, id_at}
 use Rattle.link_search.specs.Found.{last_below}
 use Rattle.link_search.proofs.Last.{index_falls, index_empty, index_found, index_other}
 use Rattle.link_search.specs.declared.Found.{Found}
-use borrow.Author.Rules.{rules}
 use Rattle.link_search.proofs.last_id.Goals as goal
 
 -- the answer for the key of an id

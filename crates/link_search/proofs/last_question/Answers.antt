@@ -16,7 +16,6 @@ use Rattle.link_search.specs.Found.{last_below}
 use Rattle.link_search.specs.declared.Found.{Found}
 use Rattle.link_search.proofs.Last.{index_falls, index_empty, index_found, index_other, last_ext}
 use Rattle.link_search.proofs.Ids.{same_name, name_small}
-use borrow.Author.Rules.{rules}
 use Rattle.link_search.proofs.last_question.Goals as goal
 
 -- the answer for the key of a name is that for the name

@@ -8,7 +8,6 @@ use lib.Dec.{leb, ltb}
 use Rattle.link_order.specs.Sides.{side_of}
 use Rattle.link_order.specs.declared.Side.{Side}
 use Rattle.link_order.specs.declared.Side.TheVariants.{Below, Same, Above}
-use borrow.Author.Rules.{rules}
 use Rattle.link_search.proofs.not_above.Goals as goal
 
 -- whether the side is not above

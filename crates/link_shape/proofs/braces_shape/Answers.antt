@@ -3,7 +3,6 @@ use mathlib.Core.Path.{refl, sym, ap, ◌∙◌}
 use Rattle.link_alone.specs.declared.Single.TheVariants as single
 use Rattle.link_shape.specs.declared.Shape.TheVariants.{Lines}
 use Rattle.link_shape.proofs.Laws.{counted_many, braces_are, braces_broken}
-use borrow.Author.Rules.{rules}
 use Rattle.link_shape.proofs.braces_shape.Goals as goal
 
 pub single_of-requires : goal.single_of-requires

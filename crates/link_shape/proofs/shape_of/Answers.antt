@@ -1,7 +1,6 @@
 -- `link_shape::shape_of`: by the head of the tree.
 use mathlib.Core.Path.{sym, ap, ◌∙◌}
 use Rattle.link_shape.specs.Shapes.{shape_head}
-use borrow.Author.Rules.{rules}
 use Rattle.link_shape.proofs.shape_of.Goals as goal
 
 pub returns-in-Lone : goal.returns-in-Lone

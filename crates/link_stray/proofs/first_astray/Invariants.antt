@@ -1,8 +1,6 @@
 -- `link_stray::first_astray`: the first among those still to come is the first of all.
-use native.Mathlib.Omega.{arith}
 use Rattle.tree_line.specs.Lines.{lines_at}
-use Rattle.link_stray.proofs.Laws.{Going, going_none, going_astray, going_up, going_on, going_clean, room_behind, less_behind}
-use borrow.Author.Rules.{rules}
+use Rattle.link_stray.proofs.Laws.{Going, room_behind}
 use Rattle.link_stray.proofs.first_astray.Given as goal
 
 abbrev pub invariant-loop-stray : goal.invariant-loop-stray

@@ -2,7 +2,6 @@
 use mathlib.Core.Path.{sym, ap, ◌∙◌}
 use Rattle.link_fits.specs.Fits.{nowhere}
 use Rattle.link_stray.proofs.Laws.{or_first, or_second}
-use borrow.Author.Rules.{rules}
 use Rattle.link_stray.proofs.is_astray.Goals as goal
 
 pub target_of-requires : goal.target_of-requires

@@ -4,7 +4,6 @@ use mathlib.Core.Bool.{true, false}
 use Rattle.tree_line.specs.Lines.{lines_at}
 use Rattle.link_stray.specs.Stray.{stray_of}
 use Rattle.link_stray.proofs.Laws.{stray_next, stray_last}
-use borrow.Author.Rules.{rules}
 use Rattle.link_stray.proofs.stray_at.Goals as goal
 
 pub is_astray-requires : goal.is_astray-requires

@@ -9,7 +9,6 @@ use Rattle.link_order.specs.Keys.{id_key, id_at}
 use Rattle.link_search.specs.Found.{last_below}
 use Rattle.link_search.specs.declared.Found.{Found}
 use Rattle.link_targets.proofs.Find.{ready_index, order_above, order_found, order_past}
-use borrow.Author.Rules.{rules}
 use Rattle.link_targets.proofs.find_line.Goals as goal
 
 -- the answer for the key of the id

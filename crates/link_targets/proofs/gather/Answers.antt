@@ -1,8 +1,6 @@
 -- `link_targets::gather`: what is left, stored from `end` on, gives the rows with all of them.
-use Prim.Native.Nat.{◌-◌}
 use native.Mathlib.Omega.{arith}
-use borrow.Author.Rules.{rules}
-use Rattle.link_targets.proofs.Refs.{Gathering, gather_none, gather_room, gather_more, gather_done}
+use Rattle.link_targets.proofs.Refs.{gather_none, gather_room, gather_more, gather_done}
 use Rattle.link_targets.proofs.gather.Goals as goal
 
 pub loop-line-init : goal.loop-line-init

@@ -1,11 +1,8 @@
 -- `link_targets::in_order`: the answer is the same from each line on.
-use mathlib.Core.Path.{◌≡◌, sym, ap, ◌∙◌}
-use Prim.Native.Nat.{◌-◌, ◌≤◌}
+use mathlib.Core.Path.{sym, ap, ◌∙◌}
 use native.Mathlib.Omega.{arith}
-use borrow.Author.Rules.{rules}
 use Rattle.laws.proofs.Signed.{back}
 use Rattle.link_order.specs.Keys.{id_key}
-use Rattle.link_targets.specs.Targets.{order_from}
 use Rattle.link_targets.proofs.Refs.{order_on, order_off, order_end, order_start}
 use Rattle.link_targets.proofs.in_order.Goals as goal
 

@@ -1,12 +1,7 @@
 -- `link_targets::in_order`: the answer is the same from each line on.
-use mathlib.Core.Path.{◌≡◌, sym, ap, ◌∙◌}
+use mathlib.Core.Path.{◌≡◌}
 use Prim.Native.Nat.{◌-◌, ◌≤◌}
-use native.Mathlib.Omega.{arith}
-use borrow.Author.Rules.{rules}
-use Rattle.laws.proofs.Signed.{back}
-use Rattle.link_order.specs.Keys.{id_key}
 use Rattle.link_targets.specs.Targets.{order_from}
-use Rattle.link_targets.proofs.Refs.{order_on, order_off, order_end, order_start}
 use Rattle.link_targets.proofs.in_order.Given as goal
 
 abbrev pub invariant-loop-line : goal.invariant-loop-line

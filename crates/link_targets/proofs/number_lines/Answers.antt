@@ -1,8 +1,6 @@
 -- `link_targets::number_lines`: what is left to number, stored, gives the rows with all of them.
-use Prim.Native.Nat.{◌-◌}
 use native.Mathlib.Omega.{arith}
-use borrow.Author.Rules.{rules}
-use Rattle.link_targets.proofs.Refs.{Numbering, number_none, number_more, number_done}
+use Rattle.link_targets.proofs.Refs.{number_none, number_more, number_done}
 use Rattle.link_targets.proofs.number_lines.Goals as goal
 
 pub loop-line-init : goal.loop-line-init

@@ -6,7 +6,6 @@ use lib.ListN.{length, length-append}
 use Rattle.written.specs.Linking.{pdf_of}
 use Rattle.link_targets.specs.Lines.{ref_at}
 use Rattle.link_targets.proofs.Refs.{one_line, pushed_both}
-use borrow.Author.Rules.{rules}
 use Rattle.link_targets.proofs.push_line.Goals as goal
 
 pub push_pdf-mid-requires : goal.push_pdf-mid-requires

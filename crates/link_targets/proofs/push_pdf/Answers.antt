@@ -6,7 +6,6 @@ use Prim.Native.Nat.{◌+◌}
 use Rattle.laws.proofs.Signed.{back}
 use Rattle.text_parts.specs.Parts.{nat_of}
 use Rattle.link_targets.proofs.Refs.{pushed_none, pushed_one, room_one}
-use borrow.Author.Rules.{rules}
 use Rattle.link_targets.proofs.push_pdf.Goals as goal
 
 pub returns-then-natural-eq0 : goal.returns-then-natural-eq0

@@ -13,7 +13,6 @@ use Rattle.text_parts.specs.Parts.{nat_of}
 use Rattle.link_targets.specs.Targets.{moved}
 use Rattle.link_targets.proofs.Refs.{is_node, is_pdf}
 use Rattle.link_targets.proofs.Find.{first_inside, target_line, target_leaf}
-use borrow.Author.Rules.{rules}
 use Rattle.link_targets.proofs.target.Goals as goal
 
 pub find_line-requires : goal.find_line-requires

@@ -8,7 +8,6 @@ use Rattle.link_order.specs.Keys.{key_of, id_key, id_at}
 use Rattle.link_search.specs.Found.{count_from}
 use Rattle.link_search.proofs.Last.{length-count}
 use Rattle.link_tree.proofs.Whole.{sorted_part}
-use borrow.Author.Rules.{rules}
 use Rattle.link_tree.proofs.index_lines.Goals as goal
 
 -- the answer by the test

@@ -7,7 +7,6 @@ use lib.ListN.{length, replicate}
 use Rattle.link_tree.specs.Linked.{link_outcome, linked_rows, rows_after, Linking}
 use Rattle.link_tree.specs.declared.Link.{Link}
 use Rattle.link_tree.proofs.Whole.{leaves_there, size₂, rows_ready, outcome_is, rows_linked}
-use borrow.Author.Rules.{rules}
 use Rattle.link_tree.proofs.link_tree.Goals as goal
 
 -- how linking ended, and the rows that it left

@@ -8,7 +8,6 @@ use Rattle.link_targets.specs.Lines.{line_in}
 use Rattle.text_parts.specs.Parts.{nat_of}
 use Rattle.link_targets.specs.Targets.{target_of}
 use Rattle.link_tree.proofs.Laws.{step_unasked, step_goes, step_no, step_yes_lem}
-use borrow.Author.Rules.{rules}
 use Rattle.link_tree.proofs.resolve_line.Goals as goal
 
 pub returns-then-natural-eq0 : goal.returns-then-natural-eq0

@@ -1,8 +1,6 @@
 -- `link_tree::resolve_lines`: what is left, stored, gives the rows with all of them.
 use Prim.Native.Nat.{◌-◌}
-use native.Mathlib.Omega.{arith}
-use borrow.Author.Rules.{rules}
-use Rattle.link_tree.proofs.Laws.{Resolving, resolve_none, resolve_more, resolve_fails, resolve_done}
+use Rattle.link_tree.proofs.Laws.{Resolving}
 use Rattle.link_tree.proofs.resolve_lines.Given as goal
 
 abbrev pub invariant-loop-line : goal.invariant-loop-line

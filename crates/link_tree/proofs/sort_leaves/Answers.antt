@@ -5,7 +5,6 @@ use Rattle.link_order.specs.Keys.{key_of}
 use Rattle.link_targets.specs.Lines.{lines_from, pdfs_of}
 use Rattle.link_tree.specs.Linked.{leaves_of}
 use Rattle.link_tree.proofs.Whole.{sorted_part}
-use borrow.Author.Rules.{rules}
 use Rattle.link_tree.proofs.sort_leaves.Goals as goal
 
 pub returns : goal.returns

@@ -1,7 +1,6 @@
 -- `link_window::behind`: by what was taken.
 use mathlib.Core.Path.{sym, ap}
 use Rattle.link_window.specs.Windows.{behind_of}
-use borrow.Author.Rules.{rules}
 use Rattle.link_window.proofs.behind.Goals as goal
 
 pub returns-in-More : goal.returns-in-More

@@ -1,13 +1,10 @@
 -- `link_window::first_unasked` : the first among those still to come is the first of all.
 use mathlib.Core.Path.{sym, subst}
 use native.Mathlib.Omega.{arith}
-use Prim.Native.Nat.{ℕ, ◌<◌}
+use Prim.Native.Nat.{◌<◌}
 use lib.ListN.{length}
-use Rattle.tree_question.specs.Questions.{questions_at}
-use Rattle.link_window.specs.Windows.{Windowed}
 use Rattle.link_window.specs.declared.Window.{Window}
-use Rattle.link_window.proofs.Laws.{Going, going_none, going_small, going_missing, going_up, going_next, going_clean, room_behind, window_less}
-use borrow.Author.Rules.{rules}
+use Rattle.link_window.proofs.Laws.{going_none, going_small, going_missing, going_up, going_next, going_clean, room_behind, window_less}
 use Rattle.link_window.proofs.first_unasked.Goals as goal
 
 pub loop-window-init : goal.loop-window-init

@@ -1,7 +1,6 @@
 -- `link_window::link_alone`: a PDF links, a node is refused.
 use mathlib.Core.Path.{sym, ap, ◌∙◌}
 use Rattle.link_window.specs.Windows.{fault_alone}
-use borrow.Author.Rules.{rules}
 use Rattle.link_window.proofs.link_alone.Goals as goal
 
 pub returns-in-Node : goal.returns-in-Node

@@ -5,7 +5,6 @@ use Rattle.tree_body.specs.Trees.{head_at}
 use Rattle.link_shape.proofs.Laws.{lines_many}
 use Rattle.link_window.specs.Windows.{fault_lines}
 use Rattle.link_window.proofs.Laws.{fault_shape, fault_shape_lem}
-use borrow.Author.Rules.{rules}
 use Rattle.link_window.proofs.link_tree.Goals as goal
 
 pub first_astray-requires : goal.first_astray-requires

@@ -2,7 +2,6 @@
 use mathlib.Core.Path.{sym, ap₂, ◌∙◌}
 use Rattle.link_window.specs.Windows.{fault_lines}
 use Rattle.link_window.proofs.Laws.{lower_question, lower_node}
-use borrow.Author.Rules.{rules}
 use Rattle.link_window.proofs.lower.Goals as goal
 
 pub returns-then-b-a : goal.returns-then-b-a

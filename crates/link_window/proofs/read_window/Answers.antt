@@ -1,7 +1,6 @@
 -- `link_window::read_window`: the names, then the questions.
 use native.Mathlib.Omega.{arith}
 use Rattle.link_window.proofs.Laws.{taken_few, window_missing, window_clear}
-use borrow.Author.Rules.{rules}
 use Rattle.link_window.proofs.read_window.Goals as goal
 
 pub look_up-requires : goal.look_up-requires

@@ -4,7 +4,6 @@ use mathlib.Core.Bool.{Bool}
 use native.Mathlib.Omega.{arith}
 use Rattle.written.specs.Sharing.{first_row}
 use Rattle.load_bounds.specs.Bounds.{side_of}
-use borrow.Author.Rules.{rules}
 use Rattle.load_bounds.proofs.first_row.Goals as goal
 
 pub returns-then-top : goal.returns-then-top

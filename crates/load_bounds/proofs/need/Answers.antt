@@ -1,5 +1,4 @@
 -- `load_bounds::need`: field by field.
-use borrow.Author.Rules.{rules}
 use Rattle.load_bounds.proofs.Laws.{need_is}
 use Rattle.load_bounds.proofs.need.Goals as goal
 

@@ -2,7 +2,6 @@
 use native.Mathlib.Omega.{arith}
 use Rattle.load_bounds.specs.Bounds.{side_of}
 use Rattle.load_bounds.proofs.Laws.{own_within, own_cut}
-use borrow.Author.Rules.{rules}
 use Rattle.load_bounds.proofs.own_part.Goals as goal
 
 pub overflow_mul-from : goal.overflow_mul-from

@@ -3,7 +3,6 @@ use mathlib.Core.Path.{refl, sym, ◌∙◌}
 use native.Mathlib.Nat.{div-one}
 use borrow.Author.Tests.{not-true, not-false}
 use Rattle.load_bounds.specs.Bounds.{stands_at}
-use borrow.Author.Rules.{rules}
 use Rattle.load_bounds.proofs.stand.Goals as goal
 
 pub returns-then-not-beside : goal.returns-then-not-beside

@@ -1,5 +1,4 @@
 -- `load_choose::choose` meets its contract.
-use borrow.Author.Rules.{rules}
 use Rattle.load_choose.proofs.Texts.{measured}
 use mathlib.Core.Path.{◌∙◌}
 use Rattle.load_choose.proofs.choose.Goals as goal

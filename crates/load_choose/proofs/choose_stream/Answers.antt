@@ -1,11 +1,10 @@
 -- `load_choose::choose_stream` meets its contract.
-use borrow.Author.Rules.{rules}
-use Rattle.load_choose.proofs.Words.{Counts, counts, not_numbered, without_position, without_stream, p_inside, k_inside, with_both}
+use Rattle.load_choose.proofs.Words.{counts, not_numbered, without_position, without_stream, p_inside, k_inside, with_both}
 use Rattle.load_choose.specs.Chosen.{made_by}
 use mathlib.Core.Path.{sym, ◌∙◌}
 use Prim.Native.Nat.{◌<◌}
 use native.Mathlib.Omega.{arith}
-use Rattle.load_choose.proofs.choose_stream.Goals.{In-At, In-At-find_stream, Start}
+use Rattle.load_choose.proofs.choose_stream.Goals.{In-At, In-At-find_stream}
 use Rattle.load_choose.proofs.choose_stream.Goals as goal
 
 -- the groups found are among the eight

@@ -1,5 +1,4 @@
 -- `load_choose::choose_text` meets its contract.
-use borrow.Author.Rules.{rules}
 use Rattle.load_choose.specs.Chosen.{text_chosen}
 use Rattle.load_choose.proofs.choose_text.Goals as goal
 

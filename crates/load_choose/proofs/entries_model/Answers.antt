@@ -1,5 +1,4 @@
 -- `load_choose::entries_model` meets its contract.
-use borrow.Author.Rules.{rules}
 use Rattle.load_choose.specs.Chosen.{made_by}
 use Rattle.head_words.specs.Words.{stream_at, position_at}
 use mathlib.Core.Bool.{Bool}

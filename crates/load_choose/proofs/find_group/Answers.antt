@@ -1,10 +1,8 @@
 -- `load_choose::find_group` meets its contract.
-use borrow.Author.Rules.{rules}
-use Prim.Native.Nat.{◌+◌, ◌*◌, ◌-◌}
+use Prim.Native.Nat.{◌-◌}
 use Rattle.written.specs.Bytes.{same}
-use Rattle.head_words.specs.Words.{span_at}
 use Rattle.text_parts.specs.Parts.{bytes_of}
-use Rattle.load_choose.proofs.Search.{Down, down_none, down_here, down_on}
+use Rattle.load_choose.proofs.Search.{down_none, down_here, down_on}
 use native.Mathlib.Omega.{arith}
 use mathlib.Core.Path.{refl, sym, ap, ◌∙◌}
 use Rattle.load_choose.proofs.find_group.Goals as goal

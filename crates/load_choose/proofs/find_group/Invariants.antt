@@ -1,12 +1,9 @@
 -- `load_choose::find_group` meets its contract.
-use borrow.Author.Rules.{rules}
-use Prim.Native.Nat.{◌+◌, ◌*◌, ◌-◌}
+use Prim.Native.Nat.{◌+◌, ◌*◌}
 use Rattle.written.specs.Bytes.{same}
 use Rattle.head_words.specs.Words.{span_at}
 use Rattle.text_parts.specs.Parts.{bytes_of}
-use Rattle.load_choose.proofs.Search.{Down, down_none, down_here, down_on}
-use native.Mathlib.Omega.{arith}
-use mathlib.Core.Path.{refl, sym, ap, ◌∙◌}
+use Rattle.load_choose.proofs.Search.{Down}
 use Rattle.load_choose.proofs.find_group.Given as goal
 
 abbrev pub invariant-loop-k : goal.invariant-loop-k

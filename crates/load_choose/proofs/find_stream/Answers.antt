@@ -1,5 +1,4 @@
 -- `load_choose::find_stream` meets its contract.
-use borrow.Author.Rules.{rules}
 use Rattle.load_choose.proofs.Words.{Counts, counts, stream_found}
 use mathlib.Core.Path.{sym, ◌∙◌}
 use native.Mathlib.Omega.{arith}

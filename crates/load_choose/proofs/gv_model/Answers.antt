@@ -1,5 +1,4 @@
 -- `load_choose::gv_model` meets its contract.
-use borrow.Author.Rules.{rules}
 use Rattle.load_choose.specs.Chosen.{model_of, gv_by}
 use Rattle.head_words.specs.Words.{word_at, range_at, stream_at, position_at}
 use mathlib.Core.Bool.{cond}

@@ -1,5 +1,4 @@
 -- `load_choose::has_gv` meets its contract.
-use borrow.Author.Rules.{rules}
 use Rattle.head_words.specs.Words.{word_at, stream_at, position_at}
 use Prim.Native.Nat.{◌+◌}
 use borrow.Author.Tests.{eq-eqb, ne_eqb}

@@ -1,5 +1,4 @@
 -- `load_choose::model` meets its contract.
-use borrow.Author.Rules.{rules}
 use Prim.Native.Nat.{◌+◌, ◌*◌, ◌<◌}
 use mir.Val.{bool_byte}
 use Rattle.head_words.specs.Words.{range_at}

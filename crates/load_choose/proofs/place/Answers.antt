@@ -1,5 +1,4 @@
 -- `load_choose::place` meets its contract.
-use borrow.Author.Rules.{rules}
 use Rattle.load_choose.specs.Chosen.{model_of, asked_by}
 use Rattle.head_words.specs.Words.{word_at, range_at, global_at, header_at}
 use mathlib.Core.Bool.{cond}

@@ -1,5 +1,4 @@
 -- `load_choose::stream_model` meets its contract.
-use borrow.Author.Rules.{rules}
 use Rattle.load_choose.specs.Chosen.{bit, model_of, stream_by}
 use Rattle.head_words.specs.Words.{word_at, range_at, stream_at, position_at}
 use lib.Dec.{eqb}

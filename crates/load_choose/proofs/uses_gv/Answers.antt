@@ -1,10 +1,9 @@
 -- `load_choose::uses_gv` meets its contract.
-use borrow.Author.Rules.{rules}
-use Rattle.load_choose.proofs.Words.{Counts, counts, k_inside, no_stream_uses, stream_uses}
+use Rattle.load_choose.proofs.Words.{counts, k_inside, no_stream_uses, stream_uses}
 use mathlib.Core.Path.{sym, ◌∙◌}
 use Prim.Native.Nat.{◌<◌}
 use native.Mathlib.Omega.{arith}
-use Rattle.load_choose.proofs.uses_gv.Goals.{In-At, Start}
+use Rattle.load_choose.proofs.uses_gv.Goals.{In-At}
 use Rattle.load_choose.proofs.uses_gv.Goals as goal
 
 -- the group found is among the eight

@@ -1,7 +1,6 @@
 -- `load_model::answer`: each way that linking ends.
 use mathlib.Core.Path.{sym, ap}
 use Rattle.load_model.specs.Load.{answer_for}
-use borrow.Author.Rules.{rules}
 use Rattle.load_model.proofs.answer.Goals as goal
 
 pub returns-in-Done : goal.returns-in-Done

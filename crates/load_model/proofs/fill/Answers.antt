@@ -3,7 +3,6 @@ use native.Mathlib.Omega.{arith}
 use lib.ListN.{length}
 use Rattle.load_model.specs.Load.{lent}
 use Rattle.load_model.proofs.Laws.{text_fits, block_fits, small_values, fill_done, fill_zero}
-use borrow.Author.Rules.{rules}
 use Rattle.load_model.proofs.fill.Goals as goal
 
 pub fill_text-linked-requires : goal.fill_text-linked-requires

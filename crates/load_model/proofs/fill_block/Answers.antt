@@ -1,6 +1,5 @@
 -- `load_model::fill_block`: the block's size gives the room.
 use Rattle.load_model.proofs.Laws.{rows_fit, values_fit}
-use borrow.Author.Rules.{rules}
 use Rattle.load_model.proofs.fill_block.Goals as goal
 
 pub fill_blocks-requires : goal.fill_blocks-requires

@@ -1,5 +1,4 @@
 -- `load_plan::data_of`: the part of the file that two words say.
-use borrow.Author.Rules.{rules}
 use Rattle.head_words.specs.Words.{header_at}
 use Rattle.load_plan.proofs.data_of.Goals as goal
 

@@ -2,7 +2,6 @@
 use mathlib.Core.Path.{sym, ◌∙◌}
 use Rattle.head_words.specs.Words.{header_at}
 use Rattle.load_plan.proofs.Laws.{needs_refused, needs_model}
-use borrow.Author.Rules.{rules}
 use Rattle.load_plan.proofs.needs.Goals as goal
 
 pub returns-in-Refused : goal.returns-in-Refused

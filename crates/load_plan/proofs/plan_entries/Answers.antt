@@ -1,7 +1,6 @@
 -- `load_plan::plan_entries`: the block's entries, or 19.
 use mathlib.Core.Path.{sym, ap, ◌∙◌}
 use Rattle.load_plan.specs.Plans.{entries_for, entries_of}
-use borrow.Author.Rules.{rules}
 use Rattle.load_plan.proofs.plan_entries.Goals as goal
 
 pub returns-in-Fits : goal.returns-in-Fits

@@ -1,7 +1,6 @@
 -- `load_plan::plan_model`: the text in its range, and its block.
 use mathlib.Core.Path.{sym, ◌∙◌}
 use Rattle.load_plan.proofs.Laws.{plan_outside, plan_inside}
-use borrow.Author.Rules.{rules}
 use Rattle.load_plan.proofs.plan_model.Goals as goal
 
 pub returns-in-Outside : goal.returns-in-Outside

@@ -2,7 +2,6 @@
 use mathlib.Core.Path.{sym, ◌∙◌}
 use Rattle.tree_survey.proofs.Whole.{no_questions, no_trees, a_negative, counted}
 use Rattle.load_plan.proofs.Laws.{text_read_lem, text_state, text_broken, text_none}
-use borrow.Author.Rules.{rules}
 use Rattle.load_plan.proofs.read_text.Goals as goal
 
 pub returns-then-negative : goal.returns-then-negative

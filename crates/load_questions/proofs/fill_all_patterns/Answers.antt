@@ -1,7 +1,6 @@
 -- `load_questions::fill_all_patterns`: from the first question on, or none.
 use mathlib.Core.Path.{sym, ◌∙◌}
 use Rattle.load_questions.proofs.Patterns.{first_patterns, first_done, first_listed, none_listed}
-use borrow.Author.Rules.{rules}
 use Rattle.load_questions.proofs.fill_all_patterns.Goals as goal
 
 pub fill_patterns_from-requires : goal.fill_patterns_from-requires

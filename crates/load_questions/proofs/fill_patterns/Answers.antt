@@ -1,11 +1,8 @@
 -- `load_questions::fill_patterns`: what is left, stored and counted, gives the table and the count with all of them.
 use mathlib.Core.Path.{refl, sym, ◌∙◌}
-use Prim.Native.Nat.{◌-◌}
 use native.Mathlib.Omega.{arith}
-use lib.ListN.{length}
-use borrow.Author.Rules.{rules}
-use Rattle.tree_survey_questions.proofs.Counting.{next_in, last_in, Counting, counted_more, counted_last, counted_broken}
-use Rattle.load_questions.proofs.Patterns.{Matching, matching_none, next_fits, matching_more, last_fits, matching_last, matching_broken}
+use Rattle.tree_survey_questions.proofs.Counting.{next_in, last_in, counted_more, counted_last, counted_broken}
+use Rattle.load_questions.proofs.Patterns.{matching_none, next_fits, matching_more, last_fits, matching_last, matching_broken}
 use Rattle.load_questions.proofs.fill_patterns.Goals as goal
 
 pub loop-start-init : goal.loop-start-init

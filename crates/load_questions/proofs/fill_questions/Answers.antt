@@ -1,7 +1,6 @@
 -- `load_questions::fill_questions`: from the first question on, or none.
 use mathlib.Core.Path.{sym, ◌∙◌}
 use Rattle.load_questions.proofs.Laws.{first_room, first_asked, none_asked}
-use borrow.Author.Rules.{rules}
 use Rattle.load_questions.proofs.fill_questions.Goals as goal
 
 pub fill_questions_from-requires : goal.fill_questions_from-requires

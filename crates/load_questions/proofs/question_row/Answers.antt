@@ -1,7 +1,6 @@
 -- `load_questions::question_row`: each way through is the answer.
 use mathlib.Core.Path.{sym, ◌∙◌}
 use Rattle.load_questions.proofs.Laws.{row_next, row_last, row_broken, row_none}
-use borrow.Author.Rules.{rules}
 use Rattle.load_questions.proofs.question_row.Goals as goal
 
 pub returns-in-Question : goal.returns-in-Question

@@ -1,5 +1,4 @@
 -- `load_range::product` meets its contract.
-use borrow.Author.Rules.{rules}
 use Prim.Native.Nat.{◌<◌}
 use Rattle.load_range.proofs.Laws.{none_left, none_right, large_left, large_right, small}
 use native.Mathlib.Omega.{arith}

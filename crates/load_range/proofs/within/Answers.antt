@@ -1,5 +1,4 @@
 -- `load_range::within` meets its contract.
-use borrow.Author.Rules.{rules}
 use Rattle.load_range.proofs.Laws.{starts_behind, ends_behind, stands_inside}
 use Rattle.load_range.proofs.within.Goals as goal
 

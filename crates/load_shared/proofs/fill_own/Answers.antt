@@ -4,7 +4,6 @@ use borrow.Rule.Slice.PartMut.{same_len_mid}
 use Rattle.load_model.proofs.Laws.{small_values}
 use Rattle.load_bounds.specs.Bounds.{side_of}
 use Rattle.load_shared.proofs.Laws.{parts_room, own_filled}
-use borrow.Author.Rules.{rules}
 use Rattle.load_shared.proofs.fill_own.Goals as goal
 
 pub overflow_mul-n : goal.overflow_mul-n

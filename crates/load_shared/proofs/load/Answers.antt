@@ -6,7 +6,6 @@ use Rattle.load_plan.proofs.Laws.{needs_sound}
 use Rattle.load_model.specs.Load.{lent}
 use Rattle.load_bounds.specs.Bounds.{side_of, held_of}
 use Rattle.load_shared.proofs.Laws.{load_refused, load_model}
-use borrow.Author.Rules.{rules}
 use Rattle.load_shared.proofs.load.Goals as goal
 
 pub load_planned-requires : goal.load_planned-requires

@@ -4,7 +4,6 @@ use Rattle.load_model.specs.Load.{lent}
 use Rattle.load_model.proofs.Laws.{small_values}
 use Rattle.load_bounds.specs.Bounds.{side_of, held_of}
 use Rattle.load_shared.proofs.Laws.{load_no_rows, load_no_lines, load_filled, load_fits}
-use borrow.Author.Rules.{rules}
 use Rattle.load_shared.proofs.load_planned.Goals as goal
 
 pub need-requires : goal.need-requires

@@ -4,7 +4,6 @@ use Rattle.link_order.specs.Keys.{key_of, name_key, name_at}
 use Rattle.link_search.specs.Found.{count_from}
 use Rattle.link_search.proofs.Last.{length-count}
 use Rattle.link_tree.proofs.Whole.{sorted_part}
-use borrow.Author.Rules.{rules}
 use Rattle.load_text.proofs.index_names.Goals as goal
 
 pub returns : goal.returns

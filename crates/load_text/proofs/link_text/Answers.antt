@@ -4,7 +4,6 @@ use native.Mathlib.Omega.{arith}
 use lib.Seq.{sets}
 use Rattle.load_text.specs.Text.{name_index}
 use Rattle.load_text.proofs.Laws.{asked_of, index_room, asked_words, index_count, is_index, linked_as, rows_as, records_as, work_as}
-use borrow.Author.Rules.{rules}
 use Rattle.load_text.proofs.link_text.Goals as goal
 
 pub index_names-requires : goal.index_names-requires

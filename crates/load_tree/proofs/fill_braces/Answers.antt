@@ -6,8 +6,6 @@ use lib.Seq.{sets}
 use Rattle.tree_line.specs.Lines.{lines_at}
 use Rattle.load_tree.specs.Bodies.{Result}
 use Rattle.load_tree.proofs.Laws.{counted_lines, counted_some, counted_end, counted-needed, counted_always, one_result, one_record, linked_room, linked_needed, linked_is}
-use borrow.Author.Rules.{rules}
-use borrow.Author.Rules.{rules}
 use Rattle.load_tree.proofs.fill_braces.Goals as goal
 
 pub single_of-requires : goal.single_of-requires

@@ -2,7 +2,6 @@
 use mathlib.Core.Path.{refl, sym, ap, ◌∙◌}
 use Rattle.load_tree.specs.Bodies.{link_ends}
 use Rattle.load_tree.proofs.Laws.{linked_part, part_length}
-use borrow.Author.Rules.{rules}
 use Rattle.load_tree.proofs.link_lines.Goals as goal
 
 pub returns-in-Done : goal.returns-in-Done

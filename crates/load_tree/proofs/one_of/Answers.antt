@@ -1,6 +1,5 @@
 -- `load_tree::one_of` meets its contract.
 use Rattle.load_tree.proofs.Laws.{one_same, one_other}
-use borrow.Author.Rules.{rules}
 use Rattle.load_tree.proofs.one_of.Goals as goal
 
 pub returns-then-same_index : goal.returns-then-same_index

@@ -1,7 +1,6 @@
 -- `load_tree::single_of`: by the first line.
 use mathlib.Core.Path.{sym, ◌∙◌}
 use Rattle.load_tree.proofs.Laws.{single_many, single_on, single_last, single_broken}
-use borrow.Author.Rules.{rules}
 use Rattle.load_tree.proofs.single_of.Goals as goal
 
 pub returns-then-lines-ne1 : goal.returns-then-lines-ne1

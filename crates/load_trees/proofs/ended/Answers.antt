@@ -1,7 +1,6 @@
 -- `load_trees::ended`: each way that a tree ends.
 use mathlib.Core.Path.{sym, ap}
 use Rattle.load_trees.specs.Trees.{ended_at}
-use borrow.Author.Rules.{rules}
 use Rattle.load_trees.proofs.ended.Goals as goal
 
 pub returns-in-Refused : goal.returns-in-Refused

@@ -3,8 +3,6 @@ use lib.ListN.{length}
 use mathlib.Core.Path.{refl}
 use Rattle.load_trees.proofs.Laws.{by_head, empty_head, no_head, whole_lines, room_by}
 use native.Mathlib.Omega.{arith}
-use borrow.Author.Rules.{rules}
-use borrow.Author.Rules.{rules}
 use Rattle.load_trees.proofs.fill_body.Goals as goal
 
 pub fill_leaf-requires : goal.fill_leaf-requires

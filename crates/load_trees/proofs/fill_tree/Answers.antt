@@ -5,7 +5,6 @@ use lib.ListN.{length}
 use lib.Seq.{sets}
 use Rattle.load_trees.specs.Trees.{head_state, Whole, row_words}
 use Rattle.load_trees.proofs.Laws.{by_head, room_by}
-use borrow.Author.Rules.{rules}
 use Rattle.load_trees.proofs.fill_tree.Goals as goal
 
 pub fill_body-t-requires : goal.fill_body-t-requires

@@ -1,9 +1,7 @@
 -- `load_trees::fill_trees`: what is left, stored, gives the tables with all trees.
 use Prim.Native.Nat.{◌-◌}
-use native.Mathlib.Omega.{arith}
 use lib.ListN.{length}
-use borrow.Author.Rules.{rules}
-use Rattle.load_trees.proofs.Loop.{Filling, filling_none, tree_whole, tree_room, same_lengths, filling_on, filling_ends}
+use Rattle.load_trees.proofs.Loop.{Filling}
 use Rattle.load_trees.proofs.fill_trees.Given as goal
 
 abbrev pub invariant-loop-next : goal.invariant-loop-next

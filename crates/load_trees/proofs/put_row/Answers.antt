@@ -4,7 +4,6 @@ use Prim.Native.Nat.{◌*◌}
 use lib.Seq.{sets}
 use Rattle.load_tree.specs.declared.Filled.{Filled}
 use Rattle.load_trees.specs.Trees.{row_words}
-use borrow.Author.Rules.{rules}
 use Rattle.load_trees.proofs.put_row.Goals as goal
 
 pub returns-in-Done : goal.returns-in-Done

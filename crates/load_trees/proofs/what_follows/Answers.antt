@@ -2,7 +2,6 @@
 use mathlib.Core.Path.{sym, ap, ◌∙◌}
 use Rattle.load_trees.specs.Trees.{ended_at, follows_step, follows_at}
 use Rattle.load_trees.specs.declared.Following.TheVariants as following
-use borrow.Author.Rules.{rules}
 use Rattle.load_trees.proofs.what_follows.Goals as goal
 
 pub returns-in-Next : goal.returns-in-Next

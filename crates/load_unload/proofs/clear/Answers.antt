@@ -1,7 +1,6 @@
 -- `load_unload::clear`: the part comes back zero.
 use native.Mathlib.Omega.{arith}
 use Rattle.load_unload.proofs.Laws.{cleared-part}
-use borrow.Author.Rules.{rules}
 use Rattle.load_unload.proofs.clear.Goals as goal
 
 pub offset_bounds-t-a : goal.offset_bounds-t-a

@@ -4,7 +4,6 @@ use Rattle.written.specs.Sharing.{questions, patterns, trees, records, values}
 use Rattle.load_bounds.specs.Bounds.{side_of, held_of}
 use Rattle.load_bounds.proofs.Laws.{stood, not_stood, stood_rows}
 use Rattle.load_unload.proofs.Laws.{cleared_is, unload_not, unload_done}
-use borrow.Author.Rules.{rules}
 use Rattle.load_unload.proofs.unload.Goals as goal
 
 pub returns-then-not-stand : goal.returns-then-not-stand

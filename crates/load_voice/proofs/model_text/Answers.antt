@@ -1,5 +1,4 @@
 -- `load_voice::model_text` meets its contract.
-use borrow.Author.Rules.{rules}
 use Rattle.load_voice.proofs.Laws.{model_refused, model_in}
 use Rattle.head_words.specs.Words.{header_at}
 use mathlib.Core.Path.{sym, ◌∙◌}

@@ -1,5 +1,4 @@
 -- `load_voice::next_model` meets its contract.
-use borrow.Author.Rules.{rules}
 use Rattle.load_voice.specs.Voice.{InTypes, next_model}
 use Rattle.load_choose.proofs.Words.{counts}
 use Rattle.head_words.specs.Words.{word_at, global_at, header_at}

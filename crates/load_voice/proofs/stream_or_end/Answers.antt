@@ -1,5 +1,4 @@
 -- `load_voice::stream_or_end` meets its contract.
-use borrow.Author.Rules.{rules}
 use Rattle.load_voice.specs.Voice.{next_stream}
 use Rattle.head_words.specs.Words.{word_at, global_at, header_at}
 use borrow.Author.Tests.{lt-ltb, le-ltb}

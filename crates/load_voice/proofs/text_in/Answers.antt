@@ -1,5 +1,4 @@
 -- `load_voice::text_in` meets its contract.
-use borrow.Author.Rules.{rules}
 use Rattle.load_voice.proofs.Laws.{text_outside, text_inside}
 use mathlib.Core.Path.{sym, ◌∙◌}
 use Rattle.load_voice.proofs.text_in.Goals as goal

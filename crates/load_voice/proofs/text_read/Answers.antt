@@ -1,5 +1,4 @@
 -- `load_voice::text_read` meets its contract.
-use borrow.Author.Rules.{rules}
 use Rattle.load_voice.specs.Voice.{text_by}
 use mathlib.Core.Path.{sym, ap}
 use Rattle.load_voice.proofs.text_read.Goals as goal

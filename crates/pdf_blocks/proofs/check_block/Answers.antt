@@ -13,7 +13,6 @@ use Rattle.pdf_blocks.specs.Values.{block_at}
 use Rattle.pdf_blocks.specs.declared.Block.{Block}
 use Rattle.pdf_blocks.specs.declared.Block.TheVariants.{Fits, Wrong}
 use Rattle.pdf_blocks.proofs.Counts.{total_none, block_short, block_other, block_fits, flat-fits, flat_left, flat-counts, not_whole, not_many, just_fits}
-use borrow.Author.Rules.{rules}
 use Rattle.pdf_blocks.proofs.check_block.Goals as goal
 
 -- no bytes at all

@@ -1,10 +1,8 @@
 -- `pdf_blocks::count_entries`: the sum so far and that of what is left is the whole.
-use mathlib.Core.Path.{◌≡◌, ◌∙◌}
+use mathlib.Core.Path.{◌≡◌}
 use Prim.Native.Nat.{◌+◌, ◌*◌, ◌≤◌}
-use native.Mathlib.Omega.{arith}
 use Rattle.written.specs.Blocks.{total}
 use Rattle.pdf_blocks.specs.Values.{words_at}
-use Rattle.pdf_blocks.proofs.Counts.{total_on, total_none, cap_over, cap_in}
 use Rattle.pdf_blocks.proofs.count_entries.Given as goal
 
 abbrev pub invariant-loop-left : goal.invariant-loop-left

@@ -1,7 +1,6 @@
 -- `pdf_values::fill_blocks`: what is left, stored, gives the table with all rows.
-use Prim.Native.Nat.{◌-◌}
 use native.Mathlib.Omega.{arith}
-use Rattle.pdf_values.proofs.Laws.{Setting, set_none, row_room, set_more, set_done}
+use Rattle.pdf_values.proofs.Laws.{set_none, row_room, set_more, set_done}
 use Rattle.pdf_values.proofs.fill_blocks.Goals as goal
 
 pub loop-k-init : goal.loop-k-init

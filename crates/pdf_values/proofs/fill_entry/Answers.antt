@@ -2,7 +2,6 @@
 use mathlib.Core.Path.{ap}
 use native.Mathlib.Omega.{arith}
 use Rattle.pdf_values.proofs.Laws.{bit, length_entry, entry_even, entry_odd}
-use borrow.Author.Rules.{rules}
 use Rattle.pdf_values.proofs.fill_entry.Goals as goal
 
 pub overflow_mul-half : goal.overflow_mul-half

@@ -1,7 +1,6 @@
 -- `pdf_values::fill_pairs`: what is left, stored, gives the table with all of them.
 use Prim.Native.Nat.{◌-◌}
-use native.Mathlib.Omega.{arith}
-use Rattle.pdf_values.proofs.Laws.{Pairing, pair_none, pair_more, pair_done}
+use Rattle.pdf_values.proofs.Laws.{Pairing}
 use Rattle.pdf_values.proofs.fill_pairs.Given as goal
 
 abbrev pub invariant-loop-k : goal.invariant-loop-k

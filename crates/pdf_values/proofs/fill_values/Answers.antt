@@ -1,6 +1,6 @@
 -- `pdf_values::fill_values`: what is left, stored, gives the table with all of them.
 use native.Mathlib.Omega.{arith}
-use Rattle.pdf_values.proofs.Laws.{Storing, store_none, entry_room, next_room, store_more, store_done}
+use Rattle.pdf_values.proofs.Laws.{store_none, entry_room, next_room, store_more, store_done}
 use Rattle.pdf_values.proofs.fill_values.Goals as goal
 
 pub loop-left-init : goal.loop-left-init

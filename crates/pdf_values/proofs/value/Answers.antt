@@ -1,7 +1,6 @@
 -- `pdf_values::value` meets its contract.
 use mathlib.Core.Path.{ap, ◌∙◌}
 use Rattle.pdf_widen.specs.Widening.{widen_of}
-use borrow.Author.Rules.{rules}
 use Rattle.pdf_values.proofs.value.Goals as goal
 
 pub returns : goal.returns

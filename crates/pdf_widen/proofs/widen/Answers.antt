@@ -2,7 +2,6 @@
 use mathlib.Core.Path.{◌≡◌, sym, ◌∙◌}
 use Prim.Native.Nat.{ℕ, ◌+◌, ◌*◌, ◌/◌, ◌%◌, ◌≤◌, ◌<◌}
 use native.Mathlib.Omega.{arith}
-use borrow.Author.Rules.{rules}
 use Rattle.written.specs.Interchange.{bias, join, sign_of, exponent_of, fraction_of}
 use Rattle.pdf_widen.specs.Widening.{widen_of}
 use Rattle.pdf_widen.proofs.Cases.{wide_normal}

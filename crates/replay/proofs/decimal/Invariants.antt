@@ -1,6 +1,5 @@
 -- `replay::decimal`: a digit a turn.
 use Prim.Native.Nat.{◌≤◌}
-use borrow.Author.Rules.{rules}
 use Rattle.replay.proofs.decimal.Given as goal
 
 abbrev pub invariant-loop-k : goal.invariant-loop-k

@@ -1,6 +1,5 @@
 -- `replay_trees::lines`: each turn reads a line.
 use Prim.Native.Nat.{◌-◌, ◌≤◌}
-use borrow.Author.Rules.{rules}
 use Rattle.replay_trees.proofs.lines.Given as goal
 
 abbrev pub invariant-loop : goal.invariant-loop

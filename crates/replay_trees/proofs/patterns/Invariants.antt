@@ -1,6 +1,5 @@
 -- `replay_trees::patterns`: each turn reads a pattern.
 use Prim.Native.Nat.{◌-◌, ◌≤◌}
-use borrow.Author.Rules.{rules}
 use Rattle.replay_trees.proofs.patterns.Given as goal
 
 abbrev pub invariant-loop : goal.invariant-loop

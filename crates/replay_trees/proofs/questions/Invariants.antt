@@ -1,6 +1,5 @@
 -- `replay_trees::questions`: each turn reads a question.
 use Prim.Native.Nat.{◌-◌, ◌≤◌}
-use borrow.Author.Rules.{rules}
 use Rattle.replay_trees.proofs.questions.Given as goal
 
 abbrev pub invariant-loop : goal.invariant-loop

@@ -1,6 +1,5 @@
 -- `replay_trees::trees`: each turn reads a tree.
 use Prim.Native.Nat.{◌-◌, ◌≤◌}
-use borrow.Author.Rules.{rules}
 use Rattle.replay_trees.proofs.trees.Given as goal
 
 abbrev pub invariant-loop : goal.invariant-loop

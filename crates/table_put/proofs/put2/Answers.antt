@@ -2,7 +2,6 @@
 use native.Mathlib.Numerals.{add-one}
 use native.Mathlib.Omega.{arith}
 use lib.ListN.{length-set}
-use borrow.Author.Rules.{rules}
 use Rattle.table_put.proofs.put2.Goals as goal
 
 pub bounds-t-k-2 : goal.bounds-t-k-2

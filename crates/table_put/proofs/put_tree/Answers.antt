@@ -4,7 +4,6 @@ use mathlib.Core.List.{List, [], ◌∷◌}
 use Prim.Native.Nat.{ℕ, ◌+◌, ◌*◌}
 use lib.Seq.{sets}
 use Rattle.laws.proofs.Tables.{sets-append}
-use borrow.Author.Rules.{rules}
 use Rattle.table_put.proofs.put_tree.Goals as goal
 
 pub returns : goal.returns

@@ -1,8 +1,6 @@
 -- `table_put::zero`: what is left to store gives the whole.
-use Prim.Native.Nat.{◌-◌}
 use native.Mathlib.Omega.{arith}
-use lib.ListN.{length}
-use Rattle.laws.proofs.Tables.{Filling, filling_none, filling_more, filling_done}
+use Rattle.laws.proofs.Tables.{filling_none, filling_more, filling_done}
 use Rattle.table_put.proofs.zero.Goals as goal
 
 pub loop-k-init : goal.loop-k-init

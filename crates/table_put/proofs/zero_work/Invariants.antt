@@ -1,9 +1,8 @@
 -- `table_put::zero_work`: what is left to store gives the whole.
 use Prim.Native.Nat.{◌-◌}
-use native.Mathlib.Omega.{arith}
 use lib.ListN.{length}
 use lib.IntN.{pos}
-use Rattle.laws.proofs.Tables.{Filling, filling_none, filling_more, filling_done}
+use Rattle.laws.proofs.Tables.{Filling}
 use Rattle.table_put.proofs.zero_work.Given as goal
 
 abbrev pub invariant-loop-k : goal.invariant-loop-k

@@ -1,5 +1,4 @@
 -- `table_rows::record_there`: past the count, past the table, or by what is left of the table.
-use borrow.Author.Rules.{rules}
 use Rattle.table_rows.proofs.Stand.{past_count, past_table, in_table}
 use Rattle.table_rows.proofs.record_there.Goals as goal
 

@@ -1,6 +1,5 @@
 -- `table_rows::row_there`: past the rows, or by what is left of them.
 use Rattle.table_rows.proofs.Stand.{past_rows, in_rows}
-use borrow.Author.Rules.{rules}
 use Rattle.table_rows.proofs.row_there.Goals as goal
 
 pub returns-then-many-first : goal.returns-then-many-first

@@ -1,5 +1,5 @@
 -- `text_base::blank_end`: the place where the run stops is the same from each place that the loop passes, over the spaces ahead too.
-use Rattle.std.proofs.Common.{◌≡◌, ℕ, ◌+◌, ◌-◌, ◌<◌, true, length, sym, ◌∙◌, arith, rules}
+use Rattle.std.proofs.Common.{◌≡◌, ℕ, ◌+◌, ◌<◌, true, length, sym, ◌∙◌, arith}
 use borrow.Author.Tests.{not-true, not-false}
 use Rattle.written.specs.Bytes.{blank}
 use Rattle.laws.specs.Runs.{stop}

@@ -1,11 +1,7 @@
 -- `text_base::blank_end`: the place where the run stops is the same from each place that the loop passes, over the spaces ahead too.
-use Rattle.std.proofs.Common.{◌≡◌, ℕ, ◌+◌, ◌-◌, ◌<◌, true, length, sym, ◌∙◌, arith, rules}
-use borrow.Author.Tests.{not-true, not-false}
+use Rattle.std.proofs.Common.{◌≡◌, ◌-◌, length}
 use Rattle.written.specs.Bytes.{blank}
 use Rattle.laws.specs.Runs.{stop}
-use Rattle.laws.proofs.Runs.{stop_on, stop_here, stop_end}
-use Rattle.text_base.specs.Ahead.{is_space}
-use Rattle.text_base.proofs.Ahead.{past_in, stop_past, eight_in, stop_eight}
 use Rattle.text_base.proofs.blank_end.Given as goal
 
 abbrev pub invariant-loop-i : goal.invariant-loop-i

@@ -1,5 +1,5 @@
 -- `text_base::byte_at` meets its contract.
-use Rattle.std.proofs.Common.{sym, ◌∙◌, rules}
+use Rattle.std.proofs.Common.{sym, ◌∙◌}
 use Rattle.laws.proofs.Runs.{byte_is, byte_out}
 use Rattle.text_base.proofs.byte_at.Goals as goal
 

@@ -1,5 +1,5 @@
 -- `text_base::class_of`: each set has the bytes of its class, at each of the 256.
-use Rattle.std.proofs.Common.{◌≡◌, ℕ, ◌<◌, Bool, sym, refl, ◌∙◌, arith, rules}
+use Rattle.std.proofs.Common.{◌≡◌, ℕ, ◌<◌, Bool, sym, refl, ◌∙◌, arith}
 use Rattle.written.specs.Bytes.{letter, digit, wildcard, mark, one_of}
 use Rattle.text_base.specs.Classes.{in_set, class_of}
 use Rattle.text_base.proofs.Keys.{same_at}

@@ -1,5 +1,5 @@
 -- `text_base::eight`: the bytes at their weights.
-use Rattle.std.proofs.Common.{arith, rules}
+use Rattle.std.proofs.Common.{arith}
 use Rattle.text_base.proofs.Ahead.{eight_bytes}
 use Rattle.text_base.proofs.eight.Goals as goal
 

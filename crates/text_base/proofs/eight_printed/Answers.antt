@@ -1,5 +1,5 @@
 -- `text_base::eight_printed`: no top bit is set where all eight are printed bytes.
-use Rattle.std.proofs.Common.{eqb, sym, ap, ◌∙◌, arith, rules}
+use Rattle.std.proofs.Common.{eqb, sym, ap, ◌∙◌, arith}
 use borrow.Author.Tests.{not-true}
 use Rattle.text_base.proofs.Ahead.{ahead_none, nine_in, all_printed}
 use Rattle.text_base.proofs.eight_printed.Goals as goal

@@ -1,5 +1,5 @@
 -- `text_base::eight_spaces`: the eight bytes make one number where all are spaces, and no other.
-use Rattle.std.proofs.Common.{eqb, sym, ap, ◌∙◌, arith, rules}
+use Rattle.std.proofs.Common.{eqb, sym, ap, ◌∙◌, arith}
 use borrow.Author.Tests.{not-true}
 use Rattle.text_base.proofs.Ahead.{ahead_none, nine_in, all_spaces}
 use Rattle.text_base.proofs.eight_spaces.Goals as goal

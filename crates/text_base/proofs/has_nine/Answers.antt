@@ -1,5 +1,5 @@
 -- `text_base::has_nine`: two comparisons, the second of a difference that doesn't wrap.
-use Rattle.std.proofs.Common.{◌+◌, length, sym, arith, rules, le-ltb}
+use Rattle.std.proofs.Common.{◌+◌, length, sym, arith, le-ltb}
 use Rattle.text_base.proofs.Ahead.{nine_of}
 use Rattle.text_base.proofs.has_nine.Goals as goal
 

@@ -1,5 +1,5 @@
 -- `text_base::in_set`: the bit of the byte, in the first or the second half.
-use Rattle.std.proofs.Common.{◌≡◌, ℕ, ◌/◌, ◌^◌, ◌<◌, ◌≤◌, Bool, eqb, ap, ◌∙◌, ⊎_elim, arith, le-ltb, lt-ltb}
+use Rattle.std.proofs.Common.{◌≡◌, ℕ, ◌/◌, ◌^◌, ◌<◌, ◌≤◌, Bool, eqb, ap, ◌∙◌, arith, le-ltb, lt-ltb}
 use lib.Bits.{bit_and, and_le_r}
 use Rattle.text_base.specs.Classes.{in_set}
 use Rattle.text_base.proofs.in_set.Goals.{then-b-lt64, else-b-lt64}

@@ -1,5 +1,5 @@
 -- `text_base::is_letter`: `a` to `z` at once, and behind that only the other range can hold.
-use Rattle.std.proofs.Common.{◌≡◌, ℕ, ◌<◌, ◌≤◌, Bool, true, false, ◌||◌, leb, ◌⊎◌, sym, refl, inl, inr, ⊎_elim, arith, le-leb, leb-false, leb-true}
+use Rattle.std.proofs.Common.{◌≡◌, ℕ, ◌<◌, ◌≤◌, Bool, true, false, ◌||◌, leb, ◌⊎◌, sym, refl, inl, inr, ⊎_elim, arith, le-leb, leb-true}
 use borrow.Author.Tests.{lt-leb}
 use Rattle.written.specs.Bytes.{letter}
 use Rattle.text_base.proofs.is_letter.Goals.{else-b-ge97-via-then-b-ge97+else-b-le122, else-b-ge97-via-else-b-ge97}

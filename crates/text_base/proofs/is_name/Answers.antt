@@ -1,5 +1,5 @@
 -- `text_base::is_name`: printed ASCII at once, and of the other bytes all that are below the space but for the newline.
-use Rattle.std.proofs.Common.{◌≡◌, ℕ, ◌<◌, ◌≤◌, true, not, eqb, ltb, ◌⊎◌, sym, inl, inr, ⊎_elim, arith, le-ltb, ne_eqb, le-leb, leb-false, leb-true}
+use Rattle.std.proofs.Common.{◌≡◌, ℕ, ◌<◌, ◌≤◌, true, not, eqb, ltb, ◌⊎◌, sym, inl, inr, ⊎_elim, arith, le-ltb, ne_eqb, le-leb, leb-true}
 use borrow.Author.Tests.{lt-leb}
 use Rattle.written.specs.Bytes.{in_name, blank}
 use Rattle.text_base.proofs.is_name.Goals.{else-b-gt32-via-then-b-gt32+else-b-le127, else-b-gt32-via-else-b-gt32}

@@ -1,5 +1,5 @@
 -- `text_base::is_pattern`: usual bytes are in patterns, a quote is not, and else the test goes by the class, at each of the 256 bytes.
-use Rattle.std.proofs.Common.{◌≡◌, ℕ, ◌<◌, Bool, true, false, ◌||◌, sym, refl, ap, ◌∙◌, arith, rules}
+use Rattle.std.proofs.Common.{◌≡◌, ℕ, ◌<◌, Bool, true, false, ◌||◌, sym, refl, ap, ◌∙◌, arith}
 use Rattle.written.specs.Bytes.{letter, digit, wildcard, mark, one_of, in_pattern}
 use Rattle.text_base.specs.Classes.{class_of, usual}
 use Rattle.text_base.specs.declared.Class.{Class}

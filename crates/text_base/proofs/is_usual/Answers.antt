@@ -1,5 +1,5 @@
 -- `text_base::is_usual`: the bits are those of the bytes, at each of the 256.
-use Rattle.std.proofs.Common.{◌≡◌, ℕ, ◌<◌, refl, ◌∙◌, arith, rules}
+use Rattle.std.proofs.Common.{◌≡◌, ℕ, ◌<◌, refl, ◌∙◌, arith}
 use Rattle.written.specs.Bytes.{letter, digit, one_of}
 use Rattle.text_base.specs.Classes.{in_set, usual}
 use Rattle.text_base.proofs.Keys.{same_at}

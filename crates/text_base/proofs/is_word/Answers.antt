@@ -1,5 +1,5 @@
 -- `text_base::is_word`: a letter, a digit, or the mark _.
-use Rattle.std.proofs.Common.{sym, ◌∙◌, rules}
+use Rattle.std.proofs.Common.{sym, ◌∙◌}
 use Rattle.written.specs.Bytes.{in_word}
 use Rattle.text_base.proofs.is_word.Goals as goal
 

@@ -1,5 +1,5 @@
 -- `text_base::name_end`: the place where the run stops is the same from each place that the loop passes, over the printed bytes ahead too.
-use Rattle.std.proofs.Common.{◌≡◌, ℕ, ◌+◌, ◌-◌, ◌<◌, true, length, sym, ◌∙◌, arith, rules, ne_eqb, le-leb}
+use Rattle.std.proofs.Common.{◌≡◌, ℕ, ◌+◌, ◌<◌, true, length, sym, ◌∙◌, arith, ne_eqb, le-leb}
 use borrow.Author.Tests.{not-true, not-false}
 use Rattle.written.specs.Bytes.{blank, in_name}
 use Rattle.laws.specs.Runs.{stop}

@@ -1,7 +1,5 @@
 -- `text_base::newline_end`: the place where the run stops is the same from each place that the loop passes.
-use Rattle.std.proofs.Common.{◌≡◌, ◌-◌, length, sym, ◌∙◌, rules, eq-eqb, ne_eqb}
-use Rattle.written.specs.Bytes.{is_newline}
-use Rattle.laws.specs.Runs.{stop}
+use Rattle.std.proofs.Common.{sym, ◌∙◌, eq-eqb, ne_eqb}
 use Rattle.laws.proofs.Runs.{stop_on, stop_here, stop_end}
 use Rattle.text_base.proofs.newline_end.Goals as goal
 

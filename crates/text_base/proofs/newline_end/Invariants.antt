@@ -1,8 +1,7 @@
 -- `text_base::newline_end`: the place where the run stops is the same from each place that the loop passes.
-use Rattle.std.proofs.Common.{◌≡◌, ◌-◌, length, sym, ◌∙◌, rules, eq-eqb, ne_eqb}
+use Rattle.std.proofs.Common.{◌≡◌, ◌-◌, length}
 use Rattle.written.specs.Bytes.{is_newline}
 use Rattle.laws.specs.Runs.{stop}
-use Rattle.laws.proofs.Runs.{stop_on, stop_here, stop_end}
 use Rattle.text_base.proofs.newline_end.Given as goal
 
 abbrev pub invariant-loop-i : goal.invariant-loop-i

@@ -1,5 +1,4 @@
 -- `text_base::not_printed`: the difference that wraps is the definition's.
-use Rattle.std.proofs.Common.{rules}
 use Rattle.text_base.proofs.Ahead.{is_unprinted}
 use Rattle.text_base.proofs.not_printed.Goals as goal
 

@@ -1,9 +1,7 @@
 -- `text_base::pattern_end`: the place where the run stops is the same from each place that the loop passes.
-use Rattle.std.proofs.Common.{◌≡◌, ◌-◌, length, sym, ◌∙◌, rules}
-use borrow.Author.Tests.{not-true, not-false}
+use Rattle.std.proofs.Common.{◌≡◌, ◌-◌, length}
 use Rattle.written.specs.Bytes.{in_pattern}
 use Rattle.laws.specs.Runs.{stop}
-use Rattle.laws.proofs.Runs.{stop_on, stop_here, stop_end}
 use Rattle.text_base.proofs.pattern_end.Given as goal
 
 abbrev pub invariant-loop-i : goal.invariant-loop-i

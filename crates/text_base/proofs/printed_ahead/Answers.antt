@@ -1,5 +1,5 @@
 -- `text_base::printed_ahead`: the zeros below the lowest top bit count the printed bytes, by eight for each.
-use Rattle.std.proofs.Common.{sym, ◌∙◌, arith, rules}
+use Rattle.std.proofs.Common.{sym, ◌∙◌, arith}
 use lib.Count.{trailing_le}
 use borrow.Author.Tests.{not-true}
 use Rattle.text_base.proofs.Ahead.{ahead_none, nine_in, ahead-unprinted}

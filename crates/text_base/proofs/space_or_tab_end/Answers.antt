@@ -1,8 +1,6 @@
 -- `text_base::space_or_tab_end`: the place where the run stops is the same from each place that the loop passes.
-use Rattle.std.proofs.Common.{◌≡◌, ◌-◌, length, sym, ◌∙◌, rules}
+use Rattle.std.proofs.Common.{sym, ◌∙◌}
 use borrow.Author.Tests.{not-true, not-false}
-use Rattle.written.specs.Bytes.{space_or_tab}
-use Rattle.laws.specs.Runs.{stop}
 use Rattle.laws.proofs.Runs.{stop_on, stop_here, stop_end}
 use Rattle.text_base.proofs.space_or_tab_end.Goals as goal
 

@@ -1,5 +1,5 @@
 -- `text_base::spaces_ahead`: the zeros at the low end of the difference count the spaces, by eight for each.
-use Rattle.std.proofs.Common.{sym, ◌∙◌, arith, rules}
+use Rattle.std.proofs.Common.{sym, ◌∙◌, arith}
 use lib.Count.{trailing_le}
 use borrow.Author.Tests.{not-true}
 use Rattle.text_base.proofs.Ahead.{ahead_none, nine_in, ahead_spaces}

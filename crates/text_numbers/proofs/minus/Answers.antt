@@ -6,7 +6,6 @@ use lib.IntN.{pos, neg_ℤ}
 use mir.Syntax.{w64}
 use mir.Val.{to_z}
 use mir.ValLaws.{to_z-neg}
-use borrow.Author.Rules.{rules}
 use Rattle.text_numbers.proofs.minus.Goals as goal
 
 flipped : (m : ℕ) → m ≤ 2 ^ 63 → (m ≡ 0 → ⊥) → to_z w64 (18446744073709551615 - (m - 1)) ≡ neg_ℤ (pos m)

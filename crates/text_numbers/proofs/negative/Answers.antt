@@ -11,7 +11,6 @@ use Rattle.text_numbers.specs.declared.Signed.{Signed}
 use Rattle.text_numbers.specs.declared.Signed.TheVariants.{Number, NoNumber}
 use Rattle.text_numbers.specs.declared.Unsigned.{Unsigned}
 use Rattle.text_numbers.specs.declared.Unsigned.TheVariants as unsigned
-use borrow.Author.Rules.{rules}
 use Rattle.text_numbers.proofs.negative.Goals as goal
 
 abbrev answer : Unsigned → Signed

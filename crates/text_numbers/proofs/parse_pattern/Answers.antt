@@ -9,7 +9,6 @@ use Rattle.laws.specs.Runs.{stop}
 use Rattle.laws.proofs.Runs.{read_in}
 use Rattle.text_numbers.specs.Answers.{pattern_of, pattern_at}
 use Rattle.text_numbers.specs.declared.Pattern.TheVariants.{NoPattern}
-use borrow.Author.Rules.{rules}
 use Rattle.text_numbers.proofs.parse_pattern.Goals as goal
 
 module _ (s : List ℕ) (i : ℕ) {b e : ℕ} (first : b ≡ byte_at s i) where

@@ -1,7 +1,5 @@
 -- `text_numbers::parse_signed`: each way out is an arm of `signedAt`.
 use mathlib.Core.Path.{◌≡◌, sym, ap, ◌∙◌}
-use mathlib.Core.Bool.{Bool, true, false}
-use mathlib.Core.Logic.{⊎_elim}
 use mathlib.Core.List.{List}
 use Prim.Native.Nat.{ℕ, ◌+◌, ◌^◌}
 use native.Mathlib.Omega.{arith}
@@ -12,7 +10,6 @@ use Rattle.written.specs.Bytes.{byte_at}
 use Rattle.laws.proofs.Runs.{read_in}
 use Rattle.text_numbers.specs.Answers.{unsigned_at, signed_of, signed_at}
 use Rattle.text_numbers.specs.declared.Unsigned.{Unsigned}
-use borrow.Author.Rules.{rules}
 use Rattle.text_numbers.proofs.parse_signed.Goals.{then-minus, else-minus}
 use Rattle.text_numbers.proofs.parse_signed.Goals as goal
 

@@ -1,16 +1,12 @@
 -- `text_numbers::parse_unsigned`. The invariant: the answer is the one that the digits from i on give, after those that said `value`, and these are few.
-use borrow.Author.Rules.{rules}
 use Prim.Native.Nat.{ℕ, ◌+◌, ◌-◌, ◌≤◌, ◌<◌}
 use mathlib.Core.Path.{◌≡◌, sym, ◌∙◌}
 use mathlib.Core.Bool.{true}
-use mathlib.Core.List.{List}
-use mathlib.Core.Logic.{⊎_elim}
 use lib.ListN.{length, get_or}
 use native.Mathlib.Omega.{arith}
 use borrow.Author.Tests.{not-true, not-false}
 use Rattle.written.specs.Bytes.{digit}
-use Rattle.text_numbers.specs.Answers.{unsigned_at, unsigned_from}
-use Rattle.text_numbers.proofs.Numbers.{from_on, from_here, digit-range, at_end, at_other, at_digit, tens, tens_fit, tens_start, tens_on}
+use Rattle.text_numbers.proofs.Numbers.{from_on, from_here, digit-range, at_end, at_other, at_digit, tens_fit, tens_start, tens_on}
 use Rattle.text_numbers.proofs.parse_unsigned.Goals.{Else-not-is_digit-2, In-loop-i}
 use Rattle.text_numbers.proofs.parse_unsigned.Goals.{then-s-at-le19, else-s-at-le19}
 use Rattle.text_numbers.proofs.parse_unsigned.Goals as goal

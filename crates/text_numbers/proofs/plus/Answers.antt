@@ -1,7 +1,6 @@
 -- `text_numbers::plus` meets its contract.
 use mir.Syntax.{w64}
 use mir.ValLaws.{to_z_pos}
-use borrow.Author.Rules.{rules}
 use Rattle.text_numbers.proofs.plus.Goals as goal
 
 pub returns : goal.returns

@@ -1,7 +1,6 @@
 -- `text_numbers::some_pattern` meets its contract.
 use borrow.Author.Tests.{lt-ltb, le-ltb}
 use Rattle.text_numbers.specs.Answers.{pattern_of}
-use borrow.Author.Rules.{rules}
 use Rattle.text_numbers.proofs.some_pattern.Goals as goal
 
 pub returns-then-start-end : goal.returns-then-start-end

@@ -6,7 +6,6 @@ use native.Mathlib.Omega.{arith}
 use borrow.Author.Tests.{le-leb, lt-leb}
 use lib.ListN.{length, take, drop}
 use Rattle.text_parts.specs.Parts.{part_inside}
-use borrow.Author.Rules.{rules}
 use Rattle.text_parts.proofs.part_inside.Goals as goal
 
 module _ (s : List ℕ) (i n : ℕ) where

@@ -5,7 +5,6 @@ use lib.ListN.{length, take, drop, drop_of_length-le, length-drop}
 use Prim.Native.Nat.{ℕ, ◌-◌, ◌≤◌}
 use native.Mathlib.Omega.{arith}
 use mathlib.Core.Path.{sym, ap, ◌∙◌}
-use borrow.Author.Rules.{rules}
 use Rattle.text_parts.proofs.part_of.Goals as goal
 
 pub returns-then-n-start : goal.returns-then-n-start

@@ -1,10 +1,6 @@
 -- `text_parts::same_bytes`: what is left to compare is the same answer in each turn.
-use mathlib.Core.Path.{◌≡◌, refl, sym, ◌∙◌}
-use Prim.Native.Nat.{◌≤◌, ◌-◌}
+use mathlib.Core.Path.{refl, sym, ◌∙◌}
 use native.Mathlib.Omega.{arith}
-use borrow.Author.Rules.{rules}
-use lib.ListN.{length, drop}
-use Rattle.written.specs.Bytes.{same}
 use Rattle.text_parts.proofs.Sames.{same_on, same_differs, same_short, same_end}
 use Rattle.text_parts.proofs.same_bytes.Goals as goal
 

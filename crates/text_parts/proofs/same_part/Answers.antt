@@ -1,7 +1,6 @@
 -- `text_parts::same_part` meets its contract.
 use Rattle.written.specs.Bytes.{same}
 use mathlib.Core.Path.{ap₂, ◌∙◌}
-use borrow.Author.Rules.{rules}
 use Rattle.text_parts.proofs.same_part.Goals as goal
 
 pub returns : goal.returns

@@ -2,7 +2,6 @@
 use native.Mathlib.Omega.{arith}
 use lib.Seq.{take_all, length-take-le}
 use mathlib.Core.Path.{sym}
-use borrow.Author.Rules.{rules}
 use Rattle.text_parts.proofs.up_to.Goals as goal
 
 pub returns-then-s-end : goal.returns-then-s-end

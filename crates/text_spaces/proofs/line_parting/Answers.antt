@@ -1,7 +1,6 @@
 -- `text_spaces::line_parting`: a newline found, where no tab ends the blanks, leaves the next line where they end.
 use mathlib.Core.Path.{sym, ◌∙◌}
 use Rattle.text_spaces.proofs.Parting.{parted, unparted}
-use borrow.Author.Rules.{rules}
 use Rattle.text_spaces.proofs.line_parting.Goals as goal
 
 pub returns-in-At : goal.returns-in-At

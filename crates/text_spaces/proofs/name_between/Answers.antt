@@ -5,7 +5,6 @@ use Prim.Native.Nat.{ℕ}
 use Rattle.written.specs.Bytes.{blank, in_name}
 use Rattle.laws.specs.Runs.{stop}
 use Rattle.text_spaces.specs.Spaces.{name_of, name_at}
-use borrow.Author.Rules.{rules}
 use Rattle.text_spaces.proofs.name_between.Goals as goal
 
 runs : (s : List ℕ) (i : ℕ) {b c d : ℕ} → b ≡ stop blank s i → c ≡ stop in_name s b → d ≡ stop blank s c → name_of i b c d ≡ name_at s i

@@ -2,7 +2,6 @@
 use mathlib.Core.Path.{ap, ◌∙◌}
 use Rattle.written.specs.Bytes.{unbrace}
 use Rattle.text_spaces.specs.Spaces.{past_byte, close_at}
-use borrow.Author.Rules.{rules}
 use Rattle.text_spaces.proofs.past_brace.Goals as goal
 
 pub returns : goal.returns

@@ -8,7 +8,6 @@ use borrow.Author.Tests.{eq-eqb, ne_eqb}
 use Rattle.laws.proofs.Runs.{byte_is, byte_out}
 use Rattle.text_spaces.specs.Spaces.{past_byte}
 use Rattle.text_spaces.specs.declared.Place.TheVariants.{At, Nowhere}
-use borrow.Author.Rules.{rules}
 use Rattle.text_spaces.proofs.past_byte.Goals as goal
 
 module _ (b : ℕ) (s : List ℕ) (i : ℕ) where

@@ -4,7 +4,6 @@ use Rattle.written.specs.Bytes.{blank, space_or_tab}
 use Rattle.laws.specs.Runs.{stop}
 use Rattle.text_spaces.specs.Spaces.{then_at, line_parting_at}
 use Rattle.text_spaces.specs.declared.Place.TheVariants.{At}
-use borrow.Author.Rules.{rules}
 use Rattle.text_spaces.proofs.past_line_parting.Goals as goal
 
 pub returns-in-At : goal.returns-in-At

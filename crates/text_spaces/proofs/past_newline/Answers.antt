@@ -2,7 +2,6 @@
 use mathlib.Core.Path.{ap, ◌∙◌}
 use Rattle.written.specs.Bytes.{newline}
 use Rattle.text_spaces.specs.Spaces.{past_byte, newline_at}
-use borrow.Author.Rules.{rules}
 use Rattle.text_spaces.proofs.past_newline.Goals as goal
 
 pub returns : goal.returns

@@ -1,7 +1,6 @@
 -- `text_spaces::some_name`: each way out is an arm of `name_of`.
 use borrow.Author.Tests.{lt-ltb, le-ltb}
 use Rattle.text_spaces.specs.Spaces.{name_of}
-use borrow.Author.Rules.{rules}
 use Rattle.text_spaces.proofs.some_name.Goals as goal
 
 pub returns-then-end-next : goal.returns-then-end-next

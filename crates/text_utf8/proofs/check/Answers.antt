@@ -1,9 +1,8 @@
 -- `text_utf8::check` meets its contract. The loop's invariant: what `scan` answers from `i` on is the answer for the whole.
-use mathlib.Core.Path.{◌≡◌, refl, sym, ◌∙◌}
-use Prim.Native.Nat.{◌≤◌, ◌-◌, ◌+◌}
+use mathlib.Core.Path.{refl, sym, ◌∙◌}
+use Prim.Native.Nat.{◌≤◌, ◌+◌}
 use native.Mathlib.Omega.{arith}
-use borrow.Author.Rules.{rules}
-use lib.ListN.{length, drop, drop_of_length-le}
+use lib.ListN.{length, drop_of_length-le}
 use Rattle.text_utf8.specs.Check.{check_of, scan}
 use Rattle.text_utf8.proofs.Scan.{bad, next, ends}
 use Rattle.text_utf8.proofs.check.Goals.{Else-w-eq0}

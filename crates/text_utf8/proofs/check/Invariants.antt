@@ -1,11 +1,8 @@
 -- `text_utf8::check` meets its contract. The loop's invariant: what `scan` answers from `i` on is the answer for the whole.
-use mathlib.Core.Path.{◌≡◌, refl, sym, ◌∙◌}
-use Prim.Native.Nat.{◌≤◌, ◌-◌, ◌+◌}
-use native.Mathlib.Omega.{arith}
-use borrow.Author.Rules.{rules}
-use lib.ListN.{length, drop, drop_of_length-le}
+use mathlib.Core.Path.{◌≡◌}
+use Prim.Native.Nat.{◌≤◌, ◌-◌}
+use lib.ListN.{length, drop}
 use Rattle.text_utf8.specs.Check.{check_of, scan}
-use Rattle.text_utf8.proofs.Scan.{bad, next, ends}
 use Rattle.text_utf8.proofs.check.Given as goal
 
 abbrev pub invariant-loop-i : goal.invariant-loop-i

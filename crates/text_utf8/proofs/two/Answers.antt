@@ -1,6 +1,5 @@
 -- `text_utf8::two` meets its contract: the bytes are tested one after the other, as the row is.
 use mathlib.Core.Path.{sym, ◌∙◌}
-use borrow.Author.Rules.{rules}
 use Rattle.text_utf8.proofs.two.Goals as goal
 
 pub returns-then-within : goal.returns-then-within

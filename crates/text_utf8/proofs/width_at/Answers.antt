@@ -5,7 +5,6 @@ use native.Mathlib.Omega.{arith}
 use Rattle.written.specs.Rfc3629.{◌⋯◌, tail, table}
 use Rattle.text_utf8.specs.Widths.{starts}
 use Rattle.text_utf8.proofs.Rows.{arm, nowhere}
-use borrow.Author.Rules.{rules}
 use Rattle.text_utf8.proofs.width_at.Goals as goal
 
 pub returns-in-224 : goal.returns-in-224

@@ -1,6 +1,5 @@
 -- `text_utf8::within` meets its contract.
 use mathlib.Core.Bool.{and-true}
-use borrow.Author.Rules.{rules}
 use borrow.Author.Tests.{le-leb, lt-leb}
 use lib.ListN.{drop_of_length-le}
 use lib.Seq.{drop-cons}

@@ -1,5 +1,5 @@
 -- `trail_bytes::put_word` meets its contract.
-use Rattle.std.proofs.Common.{◌≡◌, ℕ, suc, ◌+◌, add-one, arith, length-set, rules}
+use Rattle.std.proofs.Common.{◌≡◌, ℕ, suc, ◌+◌, add-one, arith, length-set}
 use Rattle.written.specs.Blocks.{little_endian}
 use Rattle.trail_bytes.proofs.put_word.Goals as goal
 

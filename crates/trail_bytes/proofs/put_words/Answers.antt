@@ -1,5 +1,5 @@
 -- `trail_bytes::put_words`: one behind the other.
-use Rattle.std.proofs.Common.{ℕ, ◌+◌, List, [], ◌∷◌, ap, ◌∙◌, rules}
+use Rattle.std.proofs.Common.{ℕ, ◌+◌, List, [], ◌∷◌, ap, ◌∙◌}
 use lib.Seq.{sets}
 use Rattle.written.specs.Blocks.{little_endian}
 use Rattle.trail_bytes.proofs.Numbers.{three_stored}

@@ -1,6 +1,5 @@
 -- `trail_bytes::same_words`: each number at its place.
 use Rattle.trail_bytes.proofs.Numbers.{first_other, second_other, third_as}
-use Rattle.std.proofs.Common.{rules}
 use Rattle.trail_bytes.proofs.same_words.Goals as goal
 
 pub returns-then-word-a : goal.returns-then-word-a

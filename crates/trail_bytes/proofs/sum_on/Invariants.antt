@@ -1,7 +1,6 @@
 -- `trail_bytes::sum_on`: the sum so far is that of the bytes before.
-use Rattle.std.proofs.Common.{◌≡◌, ℕ, ◌+◌, ◌-◌, ◌%◌, ◌^◌, ◌<◌, ◌≤◌, length, take, ap, ◌∙◌, arith, rules}
+use Rattle.std.proofs.Common.{◌≡◌, ◌+◌, ◌-◌, ◌%◌, ◌^◌, ◌≤◌, take}
 use Rattle.written.specs.Blocks.{total}
-use Rattle.trail_bytes.proofs.Numbers.{sum_none, sum_more}
 use Rattle.trail_bytes.proofs.sum_on.Given as goal
 
 abbrev pub invariant-loop-i : goal.invariant-loop-i

@@ -1,6 +1,5 @@
 -- `trail_last::put_last`: the sum of what is stored before it.
 use Rattle.trail_last.proofs.Laws.{last_stored}
-use borrow.Author.Rules.{rules}
 use Rattle.trail_last.proofs.put_last.Goals as goal
 
 pub returns : goal.returns

@@ -1,6 +1,5 @@
 -- `trail_last::summed` meets its contract.
 use Rattle.trail_last.proofs.Laws.{summed_as}
-use borrow.Author.Rules.{rules}
 use Rattle.trail_last.proofs.summed.Goals as goal
 
 pub returns : goal.returns

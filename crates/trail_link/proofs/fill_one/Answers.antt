@@ -1,6 +1,5 @@
 -- `trail_link::fill_one`: the rows where the tree is linked, else zeros.
 use Rattle.trail_link.proofs.Laws.{one_kept, one_zero}
-use borrow.Author.Rules.{rules}
 use Rattle.trail_link.proofs.fill_one.Goals as goal
 
 pub returns-then-all_linked : goal.returns-then-all_linked

@@ -5,7 +5,6 @@ use lib.Seq.{sets}
 use Rattle.load_text.specs.Text.{name_index}
 use Rattle.load_text.proofs.Laws.{index_room, asked_words, index_count, is_index}
 use Rattle.trail_link.proofs.Laws.{asked_of, ended_as, row_as, records_as, work_as}
-use borrow.Author.Rules.{rules}
 use Rattle.trail_link.proofs.link_one.Goals as goal
 
 pub index_names-requires : goal.index_names-requires

@@ -1,6 +1,5 @@
 -- `trail_load::fill_entries`: the entries in the row, then their values.
 use Rattle.trail_load.proofs.Laws.{values_fit, row_filled}
-use borrow.Author.Rules.{rules}
 use Rattle.trail_load.proofs.fill_entries.Goals as goal
 
 pub fill_values-requires : goal.fill_values-requires

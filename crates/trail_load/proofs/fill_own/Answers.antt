@@ -5,7 +5,6 @@ use Rattle.load_bounds.specs.Bounds.{side_of}
 use Rattle.load_shared.proofs.Laws.{parts_room, own_put}
 use Rattle.trail_load.specs.Load.{tree_filled, tree_placed_in}
 use Rattle.trail_load.proofs.Laws.{small_values}
-use borrow.Author.Rules.{rules}
 use Rattle.trail_load.proofs.fill_own.Goals as goal
 
 pub overflow_mul-n : goal.overflow_mul-n

@@ -3,7 +3,6 @@ use native.Mathlib.Omega.{arith}
 use lib.ListN.{length}
 use Rattle.load_model.specs.Load.{lent}
 use Rattle.trail_load.proofs.Laws.{text_fits, values_room, small_values, fill_done, fill_zero}
-use borrow.Author.Rules.{rules}
 use Rattle.trail_load.proofs.fill_tree.Goals as goal
 
 pub fill_one-linked-requires : goal.fill_one-linked-requires

@@ -8,7 +8,6 @@ use Rattle.load_model.specs.Load.{lent}
 use Rattle.load_model.proofs.Laws.{part_short}
 use Rattle.load_bounds.specs.Bounds.{side_of, held_of}
 use Rattle.trail_load.proofs.Laws.{small_values, load_refused, load_no_rows, load_no_lines, load_filled, load_fits}
-use borrow.Author.Rules.{rules}
 use Rattle.trail_load.proofs.load_tree.Goals as goal
 
 pub need-requires : goal.need-requires

@@ -1,10 +1,8 @@
 -- `trail_plan::entries_before`: the sum so far and that of what is left is the whole.
 use mathlib.Core.Path.{◌≡◌}
 use Prim.Native.Nat.{◌+◌, ◌*◌}
-use native.Mathlib.Omega.{arith}
 use Rattle.written.specs.Blocks.{total}
 use Rattle.pdf_blocks.specs.Values.{words_at}
-use Rattle.pdf_blocks.proofs.Counts.{total_on, total_none}
 use Rattle.trail_plan.proofs.entries_before.Given as goal
 
 abbrev pub invariant-loop-left : goal.invariant-loop-left

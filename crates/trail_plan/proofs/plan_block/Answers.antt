@@ -1,7 +1,6 @@
 -- `trail_plan::plan_block`: the block in its range, or what is refused.
 use mathlib.Core.Path.{sym, ◌∙◌}
 use Rattle.trail_plan.proofs.Laws.{block_refused, block_outside, block_inside}
-use borrow.Author.Rules.{rules}
 use Rattle.trail_plan.proofs.plan_block.Goals as goal
 
 pub returns-in-Refused : goal.returns-in-Refused

@@ -3,7 +3,6 @@ use mathlib.Core.Path.{sym, ap, ◌∙◌}
 use Prim.Native.Nat.{ℕ, ◌*◌}
 use native.Mathlib.Omega.{arith}
 use Rattle.trail_plan.proofs.Laws.{block_size, entries_wrong, entries_fit}
-use borrow.Author.Rules.{rules}
 use Rattle.trail_plan.proofs.plan_entries.Goals as goal
 
 pub entries_before-before-requires : goal.entries_before-before-requires

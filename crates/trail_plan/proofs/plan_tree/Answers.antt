@@ -1,7 +1,6 @@
 -- `trail_plan::plan_tree`: the text in its range, the tree where its row says, and the block.
 use mathlib.Core.Path.{sym, ◌∙◌}
 use Rattle.trail_plan.proofs.Laws.{tree_outside, tree_nowhere, tree_there}
-use borrow.Author.Rules.{rules}
 use Rattle.trail_plan.proofs.plan_tree.Goals as goal
 
 pub plan_block-requires : goal.plan_block-requires

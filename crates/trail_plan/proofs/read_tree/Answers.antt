@@ -1,7 +1,6 @@
 -- `trail_plan::read_tree`: the survey of the questions, then of the one tree.
 use mathlib.Core.Path.{refl, sym, ◌∙◌}
 use Rattle.trail_plan.proofs.Laws.{text_asked, text_broken}
-use borrow.Author.Rules.{rules}
 use Rattle.trail_plan.proofs.read_tree.Goals as goal
 
 pub returns-in-Next : goal.returns-in-Next

@@ -7,7 +7,6 @@ use Rattle.head_record_fits.proofs.Fits.{fits}
 use Rattle.head_words.specs.Words.{header_at}
 use Rattle.trail_find.specs.Rows.{offsets_at}
 use Rattle.trail_plan.proofs.Laws.{row_of, rows_inside, needs_unfit, needs_short, needs_elsewhere, needs_refused, needs_tree}
-use borrow.Author.Rules.{rules}
 use Rattle.trail_plan.proofs.tree_needs.Goals as goal
 
 pub returns-then-not-record_fits : goal.returns-then-not-record_fits

@@ -1,11 +1,8 @@
 -- `trail_voice::count_trees`: the trees so far, and those of the models that are left, are all.
 use mathlib.Core.Path.{sym, ◌∙◌}
-use Prim.Native.Nat.{◌-◌}
 use native.Mathlib.Omega.{arith}
 use Rattle.head_words.specs.Words.{header_at}
-use Rattle.trail_voice.specs.Voice.{which_number}
-use Rattle.trail_voice.proofs.Laws.{known, next_at, Counting, counting_none, counted_refused, counted_few, counting_more, counted_all}
-use borrow.Author.Rules.{rules}
+use Rattle.trail_voice.proofs.Laws.{known, next_at, counting_none, counted_refused, counted_few, counting_more, counted_all}
 use Rattle.trail_voice.proofs.count_trees.Goals as goal
 
 pub loop-refusal-init : goal.loop-refusal-init

@@ -2,7 +2,6 @@
 use mathlib.Core.Path.{sym, ap}
 use native.Mathlib.Omega.{arith}
 use Rattle.trail_voice.specs.Voice.{which_number}
-use borrow.Author.Rules.{rules}
 use Rattle.trail_voice.proofs.number_of.Goals as goal
 
 pub overflow_mul-result : goal.overflow_mul-result

@@ -8,7 +8,6 @@ use lib.Seq.{sets}
 use Rattle.written.specs.Blocks.{little_endian}
 use Rattle.head_words.specs.Words.{header_at}
 use Rattle.trail_voice.proofs.Laws.{text_room, text_rows_lem, rows_refused}
-use borrow.Author.Rules.{rules}
 use Rattle.trail_voice.proofs.put_model.Goals as goal
 
 pub put_rows-requires : goal.put_rows-requires

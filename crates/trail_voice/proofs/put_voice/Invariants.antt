@@ -1,11 +1,8 @@
 -- `trail_voice::put_voice`: the rows of the models that are left, stored where the loop is, are all of them.
-use mathlib.Core.Path.{sym, ◌∙◌}
 use Prim.Native.Nat.{◌-◌}
-use native.Mathlib.Omega.{arith}
 use Rattle.head_words.specs.Words.{header_at}
 use Rattle.trail_voice.specs.Voice.{which_number}
-use Rattle.trail_voice.proofs.Laws.{next_at, Storing, storing_none, storing_room, storing_more, stored_all, stored_long}
-use borrow.Author.Rules.{rules}
+use Rattle.trail_voice.proofs.Laws.{Storing}
 use Rattle.trail_voice.proofs.put_voice.Given as goal
 
 abbrev pub invariant-loop-next : goal.invariant-loop-next

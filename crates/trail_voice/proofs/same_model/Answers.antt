@@ -3,7 +3,6 @@ use mathlib.Core.Path.{sym, ◌∙◌}
 use native.Mathlib.Omega.{arith}
 use Rattle.head_words.specs.Words.{header_at}
 use Rattle.trail_voice.proofs.Laws.{text_room, text_rows_lem, rows_refused, same_as, other_as, none_as}
-use borrow.Author.Rules.{rules}
 use Rattle.trail_voice.proofs.same_model.Goals as goal
 
 pub same_rows-requires : goal.same_rows-requires

@@ -1,11 +1,8 @@
 -- `trail_voice::same_voice`: the models that are left decide.
 use mathlib.Core.Path.{sym, ◌∙◌}
-use Prim.Native.Nat.{◌-◌}
 use native.Mathlib.Omega.{arith}
 use Rattle.head_words.specs.Words.{header_at}
-use Rattle.trail_voice.specs.Voice.{which_number}
-use Rattle.trail_voice.proofs.Laws.{next_at, Comparing, comparing_none, comparing_room, compared_other, comparing_more, compared_all}
-use borrow.Author.Rules.{rules}
+use Rattle.trail_voice.proofs.Laws.{next_at, comparing_none, comparing_room, compared_other, comparing_more, compared_all}
 use Rattle.trail_voice.proofs.same_voice.Goals as goal
 
 pub loop-next-init : goal.loop-next-init

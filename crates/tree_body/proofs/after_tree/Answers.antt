@@ -10,7 +10,6 @@ use Rattle.text_spaces.specs.Spaces.{parting_at}
 use Rattle.text_spaces.specs.declared.Place.TheVariants.{At, Nowhere}
 use Rattle.tree_body.specs.Trees.{tree_parted, after_tree}
 use Rattle.tree_body.specs.declared.TreeStep.TheVariants.{Next, End, Broken}
-use borrow.Author.Rules.{rules}
 use Rattle.tree_body.proofs.after_tree.Goals as goal
 
 module _ (s : List ℕ) (e : ℕ) {p : ℕ} (blanks : p ≡ stop blank s e) where

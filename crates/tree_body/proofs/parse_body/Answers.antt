@@ -6,7 +6,6 @@ use Rattle.tree_reference.specs.declared.TreeIndex.{TreeIndex}
 use Rattle.laws.proofs.Signed.{back}
 use Rattle.tree_body.specs.Trees.{lone_read, braces_read, body_read, body_at}
 use Rattle.tree_body.specs.declared.TreeHead.TheVariants.{Lone, Empty, Lines}
-use borrow.Author.Rules.{rules}
 use Rattle.tree_body.proofs.parse_body.Goals as goal
 
 alone : {x z : ℤ} {r : TreeIndex} {e : ℕ} → x ≡ z → Lone x r e ≡ Lone z r e

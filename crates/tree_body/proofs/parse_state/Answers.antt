@@ -3,7 +3,6 @@ use mathlib.Core.Path.{sym, ap, ◌∙◌}
 use Rattle.written.specs.Bytes.{bracket}
 use Rattle.text_spaces.specs.Spaces.{past_byte}
 use Rattle.tree_body.specs.Trees.{state_opened, state_starred, state_at}
-use borrow.Author.Rules.{rules}
 use Rattle.tree_body.proofs.parse_state.Goals as goal
 
 pub returns-in-At-past_byte : goal.returns-in-At-past_byte

@@ -3,7 +3,6 @@ use mathlib.Core.Path.{sym, ap, ◌∙◌}
 use Rattle.written.specs.Bytes.{unbrace}
 use Rattle.text_spaces.specs.Spaces.{then_byte}
 use Rattle.tree_body.specs.Trees.{past_star}
-use borrow.Author.Rules.{rules}
 use Rattle.tree_body.proofs.past_star.Goals as goal
 
 pub returns-in-At-past_byte : goal.returns-in-At-past_byte

@@ -3,7 +3,6 @@ use mathlib.Core.Path.{◌≡◌, sym, ap, ◌∙◌}
 use Rattle.written.specs.Bytes.{unbrace}
 use Rattle.text_spaces.specs.Spaces.{past_byte, close_at}
 use Rattle.tree_line.specs.Lines.{line_parted, line_closed, after_line}
-use borrow.Author.Rules.{rules}
 use Rattle.tree_line.proofs.after_line.Goals.{After-past_byte}
 use Rattle.tree_line.proofs.after_line.Goals as goal
 

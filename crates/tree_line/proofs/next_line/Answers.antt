@@ -1,7 +1,6 @@
 -- `tree_line::next_line`: each arm is an arm of `lineFound`.
 use mathlib.Core.Path.{sym, ap, ◌∙◌}
 use Rattle.tree_line.specs.Lines.{line_found, line_step_at}
-use borrow.Author.Rules.{rules}
 use Rattle.tree_line.proofs.next_line.Goals as goal
 
 pub returns-in-Found : goal.returns-in-Found

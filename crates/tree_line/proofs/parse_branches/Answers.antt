@@ -1,7 +1,6 @@
 -- `tree_line::parse_branches`: each arm is an arm of `noRead`.
 use mathlib.Core.Path.{sym, ap, ◌∙◌}
 use Rattle.tree_line.specs.Lines.{no_read, branches_at}
-use borrow.Author.Rules.{rules}
 use Rattle.tree_line.proofs.parse_branches.Goals as goal
 
 pub returns-in-Found : goal.returns-in-Found

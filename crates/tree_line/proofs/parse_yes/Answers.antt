@@ -9,7 +9,6 @@ use Rattle.tree_reference.specs.References.{reference_at}
 use Rattle.tree_reference.specs.declared.TreeIndex.{TreeIndex}
 use Rattle.tree_line.specs.Lines.{yes_read, yes_at}
 use Rattle.tree_line.specs.declared.Branches.TheVariants.{NoBranches}
-use borrow.Author.Rules.{rules}
 use Rattle.tree_line.proofs.parse_yes.Goals as goal
 
 module _ (s : List ℕ) (i : ℕ) (n : TreeIndex) {b : ℕ} (blanks : b ≡ stop blank s i) where

@@ -3,7 +3,6 @@ use mathlib.Core.Path.{◌≡◌, sym, ap, ◌∙◌}
 use Prim.Native.Nat.{ℕ}
 use Rattle.tree_question.specs.Questions.{pattern_closed, pattern_parted, after_pattern}
 use Rattle.tree_question.specs.declared.PatternStep.TheVariants.{Next}
-use borrow.Author.Rules.{rules}
 use Rattle.tree_question.proofs.after_pattern.Goals as goal
 
 further : {b n i j : ℕ} → i ≡ j → Next b n i ≡ Next b n j

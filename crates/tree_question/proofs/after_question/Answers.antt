@@ -9,7 +9,6 @@ use Rattle.text_spaces.specs.Spaces.{parting_at}
 use Rattle.text_spaces.specs.declared.Place.TheVariants.{At}
 use Rattle.tree_question.specs.Questions.{starts_question, item_parted, after_question}
 use Rattle.tree_question.specs.declared.Item.TheVariants.{Question, Tree}
-use borrow.Author.Rules.{rules}
 use Rattle.tree_question.proofs.after_question.Goals as goal
 
 module _ (s : List ℕ) (e i : ℕ) (parted : At i ≡ parting_at s e) where

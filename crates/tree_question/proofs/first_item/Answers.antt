@@ -2,7 +2,6 @@
 use mathlib.Core.Path.{sym, ap, ◌∙◌}
 use Rattle.tree_question.specs.Questions.{item_at}
 use Rattle.tree_question.specs.declared.Item.TheVariants.{Tree}
-use borrow.Author.Rules.{rules}
 use Rattle.tree_question.proofs.first_item.Goals as goal
 
 pub returns-then-starts_question : goal.returns-then-starts_question

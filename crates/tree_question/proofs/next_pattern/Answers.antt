@@ -1,7 +1,6 @@
 -- `tree_question::next_pattern`: each arm is an arm of `patternFound`.
 use mathlib.Core.Path.{sym, ap, ◌∙◌}
 use Rattle.tree_question.specs.Questions.{pattern_found, pattern_step_at}
-use borrow.Author.Rules.{rules}
 use Rattle.tree_question.proofs.next_pattern.Goals as goal
 
 pub returns-in-Found : goal.returns-in-Found

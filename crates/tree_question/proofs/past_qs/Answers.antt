@@ -2,7 +2,6 @@
 use mathlib.Core.Path.{sym, ap, ◌∙◌}
 use Rattle.text_spaces.specs.Spaces.{then_byte}
 use Rattle.tree_question.specs.Questions.{past_qs}
-use borrow.Author.Rules.{rules}
 use Rattle.tree_question.proofs.past_qs.Goals as goal
 
 pub returns-in-At : goal.returns-in-At

@@ -3,7 +3,6 @@ use mathlib.Core.Path.{◌≡◌, sym, ap, ◌∙◌}
 use Prim.Native.Nat.{ℕ}
 use Rattle.tree_question.specs.Questions.{head_opened, head_named, head_started, head_at}
 use Rattle.tree_question.specs.declared.QuestionHead.TheVariants.{Named}
-use borrow.Author.Rules.{rules}
 use Rattle.tree_question.proofs.question_head.Goals as goal
 
 named : {b n i j : ℕ} → i ≡ j → Named b n i ≡ Named b n j

@@ -2,7 +2,6 @@
 use mathlib.Core.Path.{sym, ap, ◌∙◌}
 use lib.Dec.{ltb}
 use Rattle.tree_question.specs.Questions.{blank_at, starts_question}
-use borrow.Author.Rules.{rules}
 use Rattle.tree_question.proofs.starts_question.Goals as goal
 
 pub returns-in-At : goal.returns-in-At

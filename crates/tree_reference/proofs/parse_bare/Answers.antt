@@ -1,6 +1,5 @@
 -- `tree_reference::parse_bare`: each arm is an arm of `bareRead`.
 use mathlib.Core.Path.{refl, sym, ap, ap₂, ◌∙◌}
-use Rattle.laws.proofs.Signed.{back}
 use Rattle.tree_reference.specs.References.{bare_read, bare_at}
 use Rattle.tree_reference.specs.declared.TreeIndex.TheVariants.{Node}
 use Rattle.tree_reference.specs.declared.Reference.TheVariants.{Found}

@@ -1,7 +1,6 @@
 -- `tree_reference::parse_quoted`: each arm is an arm of `quotedRead` or of `closed`.
 use mathlib.Core.Path.{sym, ap, ◌∙◌}
 use Rattle.tree_reference.specs.References.{closed, quoted_read, quoted_at}
-use borrow.Author.Rules.{rules}
 use Rattle.tree_reference.proofs.parse_quoted.Goals as goal
 
 pub returns-in-At : goal.returns-in-At

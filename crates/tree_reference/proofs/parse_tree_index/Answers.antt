@@ -1,6 +1,5 @@
 -- `tree_reference::parse_tree_index`: each arm is an arm of `shown_open`.
 use mathlib.Core.Path.{sym, ap, ◌∙◌}
-use borrow.Author.Rules.{rules}
 use Rattle.tree_reference.specs.References.{opened, reference_at}
 use Rattle.tree_reference.proofs.parse_tree_index.Goals as goal
 

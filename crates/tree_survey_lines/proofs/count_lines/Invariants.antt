@@ -1,10 +1,7 @@
 -- `tree_survey_lines::count_lines`: what is counted, and what is still to be read, come to the same.
-use mathlib.Core.Path.{refl, sym, ◌∙◌}
 use Prim.Native.Nat.{◌-◌}
-use native.Mathlib.Omega.{arith}
 use lib.ListN.{length}
-use borrow.Author.Rules.{rules}
-use Rattle.tree_survey_lines.proofs.Counting.{line_few, next_in, last_in, Counting, counted_more, counted_last, counted_broken}
+use Rattle.tree_survey_lines.proofs.Counting.{Counting}
 use Rattle.tree_survey_lines.proofs.count_lines.Given as goal
 
 abbrev pub invariant-loop-line : goal.invariant-loop-line

@@ -1,7 +1,6 @@
 -- `tree_survey_lines::line_pdfs`: two counts of one at most.
 use native.Mathlib.Omega.{arith}
 use Rattle.tree_survey_lines.proofs.Counting.{pdf_few}
-use borrow.Author.Rules.{rules}
 use Rattle.tree_survey_lines.proofs.line_pdfs.Goals as goal
 
 pub overflow_add-result : goal.overflow_add-result

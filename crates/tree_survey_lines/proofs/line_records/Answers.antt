@@ -3,7 +3,6 @@ use mathlib.Core.Path.{sym, ap, ◌∙◌}
 use Prim.Native.Nat.{◌+◌}
 use native.Mathlib.Omega.{arith}
 use Rattle.tree_survey_lines.proofs.Counting.{line_few}
-use borrow.Author.Rules.{rules}
 use Rattle.tree_survey_lines.proofs.line_records.Goals as goal
 
 pub overflow_add-result : goal.overflow_add-result

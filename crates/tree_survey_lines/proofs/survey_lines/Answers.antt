@@ -1,7 +1,6 @@
 -- `tree_survey_lines::survey_lines`: the first line, and those after it.
 use mathlib.Core.Path.{sym, ◌∙◌}
 use native.Mathlib.Omega.{arith}
-use borrow.Author.Rules.{rules}
 use Rattle.tree_survey_lines.proofs.Counting.{line_few, room, surveyed_more, surveyed_stopped, surveyed_one, surveyed_none}
 use Rattle.tree_survey_lines.proofs.survey_lines.Goals as goal
 

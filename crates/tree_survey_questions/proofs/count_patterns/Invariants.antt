@@ -1,10 +1,7 @@
 -- `tree_survey_questions::count_patterns`: what is counted, and what is still to be read, come to the same.
-use mathlib.Core.Path.{refl, sym, ◌∙◌}
 use Prim.Native.Nat.{◌-◌}
-use native.Mathlib.Omega.{arith}
 use lib.ListN.{length}
-use borrow.Author.Rules.{rules}
-use Rattle.tree_survey_questions.proofs.Counting.{next_in, last_in, Counting, counted_more, counted_last, counted_broken}
+use Rattle.tree_survey_questions.proofs.Counting.{Counting}
 use Rattle.tree_survey_questions.proofs.count_patterns.Given as goal
 
 abbrev pub invariant-loop-next : goal.invariant-loop-next

@@ -1,10 +1,7 @@
 -- `tree_survey_questions::count_questions`: what is counted, and what is still to be read, come to the same.
 use mathlib.Core.Path.{refl, sym, ◌∙◌}
-use Prim.Native.Nat.{◌-◌}
 use native.Mathlib.Omega.{arith}
-use lib.ListN.{length}
-use borrow.Author.Rules.{rules}
-use Rattle.tree_survey_questions.proofs.Counting.{more_in, final_in, Surveying, surveyed_more, surveyed_end, surveyed_none}
+use Rattle.tree_survey_questions.proofs.Counting.{more_in, final_in, surveyed_more, surveyed_end, surveyed_none}
 use Rattle.tree_survey_questions.proofs.count_questions.Goals as goal
 
 pub loop-patterns-init : goal.loop-patterns-init

@@ -1,7 +1,6 @@
 -- `tree_survey_questions::survey_question`: each way out is a step of the question.
 use mathlib.Core.Path.{sym, ◌∙◌}
 use Rattle.tree_survey_questions.proofs.Counting.{asked_next, asked_last, asked_broken, asked_none}
-use borrow.Author.Rules.{rules}
 use Rattle.tree_survey_questions.proofs.survey_question.Goals as goal
 
 pub returns-in-Question : goal.returns-in-Question

@@ -3,7 +3,6 @@ use mathlib.Core.Path.{sym, ap, ◌∙◌}
 use Rattle.laws.specs.Totals.{total}
 use Rattle.tree_question.specs.Questions.{questions_from, questions_at}
 use Rattle.tree_survey_questions.specs.Counts.{questions_counted}
-use borrow.Author.Rules.{rules}
 use Rattle.tree_survey_questions.proofs.survey_questions.Goals as goal
 
 pub returns-in-Question : goal.returns-in-Question

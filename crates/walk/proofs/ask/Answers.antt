@@ -1,5 +1,4 @@
 -- `walk::ask`: the byte is 0, is another, or there is none.
-use borrow.Author.Rules.{rules}
 use Rattle.walk.proofs.Judged.{line_no, line_yes, line_wrong}
 use Rattle.walk.proofs.ask.Goals as goal
 

@@ -1,11 +1,8 @@
 -- `walk::follow`: what is left of the walk, with so many questions more, is the answer. A limit above what the tree can ask makes no
 -- difference, so that the walk is one with the smaller of the two as its limit.
-use mathlib.Core.Path.{sym, ◌∙◌}
 use Prim.Native.Nat.{◌-◌}
-use native.Mathlib.Omega.{arith}
-use borrow.Author.Rules.{rules}
 use Rattle.walk.specs.Walking.{meet_at}
-use Rattle.walk.proofs.Following.{Following, following_none, following_leaf, following_wrong, following_limit, following_reach, following_on}
+use Rattle.walk.proofs.Following.{Following}
 use Rattle.walk.proofs.follow.Given as goal
 
 abbrev pub invariant-loop-number : goal.invariant-loop-number

@@ -1,7 +1,6 @@
 -- `walk::walk`: no such tree, or the walk over its records.
 use mathlib.Core.Path.{◌≡◌, sym, ◌∙◌}
 use mathlib.Core.Bool.{true}
-use borrow.Author.Rules.{rules}
 use borrow.Author.Tests.{not-true, not-false, ltb-true}
 use Rattle.table_rows.specs.Rows.{tree_there}
 use Rattle.walk.proofs.Following.{walk_there, walk_missing}

@@ -4,7 +4,6 @@ use mathlib.Core.Bool.{Bool, cond}
 use Rattle.error.specs.declared.Refusal.TheVariants as refusal
 use Rattle.walk_accepts.specs.Accepting.{accepted_of}
 use Rattle.walk_accepts.specs.declared.Accepted.TheVariants as accepted
-use borrow.Author.Rules.{rules}
 use Rattle.walk_accepts.proofs.accepted_of.Goals as goal
 
 pub returns-then-fits : goal.returns-then-fits

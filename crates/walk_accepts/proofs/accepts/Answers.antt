@@ -1,7 +1,6 @@
 -- `walk_accepts::accepts`: the tree, and then its rows.
 use mathlib.Core.Path.{sym, ap, ◌∙◌}
 use Rattle.walk_accepts.specs.Accepting.{accepted_of, accepts_at, accepts_of}
-use borrow.Author.Rules.{rules}
 use Rattle.walk_accepts.proofs.accepts.Goals as goal
 
 pub returns-in-Tree : goal.returns-in-Tree

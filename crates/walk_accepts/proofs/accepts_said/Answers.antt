@@ -1,7 +1,6 @@
 -- `walk_accepts::accepts_said`: in numbers.
 use mathlib.Core.Path.{sym, ap, ◌∙◌}
 use Rattle.walk_accepts.specs.Accepting.{accepts_told}
-use borrow.Author.Rules.{rules}
 use Rattle.walk_accepts.proofs.accepts_said.Goals as goal
 
 pub returns-in-Yes : goal.returns-in-Yes

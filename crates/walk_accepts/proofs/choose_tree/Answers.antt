@@ -1,7 +1,6 @@
 -- `walk_accepts::choose_tree`: by the survey of the text.
 use mathlib.Core.Path.{sym, ap, ◌∙◌}
 use Rattle.walk_accepts.specs.Accepting.{surveyed, chosen_tree}
-use borrow.Author.Rules.{rules}
 use Rattle.walk_accepts.proofs.choose_tree.Goals as goal
 
 pub returns-in-Counted : goal.returns-in-Counted

@@ -9,7 +9,6 @@ use Rattle.written.specs.Said.{QuestionPlace}
 use Rattle.tree_survey_questions.specs.Counts.{pattern_count, questions_ended, questions_counted}
 use Rattle.tree_survey_questions.specs.declared.Questions.TheVariants as questions
 use Rattle.walk_accepts.specs.Accepting.{found_tree, in_text}
-use borrow.Author.Rules.{rules}
 use Rattle.walk_accepts.proofs.tree_in.Goals as goal
 
 counted : (r : Reading QuestionPlace) (n m e : ℕ) → questions.Counted n m e ≡ questions_counted 0 0 r → r.ending ≡ done_at e

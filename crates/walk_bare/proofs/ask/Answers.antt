@@ -2,7 +2,6 @@
 use mathlib.Core.Path.{sym, ap, ◌∙◌}
 use Rattle.tree_question.specs.Questions.{questions_at}
 use Rattle.walk_bare.specs.Bare.{reply_borne}
-use borrow.Author.Rules.{rules}
 use Rattle.walk_bare.proofs.ask.Goals as goal
 
 pub returns-in-Line : goal.returns-in-Line

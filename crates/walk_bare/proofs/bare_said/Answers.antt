@@ -3,7 +3,6 @@ use mathlib.Core.Path.{refl, ap, ◌∙◌}
 use lib.Seq.{sets}
 use Rattle.walk_bare.specs.Bare.{bare_numbers, BareTells}
 use Rattle.walk_bare.specs.declared.Meter.{Meter}
-use borrow.Author.Rules.{rules}
 use Rattle.walk_bare.proofs.bare_said.Goals as goal
 
 pub returns-then-out-lt-BARE_OUT : goal.returns-then-out-lt-BARE_OUT

@@ -2,7 +2,6 @@
 use mathlib.Core.Path.{sym, ap, ◌∙◌}
 use Rattle.walk_bare.specs.Bare.{ended_of}
 use Rattle.walk_bare.proofs.Laws.{ended_pdf}
-use borrow.Author.Rules.{rules}
 use Rattle.walk_bare.proofs.ended.Goals as goal
 
 pub returns-in-Pdf : goal.returns-in-Pdf

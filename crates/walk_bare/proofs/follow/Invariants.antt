@@ -1,11 +1,8 @@
 -- `walk_bare::follow`: what is left of the walk, with so many questions more, is the answer.
-use mathlib.Core.Path.{sym, ◌∙◌}
-use native.Mathlib.Omega.{arith}
 use Prim.Native.Nat.{◌-◌}
 use Rattle.tree_question.specs.Questions.{questions_at}
 use Rattle.tree_line.specs.Lines.{lines_at}
-use Rattle.walk_bare.proofs.Laws.{Walking, walking_none, walking_missing, walking_limit, walking_reach, walking_leaf, walking_on}
-use borrow.Author.Rules.{rules}
+use Rattle.walk_bare.proofs.Laws.{Walking}
 use Rattle.walk_bare.proofs.follow.Given as goal
 
 abbrev pub invariant-loop-reply : goal.invariant-loop-reply

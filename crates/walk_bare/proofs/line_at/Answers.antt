@@ -2,7 +2,6 @@
 use mathlib.Core.Path.{sym, ap, ◌∙◌}
 use Rattle.tree_survey_lines.proofs.Counting.{items_next, items_last, items_broken}
 use Rattle.walk_bare.specs.Bare.{first_of}
-use borrow.Author.Rules.{rules}
 use Rattle.walk_bare.proofs.line_at.Goals as goal
 
 pub returns-in-Next : goal.returns-in-Next

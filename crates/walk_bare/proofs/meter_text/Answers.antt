@@ -1,7 +1,6 @@
 -- `walk_bare::meter_text`: the tree that is chosen, or why there is none.
 use mathlib.Core.Path.{sym, ◌∙◌}
 use Rattle.walk_bare.proofs.Laws.{bare_so}
-use borrow.Author.Rules.{rules}
 use Rattle.walk_bare.proofs.meter_text.Goals as goal
 
 pub returns-in-Tree : goal.returns-in-Tree

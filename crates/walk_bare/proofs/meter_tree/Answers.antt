@@ -4,7 +4,6 @@ use Prim.Native.Nat.{ℕ}
 use Rattle.walk_bare.specs.Bare.{metered_of, refused_by}
 use Rattle.walk_bare.specs.declared.Meter.{Meter}
 use Rattle.walk_bare.proofs.Laws.{meter_so}
-use borrow.Author.Rules.{rules}
 use Rattle.walk_bare.proofs.meter_tree.Goals as goal
 
 -- the number is that of the fault

@@ -2,7 +2,6 @@
 use mathlib.Core.Path.{sym, ap, ◌∙◌}
 use Prim.Native.Nat.{ℕ}
 use Rattle.walk_bare.specs.Bare.{refused_by, metered_of}
-use borrow.Author.Rules.{rules}
 use Rattle.walk_bare.proofs.metered.Goals as goal
 
 pub returns-in-Pdf : goal.returns-in-Pdf

@@ -1,7 +1,6 @@
 -- `walk_bare::put6`: number by number.
 use native.Mathlib.Omega.{arith}
 use lib.ListN.{length-set}
-use borrow.Author.Rules.{rules}
 use Rattle.walk_bare.proofs.put6.Goals as goal
 
 pub bounds-out-1 : goal.bounds-out-1

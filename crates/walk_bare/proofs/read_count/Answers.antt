@@ -1,7 +1,6 @@
 -- `walk_bare::read_count`: once, too often, or so often.
 use native.Mathlib.Omega.{arith}
 use Rattle.walk_bare.proofs.Laws.{count_few, count_most, count_is, count_fits}
-use borrow.Author.Rules.{rules}
 use Rattle.walk_bare.proofs.read_count.Goals as goal
 
 pub returns-then-asked-le1 : goal.returns-then-asked-le1

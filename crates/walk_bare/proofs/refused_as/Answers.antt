@@ -2,7 +2,6 @@
 use mathlib.Core.Path.{ap, ◌∙◌}
 use Rattle.error.specs.declared.Told.{Told}
 use Rattle.walk_bare.specs.Bare.{refused_by}
-use borrow.Author.Rules.{rules}
 use Rattle.walk_bare.proofs.refused_as.Goals as goal
 
 pub returns : goal.returns

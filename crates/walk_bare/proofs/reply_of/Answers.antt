@@ -1,6 +1,5 @@
 -- `walk_bare::reply_of`: no, yes, or no byte.
 use Rattle.walk_bare.proofs.Laws.{reply_no, reply_yes, reply_none}
-use borrow.Author.Rules.{rules}
 use Rattle.walk_bare.proofs.reply_of.Goals as goal
 
 pub returns-then-answers-question-eq0 : goal.returns-then-answers-question-eq0

@@ -5,7 +5,6 @@ use Prim.Native.Nat.{ℕ}
 use Rattle.tree_question.specs.Questions.{questions_at}
 use Rattle.link_find.specs.Find.{asked}
 use Rattle.walk_bare.proofs.Laws.{reply_at}
-use borrow.Author.Rules.{rules}
 use Rattle.walk_bare.proofs.reply_to.Goals as goal
 
 pub returns-in-At : goal.returns-in-At

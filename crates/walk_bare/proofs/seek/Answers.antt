@@ -2,7 +2,6 @@
 use mathlib.Core.Path.{sym, ap, ◌∙◌}
 use Rattle.tree_line.specs.Lines.{lines_at}
 use Rattle.walk_bare.specs.Bare.{sought_in}
-use borrow.Author.Rules.{rules}
 use Rattle.walk_bare.proofs.seek.Goals as goal
 
 pub returns-in-First : goal.returns-in-First

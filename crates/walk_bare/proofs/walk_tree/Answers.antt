@@ -5,7 +5,6 @@ use Rattle.tree_body.specs.Trees.{head_at}
 use Rattle.link_shape.proofs.Laws.{lines_many}
 use Rattle.walk_bare.specs.Bare.{ended_of}
 use Rattle.walk_bare.proofs.Laws.{walk_shape, walk_shape_lem}
-use borrow.Author.Rules.{rules}
 use Rattle.walk_bare.proofs.walk_tree.Goals as goal
 
 pub follow-requires : goal.follow-requires

@@ -1,9 +1,7 @@
 -- `walk_depth::climb`: a way of records from the first on, none of them settled. Each turn settles one and shortens the way, or makes it longer: what falls is twice the records that aren't settled, and what is left of the way.
-use mathlib.Core.Path.{◌≡◌, refl, sym, ◌∙◌, subst}
+use mathlib.Core.Path.{refl, sym, ◌∙◌, subst}
 use Prim.Native.Nat.{◌+◌, ◌-◌, ◌*◌, ◌<◌}
 use native.Mathlib.Omega.{arith}
-use lib.ListN.{length}
-use borrow.Author.Rules.{rules}
 use Rattle.written.specs.Depths.{stay}
 use Rattle.table_rows.specs.Rows.{records_in}
 use Rattle.walk_reach.specs.Work.{slot_at, zeros}

@@ -1,16 +1,11 @@
 -- `walk_depth::climb`: a way of records from the first on, none of them settled. Each turn settles one and shortens the way, or makes it longer: what falls is twice the records that aren't settled, and what is left of the way.
-use mathlib.Core.Path.{◌≡◌, refl, sym, ◌∙◌, subst}
-use Prim.Native.Nat.{◌+◌, ◌-◌, ◌*◌, ◌<◌}
-use native.Mathlib.Omega.{arith}
+use mathlib.Core.Path.{◌≡◌}
+use Prim.Native.Nat.{◌+◌, ◌-◌, ◌*◌}
 use lib.ListN.{length}
-use borrow.Author.Rules.{rules}
-use Rattle.written.specs.Depths.{stay}
 use Rattle.table_rows.specs.Rows.{records_in}
 use Rattle.walk_reach.specs.Work.{slot_at, zeros}
 use Rattle.walk_reach.specs.Seeing.{tree_records_of}
-use Rattle.walk_reach.proofs.Rows.{good_inside}
-use Rattle.walk_depth.specs.Climbing.{Settles}
-use Rattle.walk_depth.proofs.Climbing.{Climbing, climbing_first, all_small, last_met, last_inside, last_room, settled_most, climbing_settled, settled_less, down_met, climbing_round, down_room, climbing_down, down_less, climbing_found, found_some}
+use Rattle.walk_depth.proofs.Climbing.{Climbing}
 use Rattle.walk_depth.proofs.climb.Given as goal
 
 abbrev pub invariant-loop-len : goal.invariant-loop-len

@@ -3,7 +3,6 @@ use mathlib.Core.Path.{sym, ap, ◌∙◌}
 use native.Mathlib.Omega.{arith}
 use lib.IntN.{pos}
 use lib.ListN.{length, replicate, length-replicate}
-use borrow.Author.Rules.{rules}
 use borrow.Author.Tests.{not-true, not-false, ltb-true}
 use Rattle.walk_depth.proofs.Saying.{zeroed, says_missing, says_short, enough, says_there}
 use Rattle.walk_depth.proofs.depth_said.Goals as goal

@@ -1,7 +1,6 @@
 -- `walk_depth::judge`: a record that isn't good, the depth, or a path that goes round.
 use native.Mathlib.Omega.{arith}
 use lib.ListN.{length}
-use borrow.Author.Rules.{rules}
 use borrow.Author.Tests.{not-true, not-false}
 use Rattle.walk_depth.proofs.Saying.{zeroed, all_good, judged_bad, judged-found, judged_round}
 use Rattle.walk_depth.proofs.judge.Goals as goal

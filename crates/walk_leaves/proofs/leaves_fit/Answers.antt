@@ -1,12 +1,11 @@
 -- `walk_leaves::leaves_fit`: all trees up to t fit.
 use mathlib.Core.Path.{sym, ◌∙◌}
-use Prim.Native.Nat.{◌-◌, ◌<◌}
+use Prim.Native.Nat.{◌<◌}
 use native.Mathlib.Omega.{arith}
-use borrow.Author.Rules.{rules}
 use borrow.Author.Tests.{not-true, not-false, ltb-true, ltb-false}
 use Rattle.table_rows.specs.Rows.{tree_rows}
 use Rattle.walk_leaves.specs.Checks.{tree_fits, leaves_fit}
-use Rattle.laws.proofs.Every.{Passing, passing_none, passing_on, passing_off, passing_end}
+use Rattle.laws.proofs.Every.{passing_none, passing_on, passing_off, passing_end}
 use Rattle.walk_leaves.proofs.leaves_fit.Goals.{In-loop-width}
 use Rattle.walk_leaves.proofs.leaves_fit.Goals as goal
 

@@ -1,6 +1,5 @@
 -- `walk_leaves::line_fits`: no question, no yes, or by no.
 use mathlib.Core.Path.{sym, ◌∙◌}
-use borrow.Author.Rules.{rules}
 use borrow.Author.Tests.{not-true, not-false}
 use Rattle.walk_leaves.proofs.Judged.{no_question, no_yes, by_no}
 use Rattle.walk_leaves.proofs.line_fits.Goals as goal

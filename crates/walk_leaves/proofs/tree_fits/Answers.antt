@@ -1,5 +1,4 @@
 -- `walk_leaves::tree_fits`: values that stand outside, or by the records.
-use borrow.Author.Rules.{rules}
 use borrow.Author.Tests.{not-true, not-false}
 use Rattle.walk_leaves.proofs.Judged.{no_values, by_records}
 use Rattle.walk_leaves.proofs.tree_fits.Goals as goal

@@ -1,5 +1,4 @@
 -- `walk_leaves::values_fit`: no values, a start past the table, or by the room behind the start.
-use borrow.Author.Rules.{rules}
 use Rattle.walk_leaves.proofs.Judged.{no_entries, no_width, starts_past, by_room}
 use Rattle.walk_leaves.proofs.values_fit.Goals as goal
 

@@ -1,7 +1,6 @@
 -- `walk_reach::look`: missing, a line, a leaf, or of another kind.
 use mathlib.Core.Path.{sym, ◌∙◌}
 use native.Mathlib.Omega.{arith}
-use borrow.Author.Rules.{rules}
 use borrow.Author.Tests.{not-true, not-false}
 use Rattle.walk_reach.proofs.Laws.{seen_missing, row_inside, seen_line, seen-leaf, seen_wrong}
 use Rattle.walk_reach.proofs.look.Goals as goal

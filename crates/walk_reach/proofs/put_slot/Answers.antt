@@ -4,7 +4,6 @@ use Prim.Native.Nat.{◌+◌, ◌*◌}
 use lib.ListN.{set}
 use mir.Syntax.{w64}
 use mir.ValLaws.{to_z_pos}
-use borrow.Author.Rules.{rules}
 use Rattle.walk_reach.proofs.put_slot.Goals as goal
 
 pub returns : goal.returns

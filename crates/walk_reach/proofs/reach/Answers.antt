@@ -1,15 +1,12 @@
 -- `walk_reach::reach`: what stands before the head is good, and all that it refers to is marked.
-use mathlib.Core.Path.{◌≡◌, refl, sym, ◌∙◌, subst}
-use Prim.Native.Nat.{◌-◌}
+use mathlib.Core.Path.{refl, sym, ◌∙◌, subst}
 use native.Mathlib.Omega.{arith}
-use lib.ListN.{length}
-use borrow.Author.Rules.{rules}
 use Rattle.written.specs.Depths.{stay, Met}
 use Rattle.table_rows.specs.Rows.{records_in}
 use Rattle.walk_reach.specs.Seeing.{tree_records_of}
 use Rattle.walk_reach.specs.Reaching.{Reaches}
 use Rattle.walk_reach.proofs.Rows.{not_good}
-use Rattle.walk_reach.proofs.Queue.{queue_none, pushed_more, Reaching, reaching_none, reaching_more, reaching_bad, reaching_all, head_met, head_room, head_below}
+use Rattle.walk_reach.proofs.Queue.{queue_none, pushed_more, reaching_none, reaching_more, reaching_bad, reaching_all, head_met, head_room, head_below}
 use Rattle.walk_reach.proofs.reach.Goals as goal
 
 pub returns-then-records_in-eq0 : goal.returns-then-records_in-eq0

@@ -5,7 +5,6 @@ use lib.IntN.{pos}
 use lib.ListN.{get_or}
 use Rattle.laws.proofs.Signed.{back}
 use Rattle.text_parts.specs.Parts.{nat_of}
-use borrow.Author.Rules.{rules}
 use Rattle.walk_reach.proofs.slot.Goals as goal
 
 pub returns : goal.returns

@@ -1,5 +1,4 @@
 -- `walk_reach::visit`: a leaf, a line whose sides go to the queue, or a record that is not good.
-use borrow.Author.Rules.{rules}
 use Rattle.walk_reach.proofs.Visiting.{visited_leaf, visited_wrong, yes_outside, no_outside, yes_asks, no_asks, visited_line}
 use Rattle.walk_reach.proofs.visit.Goals as goal
 

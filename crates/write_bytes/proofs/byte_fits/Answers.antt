@@ -1,6 +1,5 @@
 -- `write_bytes::byte_fits`: each way through.
 use Rattle.write_bytes.proofs.Odd.{fits_name, fits_pattern}
-use borrow.Author.Rules.{rules}
 use Rattle.write_bytes.proofs.byte_fits.Goals as goal
 
 pub returns-then-name : goal.returns-then-name

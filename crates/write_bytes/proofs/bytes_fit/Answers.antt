@@ -1,7 +1,6 @@
 -- `write_bytes::bytes_fit`: names, then patterns.
 use Rattle.laws.proofs.Every.{not_first, then_second}
 use Rattle.write_bytes.specs.Tests.{bytes_fit}
-use borrow.Author.Rules.{rules}
 use borrow.Author.Tests.{not-true, not-false}
 use mathlib.Core.Path.{sym, ◌∙◌}
 use Rattle.write_bytes.proofs.bytes_fit.Goals as goal

@@ -2,7 +2,6 @@
 use Prim.Native.Nat.{ℕ}
 use Rattle.write_bytes.specs.Tests.{fits, every, name_fits}
 use Rattle.written.specs.Bytes.{part}
-use borrow.Author.Rules.{rules}
 use mathlib.Core.Bool.{true}
 use mathlib.Core.Path.{ap₂, ◌∙◌}
 use Rattle.write_bytes.proofs.name_fits.Goals as goal

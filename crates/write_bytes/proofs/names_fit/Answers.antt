@@ -1,9 +1,7 @@
 -- `write_bytes::names_fit`: all names up to q fit.
-use Prim.Native.Nat.{◌-◌}
-use Rattle.laws.proofs.Every.{Passing, passing_none, passing_on, passing_off, passing_end}
+use Rattle.laws.proofs.Every.{passing_none, passing_on, passing_off, passing_end}
 use Rattle.laws.specs.Every.{all}
 use Rattle.write_bytes.specs.Tests.{name_fits}
-use borrow.Author.Rules.{rules}
 use borrow.Author.Tests.{not-true, not-false}
 use mathlib.Core.Path.{sym, ap, ◌∙◌}
 use native.Mathlib.Omega.{arith}

@@ -1,10 +1,7 @@
 -- `write_bytes::part_fits`: the bytes that are left say what all say.
-use Prim.Native.Nat.{◌-◌}
-use Rattle.write_bytes.proofs.Odd.{Going, going_none, going_empty, going_over, going_off, going_on}
+use Rattle.write_bytes.proofs.Odd.{going_none, going_empty, going_over, going_off, going_on}
 use Rattle.write_bytes.specs.Tests.{fits}
-use borrow.Author.Rules.{rules}
 use borrow.Author.Tests.{not-true, not-false}
-use lib.ListN.{length}
 use mathlib.Core.Path.{sym, ◌∙◌}
 use Rattle.write_bytes.proofs.part_fits.Goals as goal
 

@@ -1,7 +1,6 @@
 -- `write_counts::add`: in the slice, behind it, or before it.
 use Prim.Native.Nat.{◌-◌}
 use Rattle.write_counts.proofs.Laws.{added_in, added_past, added_before}
-use borrow.Author.Rules.{rules}
 use native.Mathlib.Omega.{arith}
 use Rattle.write_counts.proofs.add.Goals as goal
 

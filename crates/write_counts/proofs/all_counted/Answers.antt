@@ -1,8 +1,5 @@
 -- `write_counts::all_counted`: the windows from `base` on say what all say.
-use Prim.Native.Nat.{◌-◌}
-use Rattle.write_counts.proofs.Laws.{Windows, windows_none, windows_on, windows_off, windows_end}
-use Rattle.write_counts.specs.Counts.{counted}
-use borrow.Author.Rules.{rules}
+use Rattle.write_counts.proofs.Laws.{windows_none, windows_on, windows_off, windows_end}
 use borrow.Author.Tests.{not-true, not-false}
 use native.Mathlib.Omega.{arith}
 use Rattle.write_counts.proofs.all_counted.Goals as goal

@@ -1,6 +1,5 @@
 -- `write_counts::due`: the run of the first leaf of a number, else none.
 use Rattle.write_counts.proofs.Laws.{due_first, due_none}
-use borrow.Author.Rules.{rules}
 use Rattle.write_counts.proofs.due.Goals as goal
 
 pub returns-then-first_leaf : goal.returns-then-first_leaf

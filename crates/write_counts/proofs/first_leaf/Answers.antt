@@ -1,6 +1,5 @@
 -- `write_counts::first_leaf`: the first of all leaves, or another number before it.
 use Rattle.write_counts.proofs.Laws.{first_here, first_later}
-use borrow.Author.Rules.{rules}
 use Rattle.write_counts.proofs.first_leaf.Goals as goal
 
 pub returns-then-k-lines : goal.returns-then-k-lines

@@ -1,7 +1,5 @@
 -- `write_counts::run_of`: the leaves up to i bear the number.
-use Prim.Native.Nat.{◌-◌}
-use Rattle.write_counts.proofs.Laws.{Running, running_none, running_on, running_off, running_end, run_so}
-use borrow.Author.Rules.{rules}
+use Rattle.write_counts.proofs.Laws.{running_none, running_on, running_off, running_end, run_so}
 use native.Mathlib.Omega.{arith}
 use Rattle.write_counts.proofs.run_of.Goals as goal
 

@@ -1,8 +1,6 @@
 -- `write_counts::run_of`: the leaves up to i bear the number.
 use Prim.Native.Nat.{◌-◌}
-use Rattle.write_counts.proofs.Laws.{Running, running_none, running_on, running_off, running_end, run_so}
-use borrow.Author.Rules.{rules}
-use native.Mathlib.Omega.{arith}
+use Rattle.write_counts.proofs.Laws.{Running}
 use Rattle.write_counts.proofs.run_of.Given as goal
 
 abbrev pub invariant-loop-i : goal.invariant-loop-i

@@ -1,8 +1,6 @@
 -- `write_counts::tally_refs`: references that are left, counted on, are all of them.
 use Prim.Native.Nat.{◌-◌}
-use Rattle.write_counts.proofs.Laws.{Tallying, tallying_none, small_yes, small_no, tallying_on, tallying_end}
-use borrow.Author.Rules.{rules}
-use native.Mathlib.Omega.{arith}
+use Rattle.write_counts.proofs.Laws.{Tallying}
 use Rattle.write_counts.proofs.tally_refs.Given as goal
 
 abbrev pub invariant-loop-k : goal.invariant-loop-k

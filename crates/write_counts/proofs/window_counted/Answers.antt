@@ -1,6 +1,5 @@
 -- `write_counts::window_counted`: counts from 0, then the references, then what is due.
 use Rattle.write_counts.proofs.Laws.{zeros_of}
-use borrow.Author.Rules.{rules}
 use native.Mathlib.Omega.{arith}
 use Rattle.write_counts.proofs.window_counted.Goals as goal
 

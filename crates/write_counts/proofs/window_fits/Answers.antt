@@ -1,8 +1,6 @@
 -- `write_counts::window_fits`: each count, by what is due.
-use Prim.Native.Nat.{◌+◌, ◌-◌}
-use Rattle.write_counts.proofs.Laws.{counted_so, Inside, inside_none, inside_on, inside_off, inside_end}
-use Rattle.write_counts.specs.Counts.{counted}
-use borrow.Author.Rules.{rules}
+use Prim.Native.Nat.{◌+◌}
+use Rattle.write_counts.proofs.Laws.{counted_so, inside_none, inside_on, inside_off, inside_end}
 use borrow.Author.Tests.{eq-eqb, ne_eqb}
 use native.Mathlib.Omega.{arith}
 use Rattle.write_counts.proofs.window_fits.Goals as goal

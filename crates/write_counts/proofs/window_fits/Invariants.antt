@@ -1,10 +1,7 @@
 -- `write_counts::window_fits`: each count, by what is due.
-use Prim.Native.Nat.{◌+◌, ◌-◌}
-use Rattle.write_counts.proofs.Laws.{counted_so, Inside, inside_none, inside_on, inside_off, inside_end}
+use Prim.Native.Nat.{◌-◌}
+use Rattle.write_counts.proofs.Laws.{Inside}
 use Rattle.write_counts.specs.Counts.{counted}
-use borrow.Author.Rules.{rules}
-use borrow.Author.Tests.{eq-eqb, ne_eqb}
-use native.Mathlib.Omega.{arith}
 use Rattle.write_counts.proofs.window_fits.Given as goal
 
 abbrev pub invariant-loop-j : goal.invariant-loop-j

@@ -1,5 +1,5 @@
 -- `write_figures::figures_len`: the digits that are left, counted on, are all of them.
-use Rattle.write_figures.proofs.Digits.{Counting, counting_none, counting_more, counting_done}
+use Rattle.write_figures.proofs.Digits.{counting_none, counting_more, counting_done}
 use native.Mathlib.Omega.{arith}
 use Rattle.write_figures.proofs.figures_len.Goals as goal
 

@@ -1,9 +1,5 @@
 -- `write_figures::put_figures`: the digits that are left, stored, give the buffer with all of them.
-use Prim.Native.Nat.{ℕ, ◌+◌, min}
-use Rattle.write_figures.proofs.Digits.{Storing, storing_none, storing_more, storing_done, put_out}
-use borrow.Author.Rules.{rules}
-use mathlib.Core.Path.{ap, ◌∙◌}
-use native.Mathlib.Omega.{arith}
+use Rattle.write_figures.proofs.Digits.{Storing}
 use Rattle.write_figures.proofs.put_figures.Given as goal
 
 abbrev pub invariant-loop-m : goal.invariant-loop-m

@@ -1,7 +1,6 @@
 -- `write_parts::put_id`: 0, or a dash and the digits.
 use Rattle.write_put.proofs.Puts.{put_then, put_as}
 use Rattle.write_parts.proofs.Laws.{id_zero, id_more}
-use borrow.Author.Rules.{rules}
 use Rattle.write_parts.proofs.put_id.Goals as goal
 
 pub returns-then-k-eq0 : goal.returns-then-k-eq0

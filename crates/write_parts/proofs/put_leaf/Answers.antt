@@ -3,7 +3,6 @@ use Prim.Native.Nat.{ℕ}
 use Rattle.write_put.proofs.Puts.{put_then, put_as}
 use Rattle.written.specs.Writing.{spelled_ref}
 use Rattle.written.specs.Said.{pdf}
-use borrow.Author.Rules.{rules}
 use mathlib.Core.Path.{ap}
 use Rattle.write_parts.proofs.put_leaf.Goals as goal
 

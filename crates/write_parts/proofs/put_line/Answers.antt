@@ -1,7 +1,6 @@
 -- `write_parts::put_line`: its parts one behind the other.
 use Rattle.write_put.proofs.Puts.{put_then, put_as}
 use Rattle.write_parts.proofs.Laws.{line_bytes}
-use borrow.Author.Rules.{rules}
 use mathlib.Core.Path.{◌∙◌}
 use Rattle.write_parts.proofs.put_line.Goals as goal
 

@@ -1,7 +1,6 @@
 -- `write_parts::put_name`: all of it.
 use Rattle.write_put.proofs.Puts.{put_as}
 use Rattle.write_parts.proofs.Laws.{whole_part}
-use borrow.Author.Rules.{rules}
 use Rattle.write_parts.proofs.put_name.Goals as goal
 
 pub returns : goal.returns

@@ -3,7 +3,6 @@ use Prim.Native.Nat.{◌+◌}
 use Rattle.write_put.proofs.Puts.{put_as, put_none}
 use Rattle.table_rows.proofs.Stand.{told, below}
 use Rattle.write_parts.proofs.Laws.{pattern_there, pattern_missing}
-use borrow.Author.Rules.{rules}
 use native.Mathlib.Omega.{arith}
 use Rattle.write_parts.proofs.put_pattern.Goals as goal
 

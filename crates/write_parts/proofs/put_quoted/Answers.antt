@@ -1,7 +1,6 @@
 -- `write_parts::put_quoted`: quote, pattern, quote, and a comma before the next.
 use Rattle.write_put.proofs.Puts.{put_then, put_as}
 use Rattle.write_parts.specs.Parts.{quoted, pattern_of}
-use borrow.Author.Rules.{rules}
 use mathlib.Core.Path.{sym, ap}
 use Rattle.write_parts.proofs.put_quoted.Goals as goal
 

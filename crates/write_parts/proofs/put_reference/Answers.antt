@@ -2,7 +2,6 @@
 use Rattle.write_put.proofs.Puts.{put_as}
 use Rattle.write_parts.proofs.Laws.{ref_line, ref_leaf}
 use Rattle.written.specs.Writing.{spelled_ref}
-use borrow.Author.Rules.{rules}
 use mathlib.Core.Path.{ap}
 use Rattle.write_parts.proofs.put_reference.Goals as goal
 

@@ -1,5 +1,4 @@
 -- `write_put::put1`: stored where the buffer reaches, else nothing.
-use borrow.Author.Rules.{rules}
 use lib.Seq.{set_out}
 use mathlib.Core.Path.{sym}
 use native.Mathlib.Omega.{arith}

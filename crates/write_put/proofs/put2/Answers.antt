@@ -1,6 +1,5 @@
 -- `write_put::put2`: one behind the other.
 use Rattle.write_put.proofs.Puts.{put_then}
-use borrow.Author.Rules.{rules}
 use Rattle.write_put.proofs.put2.Goals as goal
 
 pub returns : goal.returns

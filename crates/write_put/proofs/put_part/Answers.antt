@@ -1,9 +1,5 @@
 -- `write_put::put_part`: the bytes that are left, put where the loop is, are all of them.
-use Prim.Native.Nat.{◌-◌}
-use Rattle.write_put.proofs.Puts.{Leads, leads_none, leads_more, leads_done, part_none, part_over, part_more}
-use Rattle.written.specs.Bytes.{part}
-use borrow.Author.Rules.{rules}
-use lib.ListN.{length}
+use Rattle.write_put.proofs.Puts.{leads_none, leads_more, leads_done, part_none, part_over, part_more}
 use native.Mathlib.Omega.{arith}
 use Rattle.write_put.proofs.put_part.Goals as goal
 

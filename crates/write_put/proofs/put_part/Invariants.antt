@@ -1,10 +1,8 @@
 -- `write_put::put_part`: the bytes that are left, put where the loop is, are all of them.
 use Prim.Native.Nat.{◌-◌}
-use Rattle.write_put.proofs.Puts.{Leads, leads_none, leads_more, leads_done, part_none, part_over, part_more}
+use Rattle.write_put.proofs.Puts.{Leads}
 use Rattle.written.specs.Bytes.{part}
-use borrow.Author.Rules.{rules}
 use lib.ListN.{length}
-use native.Mathlib.Omega.{arith}
 use Rattle.write_put.proofs.put_part.Given as goal
 
 abbrev pub invariant-loop-i : goal.invariant-loop-i

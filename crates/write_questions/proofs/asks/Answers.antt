@@ -1,6 +1,5 @@
 -- `write_questions::asks`: its kind, then its question.
 use Rattle.write_questions.proofs.HiddenNames.{asks_line, asks_no_line}
-use borrow.Author.Rules.{rules}
 use Rattle.write_questions.proofs.asks.Goals as goal
 
 pub returns-then-record_kind-eq0 : goal.returns-then-record_kind-eq0

@@ -1,8 +1,6 @@
 -- `write_questions::follow`: the questions that are left say what all say.
-use Prim.Native.Nat.{◌-◌}
-use Rattle.write_questions.proofs.Chain.{next_room, Following, following_none, following_off, following_on, following_end}
+use Rattle.write_questions.proofs.Chain.{next_room, following_none, following_off, following_on, following_end}
 use Rattle.write_questions.specs.Tests.{chained}
-use borrow.Author.Rules.{rules}
 use borrow.Author.Tests.{not-true, not-false}
 use mathlib.Core.Path.{sym, ap, ◌∙◌}
 use native.Mathlib.Omega.{arith}

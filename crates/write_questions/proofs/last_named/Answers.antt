@@ -1,9 +1,6 @@
 -- `write_questions::last_named`: no question from q + 1 up to j has the name.
-use Prim.Native.Nat.{◌+◌, ◌-◌}
-use Rattle.laws.proofs.Every.{Going, going_none, going_on, going_off, going_end}
+use Rattle.laws.proofs.Every.{going_none, going_on, going_off, going_end}
 use Rattle.write_questions.proofs.HiddenNames.{named_so, last_so}
-use Rattle.write_questions.specs.Tests.{unlike_name}
-use borrow.Author.Rules.{rules}
 use native.Mathlib.Omega.{arith}
 use Rattle.write_questions.proofs.last_named.Goals as goal
 

@@ -2,7 +2,6 @@
 use Prim.Native.Nat.{ℕ, ◌-◌}
 use Rattle.table_rows.specs.Rows.{pattern_rows, question_patterns}
 use Rattle.write_questions.proofs.Chain.{left_of, next_unnamed, next_none, next_apart, next_left}
-use borrow.Author.Rules.{rules}
 use lib.Dec.{leb}
 use mathlib.Core.Path.{sym, ap₂, ◌∙◌}
 use native.Mathlib.Omega.{arith}

@@ -1,12 +1,7 @@
 -- `write_questions::none_asks`: no record up to i asks it.
 use Prim.Native.Nat.{◌-◌}
-use Rattle.laws.proofs.Every.{Passing, passing_none, passing_on, passing_off, passing_end}
-use Rattle.laws.specs.Every.{all}
+use Rattle.laws.proofs.Every.{Passing}
 use Rattle.write_questions.specs.Tests.{asks_other}
-use borrow.Author.Rules.{rules}
-use mathlib.Core.Bool.{not}
-use mathlib.Core.Path.{sym, ap, ◌∙◌}
-use native.Mathlib.Omega.{arith}
 use Rattle.write_questions.proofs.none_asks.Given as goal
 
 abbrev pub invariant-loop-i : goal.invariant-loop-i

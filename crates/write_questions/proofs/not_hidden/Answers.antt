@@ -1,6 +1,5 @@
 -- `write_questions::not_hidden`: the last of its name, or by the records.
 use Rattle.write_questions.proofs.HiddenNames.{is_last, not_last}
-use borrow.Author.Rules.{rules}
 use Rattle.write_questions.proofs.not_hidden.Goals as goal
 
 pub returns-then-last_named : goal.returns-then-last_named

@@ -1,7 +1,6 @@
 -- `write_questions::questions_fit`: questions, then patterns.
 use Rattle.laws.proofs.Every.{not_first, then_second}
 use Rattle.write_questions.specs.Tests.{questions_fit}
-use borrow.Author.Rules.{rules}
 use borrow.Author.Tests.{not-true, not-false}
 use mathlib.Core.Path.{sym, ◌∙◌}
 use Rattle.write_questions.proofs.questions_fit.Goals as goal

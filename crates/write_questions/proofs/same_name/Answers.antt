@@ -1,6 +1,5 @@
 -- `write_questions::same_name`: by how the names stand to each other.
 use Rattle.write_questions.proofs.HiddenNames.{by_same, by_below, by_above}
-use borrow.Author.Rules.{rules}
 use mathlib.Core.Path.{sym, ◌∙◌}
 use native.Mathlib.Omega.{arith}
 use Rattle.write_questions.proofs.same_name.Goals as goal

@@ -1,6 +1,5 @@
 -- `write_questions::some_byte`: by its row.
 use Rattle.write_questions.specs.Tests.{some_byte}
-use borrow.Author.Rules.{rules}
 use lib.Dec.{ltb}
 use mathlib.Core.Path.{ap}
 use Rattle.write_questions.proofs.some_byte.Goals as goal

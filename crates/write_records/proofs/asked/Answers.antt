@@ -3,7 +3,6 @@ use Prim.Native.Nat.{◌+◌}
 use Rattle.table_rows.proofs.Stand.{told, below}
 use Rattle.table_rows.specs.Rows.{record_question}
 use Rattle.write_records.proofs.Laws.{record_says, record_missing}
-use borrow.Author.Rules.{rules}
 use native.Mathlib.Omega.{arith}
 use Rattle.write_records.proofs.asked.Goals as goal
 

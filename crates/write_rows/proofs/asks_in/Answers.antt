@@ -2,7 +2,6 @@
 use Rattle.table_rows.specs.Rows.{record_kind, record_question, question_there}
 use Rattle.write_rows.proofs.Outside.{zero_kind, other_kind}
 use Rattle.write_rows.specs.Tests.{asks_in}
-use borrow.Author.Rules.{rules}
 use mathlib.Core.Path.{sym, ap, ◌∙◌}
 use Rattle.write_rows.proofs.asks_in.Goals as goal
 

@@ -3,7 +3,6 @@ use Prim.Native.Nat.{ℕ, ◌+◌}
 use Rattle.table_rows.proofs.Stand.{told, below}
 use Rattle.table_rows.specs.Rows.{record_yes, record_no}
 use Rattle.write_rows.proofs.Outside.{goes_missing, goes_other, goes_out, goes_both}
-use borrow.Author.Rules.{rules}
 use borrow.Author.Tests.{not-true, not-false}
 use lib.Dec.{ltb}
 use mathlib.Core.Path.{sym, ap, ◌∙◌}

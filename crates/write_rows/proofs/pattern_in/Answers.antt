@@ -1,7 +1,6 @@
 -- `write_rows::pattern_in`: by its row.
 use Prim.Native.Nat.{ℕ}
 use Rattle.write_rows.specs.Tests.{among, pattern_in}
-use borrow.Author.Rules.{rules}
 use lib.ListN.{length}
 use mathlib.Core.Path.{ap₂, ◌∙◌}
 use Rattle.write_rows.proofs.pattern_in.Goals as goal

@@ -3,7 +3,6 @@ use Prim.Native.Nat.{ℕ}
 use Rattle.laws.proofs.Every.{not_first, then_second}
 use Rattle.table_rows.specs.Rows.{question_first, question_patterns}
 use Rattle.write_rows.specs.Tests.{among, question_in}
-use borrow.Author.Rules.{rules}
 use borrow.Author.Tests.{not-true, not-false}
 use lib.ListN.{length}
 use mathlib.Core.Path.{sym, ap, ap₂, ◌∙◌}

@@ -1,9 +1,7 @@
 -- `write_rows::questions_in`: all questions up to q stand inside.
-use Prim.Native.Nat.{◌-◌}
-use Rattle.laws.proofs.Every.{Passing, passing_none, passing_on, passing_off, passing_end}
+use Rattle.laws.proofs.Every.{passing_none, passing_on, passing_off, passing_end}
 use Rattle.laws.specs.Every.{all}
 use Rattle.write_rows.specs.Tests.{question_in}
-use borrow.Author.Rules.{rules}
 use borrow.Author.Tests.{not-true, not-false}
 use mathlib.Core.Path.{sym, ap, ◌∙◌}
 use native.Mathlib.Omega.{arith}

@@ -1,7 +1,6 @@
 -- `write_rows::rows_in`: one table after the other.
 use Rattle.laws.proofs.Every.{not_first, then_second}
 use Rattle.write_rows.specs.Tests.{rows_in}
-use borrow.Author.Rules.{rules}
 use borrow.Author.Tests.{not-true, not-false}
 use mathlib.Core.Path.{sym, ◌∙◌}
 use Rattle.write_rows.proofs.rows_in.Goals as goal

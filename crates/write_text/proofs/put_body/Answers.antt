@@ -1,7 +1,6 @@
 -- `write_text::put_body`: each way through.
 use Rattle.write_put.proofs.Puts.{put_then, put_as}
 use Rattle.write_text.proofs.Laws.{body_empty, body_leaf, body_lines}
-use borrow.Author.Rules.{rules}
 use Rattle.write_text.proofs.put_body.Goals as goal
 
 pub returns-then-count-eq0 : goal.returns-then-count-eq0

@@ -1,11 +1,8 @@
 -- `write_text::put_lines`: the lines that are left, put where the loop is, are all of them.
-use Prim.Native.Nat.{◌-◌}
-use Rattle.write_put.proofs.Puts.{Leads, leads_more, leads_done}
-use Rattle.write_parts.specs.Parts.{each, line_of}
+use Rattle.write_put.proofs.Puts.{leads_more, leads_done}
+use Rattle.write_parts.specs.Parts.{line_of}
 use Rattle.write_text.proofs.Laws.{leads_begin, flat_more, flat_done, all_flat}
 use Rattle.written.specs.Writing.{spelled_line}
-use borrow.Author.Rules.{rules}
-use mathlib.Core.List.{map, flatten}
 use mathlib.Core.Path.{refl}
 use native.Mathlib.Omega.{arith}
 use Rattle.write_text.proofs.put_lines.Goals as goal

@@ -1,10 +1,7 @@
 -- `write_text::put_patterns`: the patterns that are left, put where the loop is, are all of them.
-use Prim.Native.Nat.{◌-◌}
-use Rattle.write_put.proofs.Puts.{Leads, leads_more, leads_done}
-use Rattle.write_parts.specs.Parts.{each, pattern_of}
+use Rattle.write_put.proofs.Puts.{leads_more, leads_done}
+use Rattle.write_parts.specs.Parts.{pattern_of}
 use Rattle.write_text.proofs.Laws.{leads_begin, patterns_more, patterns_done, all_patterns}
-use Rattle.written.specs.Writing.{spelled_patterns}
-use borrow.Author.Rules.{rules}
 use native.Mathlib.Omega.{arith}
 use Rattle.write_text.proofs.put_patterns.Goals as goal
 

@@ -2,7 +2,6 @@
 use Rattle.write_put.proofs.Puts.{put_then}
 use Rattle.write_text.specs.Text.{text_of}
 use Rattle.written.specs.Writing.{spelled}
-use borrow.Author.Rules.{rules}
 use Rattle.write_text.proofs.put_text.Goals as goal
 
 pub returns : goal.returns

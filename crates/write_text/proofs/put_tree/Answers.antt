@@ -1,7 +1,6 @@
 -- `write_text::put_tree`: its parts one behind the other.
 use Rattle.write_put.proofs.Puts.{put_then, put_as}
 use Rattle.write_text.proofs.Laws.{tree_bytes_lem}
-use borrow.Author.Rules.{rules}
 use mathlib.Core.Path.{◌∙◌}
 use Rattle.write_text.proofs.put_tree.Goals as goal
 

@@ -1,6 +1,5 @@
 -- `Refusal::line`: its part of what is told.
 use mathlib.Core.Path.{ap}
-use borrow.Author.Rules.{rules}
 use Rattle.error.specs.declared.Told.{Told}
 use Rattle.error.proofs.Refusal.line.Goals as goal
 

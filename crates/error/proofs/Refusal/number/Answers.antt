@@ -1,6 +1,5 @@
 -- `Refusal::number`: its part of what is told.
 use mathlib.Core.Path.{ap}
-use borrow.Author.Rules.{rules}
 use Rattle.error.specs.declared.Told.{Told}
 use Rattle.error.proofs.Refusal.number.Goals as goal
 

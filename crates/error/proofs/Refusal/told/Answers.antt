@@ -1,7 +1,6 @@
 -- `Refusal::told`: each arm says which case it was.
 use mathlib.Core.Path.{◌≡◌, sym, ap, ◌∙◌}
 use Prim.Native.Nat.{ℕ}
-use borrow.Author.Rules.{rules}
 use Rattle.error.specs.Numbers.{fault_number, told_of}
 use Rattle.error.specs.declared.LinkFault.{LinkFault}
 use Rattle.error.specs.declared.Refusal.{Refusal}

@@ -9,7 +9,6 @@ use Rattle.head_de.specs.Values.{delimiter_at}
 use borrow.Author.Tests.{eq-eqb, ne_eqb}
 use native.Mathlib.Omega.{arith}
 use mathlib.Core.Path.{◌≡◌, sym, ◌∙◌}
-use borrow.Author.Rules.{rules}
 use Rattle.head_de.proofs.Cursor.delimiter.Goals as goal
 
 -- a byte that is not the end's 256 stands inside

@@ -1,7 +1,6 @@
 -- `head_de::Cursor::element` meets its contract.
 use Rattle.head_de.specs.Values.{element_at, element_of}
 use mathlib.Core.Path.{sym, ap, ◌∙◌}
-use borrow.Author.Rules.{rules}
 use Rattle.head_de.proofs.Cursor.element.Goals as goal
 
 pub returns-then-first : goal.returns-then-first

@@ -3,7 +3,6 @@ use Rattle.written.specs.Bytes.{one_of}
 use Rattle.head_de.specs.Values.{ends_at}
 use borrow.Author.Tests.{eq-eqb, ne_eqb}
 use mathlib.Core.Path.{sym, ap, ◌∙◌}
-use borrow.Author.Rules.{rules}
 use Rattle.head_de.proofs.Cursor.ends.Goals as goal
 
 pub returns-then-b-eq256 : goal.returns-then-b-eq256

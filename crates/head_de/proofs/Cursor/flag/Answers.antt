@@ -4,7 +4,6 @@ use Rattle.head_de.specs.Values.{flag_at}
 use borrow.Author.Tests.{eq-eqb, ne_eqb}
 use native.Mathlib.Omega.{arith}
 use mathlib.Core.Path.{sym, ◌∙◌}
-use borrow.Author.Rules.{rules}
 use Rattle.head_de.proofs.Cursor.flag.Goals as goal
 
 pub returns-then-b-eq256 : goal.returns-then-b-eq256

@@ -2,7 +2,6 @@
 use Rattle.head_de.specs.Values.{number_at, number_of}
 use borrow.Author.Tests.{eq-eqb, ne_eqb}
 use mathlib.Core.Path.{sym, ap, ◌∙◌}
-use borrow.Author.Rules.{rules}
 use Rattle.head_de.proofs.Cursor.number.Goals as goal
 
 pub returns-then-byte_at-eq256 : goal.returns-then-byte_at-eq256

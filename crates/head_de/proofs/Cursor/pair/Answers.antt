@@ -1,7 +1,6 @@
 -- `head_de::Cursor::pair` meets its contract.
 use Rattle.head_de.specs.Values.{pair_at}
 use mathlib.Core.Path.{sym, ◌∙◌}
-use borrow.Author.Rules.{rules}
 use Rattle.head_de.proofs.Cursor.pair.Goals as goal
 
 pub returns-in-Read-element : goal.returns-in-Read-element

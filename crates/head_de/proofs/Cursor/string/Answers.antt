@@ -4,7 +4,6 @@ use Rattle.head_de.specs.Values.{text_at}
 use borrow.Author.Tests.{ne_eqb, lt-ltb, le-ltb}
 use native.Mathlib.Omega.{arith}
 use mathlib.Core.Path.{sym, ◌∙◌}
-use borrow.Author.Rules.{rules}
 use Rattle.head_de.proofs.Cursor.string.Goals as goal
 
 pub overflow_add-start : goal.overflow_add-start

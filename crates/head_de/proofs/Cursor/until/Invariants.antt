@@ -1,13 +1,10 @@
 -- `head_de::Cursor::until` meets its contract. The place where the run stops is the same from each place that the loop passes.
-use borrow.Author.Rules.{rules}
-use Rattle.laws.proofs.Runs.{byte_is, stop_on, stop_here, stop_end}
 use Rattle.laws.specs.Runs.{stop}
 use lib.ListN.{length}
 use Prim.Native.Nat.{◌-◌}
-use mathlib.Core.Bool.{not}
-use Rattle.written.specs.Bytes.{one_of, none_of}
-use Rattle.head_de.specs.Values.{cursor, delimiters_of}
-use mathlib.Core.Path.{◌≡◌, sym, ap, ◌∙◌}
+use Rattle.written.specs.Bytes.{none_of}
+use Rattle.head_de.specs.Values.{delimiters_of}
+use mathlib.Core.Path.{◌≡◌}
 use Rattle.head_de.proofs.Cursor.until.Given as goal
 
 abbrev pub invariant-loop-i : goal.invariant-loop-i

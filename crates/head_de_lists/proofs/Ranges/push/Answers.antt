@@ -1,7 +1,6 @@
 -- `head_de_lists::Ranges::push` meets its contract.
 use Rattle.head_de_lists.specs.Lists.{ranges_with}
 use borrow.Author.Tests.{lt-ltb, le-ltb}
-use borrow.Author.Rules.{rules}
 use Rattle.head_de_lists.proofs.Ranges.push.Goals as goal
 
 pub returns-then-n-lt8 : goal.returns-then-n-lt8

@@ -1,7 +1,6 @@
 -- `head_de_lists::Spans::push` meets its contract.
 use Rattle.head_de_lists.specs.Lists.{spans_with}
 use borrow.Author.Tests.{lt-ltb, le-ltb}
-use borrow.Author.Rules.{rules}
 use Rattle.head_de_lists.proofs.Spans.push.Goals as goal
 
 pub returns-then-n-lt32 : goal.returns-then-n-lt32

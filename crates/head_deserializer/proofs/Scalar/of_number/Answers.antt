@@ -1,5 +1,4 @@
 -- `head_deserializer::Scalar::of_number` meets its contract.
-use borrow.Author.Rules.{rules}
 use Rattle.head_deserializer.proofs.Scalar.of_number.Goals as goal
 
 pub returns-in-Read : goal.returns-in-Read

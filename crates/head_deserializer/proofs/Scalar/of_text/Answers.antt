@@ -1,5 +1,4 @@
 -- `head_deserializer::Scalar::of_text` meets its contract.
-use borrow.Author.Rules.{rules}
 use Rattle.head_deserializer.proofs.Scalar.of_text.Goals as goal
 
 pub returns-in-Read : goal.returns-in-Read
