@@ -8,7 +8,8 @@ import elf
 
 HERE = os.path.dirname(os.path.abspath(__file__))
 ROOT = os.path.dirname(HERE)
-sys.path.insert(0, os.path.join(ROOT, 'tools'))  # far.py
+sys.path.insert(0, os.path.join(ROOT, 'tools'))  # far.py, kit.py
+import kit  # noqa: E402
 ROOM = os.path.join(ROOT, 'target', 'bench')
 WARNINGS = ['-Wall', '-Wextra', '-Wpedantic']
 NATIVE = os.uname().machine + '-unknown-linux-gnu'
@@ -25,14 +26,20 @@ def need(command, *packages):
 
 
 def newer(path, *sources):
-    """Whether a file stands that is younger than all files of these folders."""
+    """Whether a file stands that is younger than all files of these folders; what checks keep in out/ doesn't count."""
     if not os.path.exists(path):
         return False
     made = os.path.getmtime(path)
-    return all(os.path.getmtime(os.path.join(f, n)) <= made for s in sources for f, _, names in os.walk(s) for n in names)
+    return all(os.path.getmtime(os.path.join(f, n)) <= made for s in sources for f, folders, names in walked(s) for n in names)
 
 
-def built(level, triple=NATIVE, *flags, crate='larsavim'):
+def walked(top):
+    for f, folders, names in os.walk(top):
+        folders[:] = [it for it in folders if it != 'out']
+        yield f, folders, names
+
+
+def built(level, triple=NATIVE, *flags, crate='larsavim_c'):
     """A library's object for a target at a level, by host/native."""
     path = os.path.join(ROOM, '-'.join([crate + level, triple.split('-')[0], *(f.strip('-') for f in flags)]) + '.o')
     if not newer(path, os.path.join(ROOT, 'crates')):
@@ -62,10 +69,9 @@ def machine():
     """Machine and versions, as a paragraph."""
     cpu = dict(line.split(':', 1) for line in output('lscpu').splitlines() if ':' in line)
     caches = ', '.join('%s %s' % (k[:-6], cpu[k].split('(')[0].strip()) for k in cpu if k.endswith(' cache'))
-    kit = os.path.dirname(os.path.dirname(output('rt', 'doc').strip()))
-    clang = re.search(r'version (\S+)', first_line(os.path.join(kit, 'on', os.uname().machine, 'toolchain', 'bin', 'clang'), '--version'))
+    clang = re.search(r'version (\S+)', first_line(kit.tool('clang'), '--version'))
     parts = ['%s, %s, %s cores; caches %s' % (cpu['Model name'].strip(), os.uname().machine, cpu['CPU(s)'].strip(), caches), 'Linux ' + os.uname().release.split('-')[0],
-             'Debian ' + open('/etc/debian_version').read().strip(), first_line('rt', '--version'), "the kit's clang " + (clang.group(1) if clang else '?'), 'gcc ' + first_line('gcc', '-dumpfullversion'),
+             'Debian ' + open('/etc/debian_version').read().strip(), first_line('rt', 'version'), "the kit's clang " + (clang.group(1) if clang else '?'), 'gcc ' + first_line('gcc', '-dumpfullversion'),
              first_line('rustc', '--version').split(' (')[0], package('libhtsengine-dev'), first_line('valgrind', '--version')]
     return '; '.join(parts) + '.\n'
 

@@ -1,6 +1,5 @@
 """What the firm and its voice builders hold in their hands around the library: version, warnings, pictures, sizes, the binding, the self-test, the release.
 Each test takes host/test's own module `t`: t.check, t.run, t.file_of, .. What is expected comes from the second reading, as there."""
-import functools
 import hashlib
 import json
 import os
@@ -13,9 +12,11 @@ import sys
 import tarfile
 import xml.etree.ElementTree
 
-sys.path.insert(0, os.path.join(os.path.dirname(os.path.abspath(__file__)), '..', '..', 'bench'))
+for folder in 'bench', 'tools':
+    sys.path.insert(0, os.path.join(os.path.dirname(os.path.abspath(__file__)), '..', '..', folder))
 import elf  # noqa: E402
 import house  # noqa: E402
+import kit  # noqa: E402
 import reading  # noqa: E402
 import voices  # noqa: E402
 
@@ -339,7 +340,7 @@ def own_library(t):
     os.mkdir(folder)
     made = os.path.join(folder, 'larsavim.o')
     t.check('host/native for this machine', subprocess.run([os.path.join(t.HERE, 'native'), made]).returncode, 0)
-    t.check('its archive', subprocess.run([kit_tool('llvm-ar'), 'rcsD', os.path.join(folder, 'liblarsavim.a'), made]).returncode, 0)
+    t.check('its archive', subprocess.run([kit.tool('llvm-ar'), 'rcsD', os.path.join(folder, 'liblarsavim.a'), made]).returncode, 0)
     return dict(LARSAVIM_LIB_DIR=folder)
 
 
@@ -375,12 +376,6 @@ CORES = {'x86_64': ['--target=x86_64-unknown-linux-gnu'], 'aarch64': ['--target=
 RELEASED = {'x86_64': 'x86_64', 'aarch64': 'aarch64', 'aarch64-O3': 'aarch64', 'riscv64': 'riscv64gc', 'riscv64-O3': 'riscv64gc', 'riscv64-lp64': 'riscv64', 'riscv64-lp64-O3': 'riscv64'}
 
 
-@functools.lru_cache
-def kit_tool(name):
-    kit = os.path.dirname(os.path.dirname(subprocess.run(['rt', 'doc'], stdout=subprocess.PIPE, check=True).stdout.decode().strip()))
-    return os.path.join(kit, 'on', os.uname().machine, 'toolchain', 'bin', name)
-
-
 def emulator(core):
     """How a program for a core is run here, or None."""
     core = core.replace('gc', '')
@@ -396,13 +391,13 @@ def emulator(core):
 def bare(t, core, source, library, name):
     """The self-test as a program without a C library; and its own object."""
     include = subprocess.run(['gcc', '-print-file-name=include'], stdout=subprocess.PIPE, check=True).stdout.decode().strip()
-    compile_with = [kit_tool('clang'), *CORES[core], '-std=c99', '-ffreestanding', '-fno-builtin', '-fno-pic', '-nostdlibinc', '-isystem', include, '-I', t.HERE, '-Os', '-Wall', '-Wextra', '-Werror', '-c']
+    compile_with = [kit.tool('clang'), *CORES[core], '-std=c99', '-ffreestanding', '-fno-builtin', '-fno-pic', '-nostdlibinc', '-isystem', include, '-I', t.HERE, '-Os', '-Wall', '-Wextra', '-Werror', '-c']
     objects = [os.path.join(t.room, n + '.o') for n in (name, 'run-' + core)]
     t.compiles('self-test, ' + core, *compile_with, source, '-o', objects[0])
     if not os.path.exists(objects[1]):
         t.compiles('self-test, its entry, ' + core, *compile_with, os.path.join(t.HERE, 'selftest', 'run.c'), '-o', objects[1])
     program = os.path.join(t.room, name)
-    t.compiles('self-test, linked, ' + core, kit_tool('ld.lld'), '-static', '--gc-sections', '-o', program, *objects, library)
+    t.compiles('self-test, linked, ' + core, kit.tool('ld.lld'), '-static', '--gc-sections', '-o', program, *objects, library)
     return program, objects[0]
 
 
