@@ -2,7 +2,6 @@
 use mathlib.Core.Path.{sym, ap, ◌∙◌}
 use lib.ListN.{length}
 use Rattle.replay_compare.specs.Valid.{valid_up_to}
-use borrow.Author.Rules.{rules}
 use Rattle.replay_compare.proofs.larsavim_valid_up_to.Goals as goal
 
 pub returns-in-Valid : goal.returns-in-Valid
