@@ -1,6 +1,5 @@
 -- `replay::decode`: two digits a byte, inside the line and the room.
 use Prim.Native.Nat.{◌-◌, ◌≤◌}
-use borrow.Author.Rules.{rules}
 use lib.ListN.{length}
 use Rattle.replay.proofs.decode.Given as goal
 

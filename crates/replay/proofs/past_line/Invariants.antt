@@ -1,6 +1,5 @@
 -- `replay::past_line`: the place goes up.
 use Prim.Native.Nat.{◌-◌, ◌≤◌}
-use borrow.Author.Rules.{rules}
 use lib.ListN.{length}
 use Rattle.replay.proofs.past_line.Given as goal
 
