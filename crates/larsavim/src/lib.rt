@@ -297,16 +297,12 @@ pub fn larsavim_leaves(
     leaves_fit(questions, trees, records, values, width) as u64
 }
 
-// Walks for each job of a lent slice, and writes how each ended where the job stands. The borrow checker covers no function over a slice of structs, so this loop is proved
-// by hand and does nothing but call the covered `walk_job`.
+// Walks for each job of a lent slice, and writes how each ended where the job stands.
 pub fn larsavim_walk_jobs(trees: &[u64], records: &[u64], answers: &[u8], jobs: &mut [Job])
     ensures { jobs.new ≡ jobs_done trees.now records.now answers.now jobs.old }
 {
-    let mut i = 0;
-    while i < jobs.len() {
-        let job = jobs[i];
-        jobs[i] = walk_job(trees, records, answers, job);
-        i = i + 1;
+    for job in jobs.iter_mut() {
+        *job = walk_job(trees, records, answers, *job);
     }
 }
 

@@ -181,8 +181,7 @@ pub extern "C" fn larsavim_leaves(
     larsavim::larsavim_leaves(questions, trees, records, values, width)
 }
 
-// Walks for each job of a lent slice, and writes how each ended where the job stands. The borrow checker covers no function over a slice of structs, so this loop is proved
-// by hand and does nothing but call the covered `walk_job`.
+// Walks for each job of a lent slice, and writes how each ended where the job stands.
 #[unsafe(no_mangle)]
 pub extern "C" fn larsavim_walk_jobs(
     trees: &[u64],

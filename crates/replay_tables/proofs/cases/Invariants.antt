@@ -1,6 +1,5 @@
 -- `replay_tables::cases` ends: each turn leaves one case less.
 use Prim.Native.Nat.{◌≤◌}
-use borrow.Author.Rules.{rules}
 use Rattle.replay_tables.proofs.cases.Given as goal
 
 abbrev pub invariant-loop-left : goal.invariant-loop-left

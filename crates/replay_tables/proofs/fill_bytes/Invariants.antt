@@ -1,10 +1,7 @@
 -- `replay_tables::fill_bytes`: the count stays within the table.
-use mathlib.Core.Path.{◌≡◌, sym}
+use mathlib.Core.Path.{◌≡◌}
 use Prim.Native.Nat.{◌-◌, ◌≤◌}
-use native.Mathlib.Omega.{arith}
-use lib.ListN.{length, length-set}
-use lib.Seq.{length-take-le}
-use borrow.Author.Rules.{rules}
+use lib.ListN.{length}
 use Rattle.replay_tables.proofs.fill_bytes.Given as goal
 
 abbrev pub invariant-loop-k : goal.invariant-loop-k

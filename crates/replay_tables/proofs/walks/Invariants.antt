@@ -1,6 +1,5 @@
 -- `replay_tables::walks` ends: each turn leaves one walk less.
 use Prim.Native.Nat.{◌≤◌}
-use borrow.Author.Rules.{rules}
 use Rattle.replay_tables.proofs.walks.Given as goal
 
 abbrev pub invariant-loop-left : goal.invariant-loop-left
