@@ -1,6 +1,5 @@
 -- `replay_trees::replay`: the place goes up.
 use Prim.Native.Nat.{◌-◌, ◌≤◌}
-use borrow.Author.Rules.{rules}
 use lib.ListN.{length}
 use Rattle.replay_trees.proofs.replay.Given as goal
 
