@@ -2,10 +2,10 @@
 //
 #![tactic(auto)]
 
-ghost use Rattle.std.specs.Prelude.{◌≤◌, ◌<◌, ◌++◌, length, take, IfOk, OnOk};
+ghost use Rattle.std.specs.Prelude.{◌≤◌, ◌<◌, ◌++◌, length, take, IfOk, OnOk, OnErr};
 ghost use Rattle.std.specs.Fmt.{decimal};
 ghost use Rattle.std.specs.Io.KnownBytes.{Appends, Consumes, IsAtEnd};
-ghost use Rattle.replay.specs.Counts.{IsPrefixLen};
+ghost use Rattle.replay.specs.Counts.{IsPrefixLen, StandsInFront};
 
 use std::io;
 use std::io::{Read, Write};
@@ -131,12 +131,13 @@ pub fn wrong(same: bool) -> usize
     if same { 0 } else { 1 }
 }
 
-// Reads until the room is full or the input ends, and says how many bytes it put at the room's start. A turn that goes on has read a byte, so there are at most as many
-// turns as bytes.
+// Reads until the room is full or the input ends, and says how many bytes it put at the room's start. Before an error too, what was read stands there. A turn that goes on
+// has read a byte, so there are at most as many turns as bytes.
 pub fn read_full<R: Read>(input: &mut R, room: &mut [u8]) -> io::Result<usize>
     ensures in_bounds { IfOk result (λ n. IsPrefixLen n room.new) }
     ensures bytes { IfOk result (λ n. Consumes (R.remaining input.old) (R.remaining input.new) (take n room.new)) }
     ensures end { IfOk result (λ n. n < length room.new → IsAtEnd (R.remaining input.new)) }
+    ensures err { OnErr result (StandsInFront (R.remaining input.old) (R.remaining input.new) room.new) }
 {
     let mut n = 0;
     for _ in 0..room.len() {
@@ -149,7 +150,7 @@ pub fn read_full<R: Read>(input: &mut R, room: &mut [u8]) -> io::Result<usize>
     Ok(n)
 }
 
-// The number in decimal, and what is counted.
+// The number in decimal, and what is counted. After an error some of it may have been written.
 pub fn say<W: Write>(out: &mut W, n: usize, what: &[u8]) -> io::Result<()>
     ensures { OnOk result (Appends (W.contents out.old) (W.contents out.new) (decimal n ++ what.now)) }
 {
