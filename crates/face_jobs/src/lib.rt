@@ -1,5 +1,5 @@
 // A job of a sentence (02, Wish 5): which tree to walk, with what limit, from which answer byte on, and room for how the walk ends. `walk_job` fills one. It takes the job by
-// value and hands it back, so that the loop over the lent jobs, which is proved by hand (`larsavim`), has nothing to do but call it.
+// value and hands it back, so that the loop over the lent jobs (`larsavim`) has nothing to do but call it.
 #![tactic(auto)]
 
 ghost use Rattle.std.specs.Prelude.{◌≡◌};

@@ -1,6 +1,5 @@
 pub mod Laws
 pub mod Determined
-pub mod Partly
 pub mod Depths
 pub mod Sharing
 pub mod Accepts

@@ -1,5 +1,5 @@
-// The face: the public calls exported to C, on numbers and slices alone (host/larsavim.h documents each). No call has a requirement: any bytes, any words, any
-// numbers, slices of any length. A slice for an answer that is too short is 20 before all else, with nothing written.
+// The face: the public calls, on numbers and slices alone (host/larsavim.h documents each; `larsavim_c` exports them to C). No call has a requirement: any bytes, any
+// words, any numbers, slices of any length. A slice for an answer that is too short is 20 before all else, with nothing written.
 #![tactic(auto)]
 
 ghost use Rattle.std.specs.Prelude.{◌≡◌};
@@ -71,8 +71,7 @@ const TRAILER_OUT: usize = 3;
 const TRAILED_OUT: usize = 4;
 
 // Opens a file, with the record into the words.
-#[unsafe(no_mangle)]
-pub extern "C" fn larsavim_open(file: &[u8], words: &mut [u64], out: &mut [u64]) -> u64
+pub fn larsavim_open(file: &[u8], words: &mut [u64], out: &mut [u64]) -> u64
     ensures { Opens file.now words.old out.old result words.new out.new }
 {
     if out.len() < OPEN_OUT {
@@ -84,13 +83,7 @@ pub extern "C" fn larsavim_open(file: &[u8], words: &mut [u64], out: &mut [u64])
 }
 
 // COMMENT, of a file and a fallback of so many bytes.
-#[unsafe(no_mangle)]
-pub extern "C" fn larsavim_comment(
-    file_len: u64,
-    words: &[u64],
-    fallback_len: u64,
-    out: &mut [u64],
-) -> u64
+pub fn larsavim_comment(file_len: u64, words: &[u64], fallback_len: u64, out: &mut [u64]) -> u64
     ensures { Comments file_len words.now fallback_len out.old result out.new }
 {
     if out.len() < COMMENT_OUT {
@@ -102,8 +95,7 @@ pub extern "C" fn larsavim_comment(
 }
 
 // A number, a count or a flag of the record.
-#[unsafe(no_mangle)]
-pub extern "C" fn larsavim_get(words: &[u64], field: u64, out: &mut [u64]) -> u64
+pub fn larsavim_get(words: &[u64], field: u64, out: &mut [u64]) -> u64
     ensures { Gets words.now field out.old result out.new }
 {
     if out.len() < GET_OUT {
@@ -115,8 +107,7 @@ pub extern "C" fn larsavim_get(words: &[u64], field: u64, out: &mut [u64]) -> u6
 }
 
 // A string or a range of the record.
-#[unsafe(no_mangle)]
-pub extern "C" fn larsavim_pair(words: &[u64], field: u64, out: &mut [u64]) -> u64
+pub fn larsavim_pair(words: &[u64], field: u64, out: &mut [u64]) -> u64
     ensures { Pairs words.now field out.old result out.new }
 {
     if out.len() < PAIR_OUT {
@@ -128,8 +119,7 @@ pub extern "C" fn larsavim_pair(words: &[u64], field: u64, out: &mut [u64]) -> u
 }
 
 // What a model needs, without tables.
-#[unsafe(no_mangle)]
-pub extern "C" fn larsavim_needs(file: &[u8], words: &[u64], which: u64, out: &mut [u64]) -> u64
+pub fn larsavim_needs(file: &[u8], words: &[u64], which: u64, out: &mut [u64]) -> u64
     ensures { Needs file.now words.now which out.old result out.new }
 {
     if out.len() < NEEDS_OUT {
@@ -141,8 +131,7 @@ pub extern "C" fn larsavim_needs(file: &[u8], words: &[u64], which: u64, out: &m
 }
 
 // Loads a model into the lent tables: the bottom task, beside nobody.
-#[unsafe(no_mangle)]
-pub extern "C" fn larsavim_load(
+pub fn larsavim_load(
     file: &[u8],
     words: &[u64],
     which: u64,
@@ -177,8 +166,7 @@ pub extern "C" fn larsavim_load(
 }
 
 // Loads a model into one task's rows of tables that two tasks share.
-#[unsafe(no_mangle)]
-pub extern "C" fn larsavim_load_shared(
+pub fn larsavim_load_shared(
     file: &[u8],
     words: &[u64],
     which: u64,
@@ -213,8 +201,7 @@ pub extern "C" fn larsavim_load_shared(
 }
 
 // Loads one tree of a model through the trailer at the file's end: all questions and patterns, one tree row, its records and its entries.
-#[unsafe(no_mangle)]
-pub extern "C" fn larsavim_load_tree(
+pub fn larsavim_load_tree(
     file: &[u8],
     words: &[u64],
     which: u64,
@@ -251,8 +238,7 @@ pub extern "C" fn larsavim_load_tree(
 }
 
 // Zeroes one task's rows and its bounds.
-#[unsafe(no_mangle)]
-pub extern "C" fn larsavim_unload(
+pub fn larsavim_unload(
     side: u64,
     held: &mut [u64],
     other: &[u64],
@@ -280,8 +266,7 @@ pub extern "C" fn larsavim_unload(
 }
 
 // Walks one tree.
-#[unsafe(no_mangle)]
-pub extern "C" fn larsavim_walk(
+pub fn larsavim_walk(
     trees: &[u64],
     records: &[u64],
     tree: u64,
@@ -300,8 +285,7 @@ pub extern "C" fn larsavim_walk(
 }
 
 // The leaf check: 1 for yes, 0 for no.
-#[unsafe(no_mangle)]
-pub extern "C" fn larsavim_leaves(
+pub fn larsavim_leaves(
     questions: &[u64],
     trees: &[u64],
     records: &[u64],
@@ -313,28 +297,17 @@ pub extern "C" fn larsavim_leaves(
     leaves_fit(questions, trees, records, values, width) as u64
 }
 
-// Walks for each job of a lent slice, and writes how each ended where the job stands. The borrow checker covers no function over a slice of structs, so this loop is proved
-// by hand and does nothing but call the covered `walk_job`.
-#[unsafe(no_mangle)]
-pub extern "C" fn larsavim_walk_jobs(
-    trees: &[u64],
-    records: &[u64],
-    answers: &[u8],
-    jobs: &mut [Job],
-)
+// Walks for each job of a lent slice, and writes how each ended where the job stands.
+pub fn larsavim_walk_jobs(trees: &[u64], records: &[u64], answers: &[u8], jobs: &mut [Job])
     ensures { jobs.new ≡ jobs_done trees.now records.now answers.now jobs.old }
 {
-    let mut i = 0;
-    while i < jobs.len() {
-        let job = jobs[i];
-        jobs[i] = walk_job(trees, records, answers, job);
-        i = i + 1;
+    for job in jobs.iter_mut() {
+        *job = walk_job(trees, records, answers, *job);
     }
 }
 
 // The answers to all questions for one label: one byte a question row.
-#[unsafe(no_mangle)]
-pub extern "C" fn larsavim_answers(
+pub fn larsavim_answers(
     label: &[u8],
     questions: &[u64],
     patterns: &[u64],
@@ -347,8 +320,7 @@ pub extern "C" fn larsavim_answers(
 }
 
 // How long the tree text of loaded tables is.
-#[unsafe(no_mangle)]
-pub extern "C" fn larsavim_write_needs(
+pub fn larsavim_write_needs(
     data: &[u8],
     questions: &[u64],
     patterns: &[u64],
@@ -367,8 +339,7 @@ pub extern "C" fn larsavim_write_needs(
 }
 
 // Writes it to the front of a buffer.
-#[unsafe(no_mangle)]
-pub extern "C" fn larsavim_write(
+pub fn larsavim_write(
     data: &[u8],
     questions: &[u64],
     patterns: &[u64],
@@ -388,8 +359,7 @@ pub extern "C" fn larsavim_write(
 }
 
 // How many questions a walk of one tree can ask.
-#[unsafe(no_mangle)]
-pub extern "C" fn larsavim_depth(
+pub fn larsavim_depth(
     trees: &[u64],
     records: &[u64],
     tree: u64,
@@ -407,8 +377,7 @@ pub extern "C" fn larsavim_depth(
 }
 
 // Whether record rows that somebody else linked belong to a tree of a tree text.
-#[unsafe(no_mangle)]
-pub extern "C" fn larsavim_accepts(text: &[u8], tree: u64, records: &[u64], out: &mut [u64]) -> u64
+pub fn larsavim_accepts(text: &[u8], tree: u64, records: &[u64], out: &mut [u64]) -> u64
     ensures { AcceptTells text.now tree records.now out.old result out.new }
 {
     if out.len() < ACCEPTS_OUT {
@@ -420,13 +389,7 @@ pub extern "C" fn larsavim_accepts(text: &[u8], tree: u64, records: &[u64], out:
 }
 
 // Writes the trailer of a file to the front of a buffer.
-#[unsafe(no_mangle)]
-pub extern "C" fn larsavim_trailer(
-    file: &[u8],
-    words: &mut [u64],
-    trailer: &mut [u8],
-    out: &mut [u64],
-) -> u64
+pub fn larsavim_trailer(file: &[u8], words: &mut [u64], trailer: &mut [u8], out: &mut [u64]) -> u64
     ensures { TrailerTells file.now words.old trailer.old out.old result words.new trailer.new out.new }
 {
     if out.len() < TRAILER_OUT {
@@ -438,8 +401,7 @@ pub extern "C" fn larsavim_trailer(
 }
 
 // Whether a file ends in its trailer.
-#[unsafe(no_mangle)]
-pub extern "C" fn larsavim_trailed(file: &[u8], words: &mut [u64], out: &mut [u64]) -> u64
+pub fn larsavim_trailed(file: &[u8], words: &mut [u64], out: &mut [u64]) -> u64
     ensures { TrailedTells file.now words.old out.old result words.new out.new }
 {
     if out.len() < TRAILED_OUT {
@@ -451,8 +413,7 @@ pub extern "C" fn larsavim_trailed(file: &[u8], words: &mut [u64], out: &mut [u6
 }
 
 // The walk of one tree straight over a tree text, without tables.
-#[unsafe(no_mangle)]
-pub extern "C" fn larsavim_bare_walk(
+pub fn larsavim_bare_walk(
     text: &[u8],
     tree: u64,
     answers: &[u8],
@@ -465,8 +426,7 @@ pub extern "C" fn larsavim_bare_walk(
 }
 
 // Judges a voice by the house's rules, model after model in one task's rows.
-#[unsafe(no_mangle)]
-pub extern "C" fn larsavim_house(
+pub fn larsavim_house(
     file: &[u8],
     words: &mut [u64],
     side: u64,

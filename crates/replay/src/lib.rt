@@ -2,9 +2,13 @@
 //
 #![tactic(auto)]
 
-ghost use Rattle.std.specs.Prelude.{◌≤◌, ◌<◌, length};
+ghost use Rattle.std.specs.Prelude.{◌≤◌, ◌<◌, ◌++◌, length, take, IfOk, OnOk, OnErr};
+ghost use Rattle.std.specs.Fmt.{decimal};
+ghost use Rattle.std.specs.Io.KnownBytes.{Appends, Consumes, IsAtEnd};
+ghost use Rattle.replay.specs.Counts.{IsPrefixLen, StandsInFront};
 
-use libc::STDOUT_FILENO;
+use std::io;
+use std::io::{Read, Write};
 use text_numbers::{Signed, Unsigned, parse_signed, parse_unsigned};
 use text_spaces::{Place, past_byte};
 
@@ -127,31 +131,29 @@ pub fn wrong(same: bool) -> usize
     if same { 0 } else { 1 }
 }
 
-// The number in decimal, at the end of 20 bytes, and where it begins.
-fn decimal(n: usize, out: &mut [u8; 20]) -> usize {
-    let mut rest = n;
-    let mut k = 20;
-    while 0 < k {
-        k = k - 1;
-        out[k] = (rest % 10) as u8 + 48;
-        rest = rest / 10;
-        if rest == 0 {
-            return k;
+// Reads until the room is full or the input ends, and says how many bytes it put at the room's start. Before an error too, what was read stands there. A turn that goes on
+// has read a byte, so there are at most as many turns as bytes.
+pub fn read_full<R: Read>(input: &mut R, room: &mut [u8]) -> io::Result<usize>
+    ensures in_bounds { IfOk result (λ n. IsPrefixLen n room.new) }
+    ensures bytes { IfOk result (λ n. Consumes (R.remaining input.old) (R.remaining input.new) (take n room.new)) }
+    ensures end { IfOk result (λ n. n < length room.new → IsAtEnd (R.remaining input.new)) }
+    ensures err { OnErr result (StandsInFront (R.remaining input.old) (R.remaining input.new) room.new) }
+{
+    let mut n = 0;
+    for _ in 0..room.len() {
+        let got = input.read(&mut room[n..])?;
+        if got == 0 {
+            return Ok(n);
         }
+        n = n + got;
     }
-    k
+    Ok(n)
 }
 
-pub fn say(n: usize, what: &[u8]) {
-    let mut digits = [0u8; 20];
-    let k = decimal(n, &mut digits);
-    write_from(&digits, k);
-    io::write_all(STDOUT_FILENO, what);
-}
-
-fn write_from(digits: &[u8; 20], k: usize) {
-    if k <= 20 {
-        let whole = &digits[..];
-        io::write_all(STDOUT_FILENO, &whole[k..]);
-    }
+// The number in decimal, and what is counted. After an error some of it may have been written.
+pub fn say<W: Write>(out: &mut W, n: usize, what: &[u8]) -> io::Result<()>
+    ensures { OnOk result (Appends (W.contents out.old) (W.contents out.new) (decimal n ++ what.now)) }
+{
+    write!(out, "{n}")?;
+    out.write_all(what)
 }

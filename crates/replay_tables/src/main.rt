@@ -5,10 +5,10 @@
 #![tactic(auto)]
 
 ghost use Rattle.std.specs.Prelude.{◌≤◌};
-ghost use Rattle.io.specs.Counts.{IsPrefixLen};
+ghost use Rattle.replay.specs.Counts.{IsPrefixLen};
 
-use libc::STDIN_FILENO;
-use replay::say;
+use replay::{read_full, say};
+use std::io;
 use text_base::blank_end;
 use text_numbers::{Unsigned, parse_unsigned};
 use walk::{Walked, walk};
@@ -244,10 +244,11 @@ fn cases(s: &[u8]) -> Tally {
     c
 }
 
-fn main() {
-    let mut input = io::large_buffer();
-    let n = io::read_full(STDIN_FILENO, &mut input);
+fn main(rt: HostRuntime) -> io::Result<()> {
+    let mut input = [0u8; 65536];
+    let n = read_full(&mut rt.reader(), &mut input)?;
     let c = cases(&input[..n]);
-    say(c.given, b" walks and leaf checks, ");
-    say(c.differ, b" differ\n");
+    let mut out = io::writer(&rt);
+    say(&mut out, c.given, b" walks and leaf checks, ")?;
+    say(&mut out, c.differ, b" differ\n")
 }

@@ -5,8 +5,10 @@
 
 ghost use Rattle.std.specs.Prelude.{◌<◌, length};
 
-use libc::STDIN_FILENO;
-use replay::{Stored, decode, ended, number, other, pair, past_line, say, signed, wrong};
+use replay::{
+    Stored, decode, ended, number, other, pair, past_line, read_full, say, signed, wrong,
+};
+use std::io;
 use tree_body::{TreeHead, TreeStep, after_tree, tree_head};
 use tree_line::{Line, LineStep, next_line};
 use tree_question::{
@@ -257,17 +259,19 @@ fn room() -> [u8; 1048576] {
     [0; 1048576]
 }
 
-fn main() {
+fn main(rt: HostRuntime) -> io::Result<()> {
     let mut buffer = room();
-    let n = io::read_full(STDIN_FILENO, &mut buffer);
-    replay_all(&buffer, n);
+    let n = read_full(&mut rt.reader(), &mut buffer)?;
+    replay_all(&rt, &buffer, n)
 }
 
-fn replay_all(buffer: &[u8; 1048576], n: usize) {
+fn replay_all(rt: &impl Print, buffer: &[u8; 1048576], n: usize) -> io::Result<()> {
     if n <= 1048576 {
         let whole = &buffer[..];
         let t = replay(&whole[..n]);
-        say(t.cases, b" lines, ");
-        say(t.differ, b" differ\n");
+        let mut out = io::writer(rt);
+        say(&mut out, t.cases, b" lines, ")?;
+        say(&mut out, t.differ, b" differ\n")?;
     }
+    Ok(())
 }
