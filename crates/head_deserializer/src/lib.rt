@@ -1,5 +1,5 @@
 // After header/de.rs, `Deserializer<'de>`: a reader that holds its section, the cursor in it and the delimiters now open (01, 'Header text').
-// Each function over a struct that holds a slice is proved by hand, so there are few and they are thin: a method takes it apart and calls the one of `head_de`.
+// The functions over a struct that holds a slice are few and thin: a method takes it apart and calls the one of `head_de`.
 // Whoever reads a section calls `scalar_in`, whose parameters are plain.
 #![tactic(auto)]
 
