@@ -77,6 +77,8 @@ module _ (s questions : List ℕ) (qs : List Question) (named : (e : ℕ) (q : Q
   unfolding zip_with
   lines_say [] [] end = Forall₂.nil
   lines_say (l ∷ ls) (x ∷ ws) (line e t) = Forall₂.cons (record { id = refl; yes = ref_is l.yes; no = ref_is l.no; question = asked_as x.start x.len l.question e }) (lines_say ls ws t)
+  lines_say [] (x ∷ ws) x3 = elim x3 [ ]
+  lines_say (l ∷ ls) [] x3 = elim x3 [ ]
 
   -- what stands in the work says the lines of the text
   pub work_says : (ls : List said.Line) (ws : List Span) → Stand ls ws

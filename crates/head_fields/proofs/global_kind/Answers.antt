@@ -48,4 +48,4 @@ returns-in-9 c = rw c.in-9.is
 
 pub returns-in_default : goal.returns-in_default
 unfolding global_fields
-returns-in_default c = sym (kind_past global_fields _ (above 9 c.args.field (above 8 (c.args.field) (above 7 ((c.args.field)) (above 6 (((c.args.field))) (above 5 ((((c.args.field)))) (above 4 (((((c.args.field))))) (above 3 ((((((c.args.field)))))) (above 2 (((((((c.args.field))))))) (above 1 ((((((((c.args.field)))))))) (above 0 (((((((((c.args.field))))))))) (omega arith) c.in_default.rest.0.0.0.0.0.0.0.0.0.1) c.in_default.rest.0.0.0.0.0.0.0.0.1) c.in_default.rest.0.0.0.0.0.0.0.1) c.in_default.rest.0.0.0.0.0.0.1) c.in_default.rest.0.0.0.0.0.1) c.in_default.rest.0.0.0.0.1) c.in_default.rest.0.0.0.1) c.in_default.rest.0.0.1) c.in_default.rest.0.1) c.in_default.rest.1))
+returns-in_default c = sym (kind_past global_fields _ (above 9 c.args.field (above 8 (c.args.field) (above 7 ((c.args.field)) (above 6 (((c.args.field))) (above 5 ((((c.args.field)))) (above 4 (((((c.args.field))))) (above 3 ((((((c.args.field)))))) (above 2 (((((((c.args.field))))))) (above 1 ((((((((c.args.field)))))))) (above 0 (((((((((c.args.field))))))))) (omega arith) c.in_default.in_default-own.rest.0.0.0.0.0.0.0.0.0.1) c.in_default.in_default-own.rest.0.0.0.0.0.0.0.0.1) c.in_default.in_default-own.rest.0.0.0.0.0.0.0.1) c.in_default.in_default-own.rest.0.0.0.0.0.0.1) c.in_default.in_default-own.rest.0.0.0.0.0.1) c.in_default.in_default-own.rest.0.0.0.0.1) c.in_default.in_default-own.rest.0.0.0.1) c.in_default.in_default-own.rest.0.0.1) c.in_default.in_default-own.rest.0.1) c.in_default.in_default-own.rest.1))

@@ -28,4 +28,4 @@ returns-in-4 c = rw c.in-4.is
 
 pub returns-in_default : goal.returns-in_default
 unfolding position_group
-returns-in_default c = sym (kind_past position_group _ (above 4 c.args.field (above 3 (c.args.field) (above 2 ((c.args.field)) (above 1 (((c.args.field))) (above 0 ((((c.args.field)))) (omega arith) c.in_default.rest.0.0.0.0.1) c.in_default.rest.0.0.0.1) c.in_default.rest.0.0.1) c.in_default.rest.0.1) c.in_default.rest.1))
+returns-in_default c = sym (kind_past position_group _ (above 4 c.args.field (above 3 (c.args.field) (above 2 ((c.args.field)) (above 1 (((c.args.field))) (above 0 ((((c.args.field)))) (omega arith) c.in_default.in_default-own.rest.0.0.0.0.1) c.in_default.in_default-own.rest.0.0.0.1) c.in_default.in_default-own.rest.0.0.1) c.in_default.in_default-own.rest.0.1) c.in_default.in_default-own.rest.1))

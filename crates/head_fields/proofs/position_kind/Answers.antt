@@ -16,4 +16,4 @@ returns-in-1 c = rw c.in-1.is
 
 pub returns-in_default : goal.returns-in_default
 unfolding position_fields
-returns-in_default c = sym (kind_past position_fields _ (above 1 c.args.field (above 0 (c.args.field) (omega arith) c.in_default.rest.0.1) c.in_default.rest.1))
+returns-in_default c = sym (kind_past position_fields _ (above 1 c.args.field (above 0 (c.args.field) (omega arith) c.in_default.in_default-own.rest.0.1) c.in_default.in_default-own.rest.1))

@@ -15,13 +15,13 @@ pub fill_leaf-requires : goal.fill_leaf-requires
 fill_leaf-requires c =
     let a = c.args in
     let h = sym c.in-Counted.is ∙ c.fill_lines.ensures.0 in
-    omega (arith, c.requires.at_value.1.0, one_record a.s.now a.questions.now (length a.index.now) (lines_at a.s.now a.at).items _ _ (counted_lines a.s.now a.at h) (counted_some a.s.now a.at h) refl (sym c.in-One.is ∙ c.single_of.ensures))
+    omega (arith, c.requires.at_in_bounds.0, one_record a.s.now a.questions.now (length a.index.now) (lines_at a.s.now a.at).items _ _ (counted_lines a.s.now a.at h) (counted_some a.s.now a.at h) refl (sym c.in-One.is ∙ c.single_of.ensures))
 
 pub overflow_add-lines : goal.overflow_add-lines
 overflow_add-lines c =
     let a = c.args in
     let h = sym c.in-Counted.is ∙ c.fill_lines.ensures.0 in
-    omega (arith, counted-needed a.s.now a.at h (sym c.in-Several.is ∙ c.single_of.ensures), c.requires.at_value.1.0, c.well_formed)
+    omega (arith, counted-needed a.s.now a.at h (sym c.in-Several.is ∙ c.single_of.ensures), c.requires.at_in_bounds.0, c.well_formed)
 
 pub link_lines-requires : goal.link_lines-requires
 link_lines-requires c =
@@ -31,9 +31,9 @@ link_lines-requires c =
     let q = sym c.in-Several.is ∙ c.single_of.ensures in
     let n = counted_lines a.s.now a.at h in
     let d = counted-needed a.s.now a.at h q in (
-      linked_room a.s.now a.questions.now (length a.index.now) ls _ _ n (counted_some a.s.now a.at h) d a.work.now (omega (arith, n, c.requires.at_value.1.1)) q c.fill_lines.ensures.1,
-      linked_needed a.s.now a.questions.now (length a.index.now) ls _ _ n (counted_some a.s.now a.at h) d a.work.now (omega (arith, n, c.requires.at_value.1.1)) q c.fill_lines.ensures.1,
-      omega (arith, d, c.requires.at_value.1.0),
+      linked_room a.s.now a.questions.now (length a.index.now) ls _ _ n (counted_some a.s.now a.at h) d a.work.now (omega (arith, n, c.requires.at_in_bounds.1)) q c.fill_lines.ensures.1,
+      linked_needed a.s.now a.questions.now (length a.index.now) ls _ _ n (counted_some a.s.now a.at h) d a.work.now (omega (arith, n, c.requires.at_in_bounds.1)) q c.fill_lines.ensures.1,
+      omega (arith, d, c.requires.at_in_bounds.0),
     )
 
 pub returns-in-One : goal.returns-in-One
@@ -54,7 +54,7 @@ returns-in-Several c =
     let h = sym c.in-Counted.is ∙ c.fill_lines.ensures.0 in
     let q = sym c.in-Several.is ∙ c.single_of.ensures in
     let n = counted_lines a.s.now a.at h in
-    let R = linked_is a.s.now a.questions.now (length a.index.now) ls _ _ n (counted_some a.s.now a.at h) (counted-needed a.s.now a.at h q) a.work.now (omega (arith, n, c.requires.at_value.1.1)) q c.fill_lines.ensures.1 in (
+    let R = linked_is a.s.now a.questions.now (length a.index.now) ls _ _ n (counted_some a.s.now a.at h) (counted-needed a.s.now a.at h q) a.work.now (omega (arith, n, c.requires.at_in_bounds.1)) q c.fill_lines.ensures.1 in (
       c.link_lines.ensures.0 ∙ ap (λ (r : Result). r.ends) R,
       counted_end a.s.now a.at h,
       c.link_lines.ensures.1 ∙ ap (λ (r : Result). sets a.records.now a.first r.rows) R,
@@ -62,4 +62,4 @@ returns-in-Several c =
     )
 
 pub returns-in-Broken : goal.returns-in-Broken
-returns-in-Broken c = counted_always c.args.s.now c.args.at (sym c.in-Broken.is ∙ c.fill_lines.ensures.0) c.requires.at_value.0
+returns-in-Broken c = counted_always c.args.s.now c.args.at (sym c.in-Broken.is ∙ c.fill_lines.ensures.0) c.requires.at_value

@@ -10,12 +10,11 @@ use Rattle.load_tree.proofs.fill_leaf.Goals as goal
 
 pub returns-in-Pdf : goal.returns-in-Pdf
 returns-in-Pdf c =
-    let a = c.args in
-    let x = c.index-1.given in (
-      ap (λ x. (leaf_result x).ends) (sym x.1),
+    let a = c.args in (
+      ap (λ x. (leaf_result x).ends) (sym c.in-Pdf.is),
       c.put4.ensures
-          ∙ ap (λ n. sets a.records.now a.first (1 ∷ n ∷ 0 ∷ 0 ∷ [])) (c.natural.ensures ∙ ap nat_of (back x.0.0 (search rules)))
-          ∙ ap (λ x. sets a.records.now a.first (leaf_result x).rows) (sym x.1),
+          ∙ ap (λ n. sets a.records.now a.first (1 ∷ n ∷ 0 ∷ 0 ∷ [])) (c.natural.ensures ∙ ap nat_of (back c.in-Pdf.number (search rules)))
+          ∙ ap (λ x. sets a.records.now a.first (leaf_result x).rows) (sym c.in-Pdf.is),
     )
 
 pub returns-in-Node : goal.returns-in-Node

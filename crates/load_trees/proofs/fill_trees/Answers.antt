@@ -8,7 +8,7 @@ pub loop-next-init : goal.loop-next-init
 loop-next-init c =
     let a = c.args in
     let p = c.requires in
-    filling_none a.s.now a.questions.now (length a.index.now) a.at a.trees.now a.records.now a.work.now p.1.0 p.1.1.0 p.1.1.1 p.1.1.2
+    filling_none a.s.now a.questions.now (length a.index.now) a.at a.trees.now a.records.now a.work.now p.through p.at_in_bounds.0 p.at_in_bounds.1 p.at_in_bounds.2
 
 pub fill_tree-t-requires : goal.fill_tree-t-requires
 fill_tree-t-requires c =

@@ -7,20 +7,17 @@ use Rattle.load_trees.proofs.what_follows.Goals as goal
 pub returns-in-Next : goal.returns-in-Next
 returns-in-Next c =
     let a = c.args in
-    let d = c.filled-1.given in
-    ap (follows_step d.0.0) (sym c.in-Next.is ∙ c.after_tree.ensures) ∙ sym (ap (follows_at a.s.now a.row a.next) d.1)
+    ap (follows_step c.in-Done.records) (sym c.in-Next.is ∙ c.after_tree.ensures) ∙ sym (ap (follows_at a.s.now a.row a.next) c.in-Done.is)
 
 pub returns-in-End : goal.returns-in-End
 returns-in-End c =
     let a = c.args in
-    let d = c.filled-1.given in
-    ap (follows_step d.0.0) (sym c.in-End.is ∙ c.after_tree.ensures) ∙ sym (ap (follows_at a.s.now a.row a.next) d.1)
+    ap (follows_step c.in-Done.records) (sym c.in-End.is ∙ c.after_tree.ensures) ∙ sym (ap (follows_at a.s.now a.row a.next) c.in-Done.is)
 
 pub returns-in-Broken : goal.returns-in-Broken
 returns-in-Broken c =
     let a = c.args in
-    let d = c.filled-1.given in
-    ap (follows_step d.0.0) (sym c.in-Broken.is ∙ c.after_tree.ensures) ∙ sym (ap (follows_at a.s.now a.row a.next) d.1)
+    ap (follows_step c.in-Done.records) (sym c.in-Broken.is ∙ c.after_tree.ensures) ∙ sym (ap (follows_at a.s.now a.row a.next) c.in-Done.is)
 
 pub returns-in-Refused : goal.returns-in-Refused
 returns-in-Refused c =

@@ -4,7 +4,7 @@ use mathlib.Core.Path.{sym, ap}
 use Rattle.load_voice.proofs.text_read.Goals as goal
 
 pub returns-in-Read : goal.returns-in-Read
-returns-in-Read c = ap (text_by c.args.text c.args.text-end) (sym c.in-Read.is)
+returns-in-Read c = ap (text_by c.args.text c.args.text_end) (sym c.in-Read.is)
 
 pub returns-in-Refused : goal.returns-in-Refused
-returns-in-Refused c = ap (text_by c.args.text c.args.text-end) (sym c.in-Refused.is)
+returns-in-Refused c = ap (text_by c.args.text c.args.text_end) (sym c.in-Refused.is)

@@ -4,10 +4,10 @@ use Rattle.trail_plan.proofs.Laws.{block_refused, block_outside, block_inside}
 use Rattle.trail_plan.proofs.plan_block.Goals as goal
 
 pub returns-in-Refused : goal.returns-in-Refused
-returns-in-Refused c = let a = c.args in block_refused a.d.now a.at a.end a.pdf-from a.pdf-to a.width a.n a.k c.in-Refused.is
+returns-in-Refused c = let a = c.args in block_refused a.d.now a.at a.end a.pdf_from a.pdf_to a.width a.n a.k c.in-Refused.is
 
 pub returns-in-Outside : goal.returns-in-Outside
-returns-in-Outside c = let a = c.args in block_outside a.d.now a.at a.end a.pdf-from a.pdf-to a.width a.n a.k _ _ _ _ _ _ c.in-Read.is (sym c.in-Outside.is ∙ c.within.ensures)
+returns-in-Outside c = let a = c.args in block_outside a.d.now a.at a.end a.pdf_from a.pdf_to a.width a.n a.k _ _ _ _ _ _ c.in-Read.is (sym c.in-Outside.is ∙ c.within.ensures)
 
 pub returns-in-Inside : goal.returns-in-Inside
-returns-in-Inside c = let a = c.args in block_inside a.d.now a.at a.end a.pdf-from a.pdf-to a.width a.n a.k _ _ _ _ _ _ c.in-Read.is (sym c.in-Inside.is ∙ c.within.ensures) c.up_to.ensures c.plan_entries.ensures
+returns-in-Inside c = let a = c.args in block_inside a.d.now a.at a.end a.pdf_from a.pdf_to a.width a.n a.k _ _ _ _ _ _ c.in-Read.is (sym c.in-Inside.is ∙ c.within.ensures) c.up_to.ensures c.plan_entries.ensures

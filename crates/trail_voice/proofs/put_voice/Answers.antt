@@ -6,27 +6,27 @@ use Rattle.trail_voice.proofs.Laws.{next_at, storing_none, storing_room, storing
 use Rattle.trail_voice.proofs.put_voice.Goals as goal
 
 pub loop-next-init : goal.loop-next-init
-loop-next-init c = storing_none c.args.file.now (header_at c.args.words.now) c.requires.words_value.0 c.requires.words_value.1
+loop-next-init c = storing_none c.args.file.now (header_at c.args.words.now) c.requires.words_value c.requires.words_in_bounds
 
 pub put_model-k-requires : goal.put_model-k-requires
 put_model-k-requires c =
-    let z = storing_room c.args.file.now (header_at c.args.words.now) c.requires.words_value.0 c.loop-next.invariant in
+    let z = storing_room c.args.file.now (header_at c.args.words.now) c.requires.words_value c.loop-next.invariant in
     ((c.requires.in_bounds, z.1), z.0)
 
 pub next_model-requires : goal.next_model-requires
-next_model-requires c = record { in_bounds = (c.requires.in_bounds, c.loop-next.invariant.at.in_types); words_value = c.requires.words_value.0 }
+next_model-requires c = record { in_bounds = (c.requires.in_bounds, c.loop-next.invariant.at.in_types); words_value = c.requires.words_value }
 
 pub loop-next-smaller : goal.loop-next-smaller
 loop-next-smaller c =
     let l = c.loop-next in
-    let z = next_at c.args.file.now (header_at c.args.words.now) c.requires.words_value.0 l.invariant.at (sym c.in-Model.is ∙ c.next_model.ensures) in
+    let z = next_at c.args.file.now (header_at c.args.words.now) c.requires.words_value l.invariant.at (sym c.in-Model.is ∙ c.next_model.ensures) in
     omega (arith, z.1, z.2)
 
 pub loop-next-preserved : goal.loop-next-preserved
-loop-next-preserved c = storing_more c.args.file.now (header_at c.args.words.now) c.requires.words_value.0 c.loop-next.invariant c.put_model-k.ensures.0 c.put_model-k.ensures.1 (sym c.in-Model.is ∙ c.next_model.ensures)
+loop-next-preserved c = storing_more c.args.file.now (header_at c.args.words.now) c.requires.words_value c.loop-next.invariant c.put_model-k.ensures.0 c.put_model-k.ensures.1 (sym c.in-Model.is ∙ c.next_model.ensures)
 
 pub shape_of-t-in-End : goal.shape_of-t-in-End
-shape_of-t-in-End c = stored_long c.args.file.now (header_at c.args.words.now) c.requires.words_value.0 c.loop-next.invariant c.put_model-k.ensures.0 c.put_model-k.ensures.1
+shape_of-t-in-End c = stored_long c.args.file.now (header_at c.args.words.now) c.requires.words_value c.loop-next.invariant c.put_model-k.ensures.0 c.put_model-k.ensures.1
 
 pub returns-in-End : goal.returns-in-End
-returns-in-End c = stored_all c.args.file.now (header_at c.args.words.now) c.requires.words_value.0 c.loop-next.invariant c.put_model-k.ensures.0 c.put_model-k.ensures.1 (sym c.in-End.is ∙ c.next_model.ensures)
+returns-in-End c = stored_all c.args.file.now (header_at c.args.words.now) c.requires.words_value c.loop-next.invariant c.put_model-k.ensures.0 c.put_model-k.ensures.1 (sym c.in-End.is ∙ c.next_model.ensures)
