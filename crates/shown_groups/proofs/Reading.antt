@@ -165,6 +165,7 @@ module _ (T : List Field) {s : List ℕ} (bytes : Bytes s) where
             subst (GroupAnswers T s seen item with d (before ++ (row_said s r ∷ rest))) (sym o) (subst (λ (l : List says.Row). GroupAnswers T s seen item with d l (over step h rs)) (append_assoc before (row_said s r ∷ []) rest) (rec (before ++ (row_said s r ∷ [])) h q))
         here (wrong q) e (no_row n) f rec =
             subst (GroupAnswers T s seen item with d (before ++ (row_said s r ∷ rest))) (sym (over_stop step g r rs (f ∙ ap (after g) e ∙ after-wrong g q))) (no_group (bad_row before rest (row_said s r) refl n))
+        here end e x6 f rec = elim x6 [ ]
 
         go : (t : Bool) → same w (bytes_of s r.name) ≡ t → ((p : List says.Row) (h : G) → Keeps T s seen item with d p h → GroupAnswers T s seen item with d (p ++ of_group w (map (row_said s) rs)) (over step h rs))
             → GroupAnswers T s seen item with d (before ++ cond t (row_said s r ∷ rest) rest) (over step g (r ∷ rs))

@@ -54,10 +54,13 @@ module _ {A B : Type 0} (f : A → B) (d : B) where
   at_place zero (b ∷ l) e h (there x) = absurd (omega arith)
   at_place (suc n) (b ∷ l) e h here = refl
   at_place (suc n) (b ∷ l) e h (there x) = at_place n l e (omega arith) x
+  at_place zero [] {i = i} {a = a} e h x4 = elim x4 [ ]
+  at_place (suc n) [] {i = i} {a = a} e h x5 = elim x5 [ ]
 
   nth-map : (l : List A) {k : ℕ} {y : B} → Nth (map f l) k y → (a : A) × Nth l k a × (y ≡ f a)
   nth-map (a ∷ l) here = (a, here, refl)
   nth-map (a ∷ l) (there x) = let r = nth-map l x in (r.0, there r.1, r.2)
+  nth-map [] {k = k} {y = y} x' = elim x' [ ]
 
   map-nth : {l : List A} {k : ℕ} {a : A} → Nth l k a → Nth (map f l) k (f a)
   map-nth here = here

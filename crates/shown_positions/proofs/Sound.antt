@@ -132,6 +132,8 @@ module _ {s : List ℕ} (of-bytes : Bytes s) (i : ℕ) (st : All (Standing s) (r
       go : (a b : Going of-group.Group) → Alike (λ (g : of-group.Group). g.seen) a b → (group_in a).verdict ≡ (group_in b).verdict
       go (on g) (on h) (both_on f) = ap (λ (m : List Bool). (cond (any_missing m 3) (one.made (verdict.Refused refusal.Field) empty_position) (one.made verdict.Accepted g.item)).verdict) f ∙ item_free (any_missing h.seen 3) g.item h.item
       go (stop_with q) (stop_with r) (both_stop p) = refl
+      go (on g) (stop_with r) x3 = elim x3 [ ]
+      go (stop_with q) (on h) x4 = elim x4 [ ]
 
 -- ---- all groups
 

@@ -61,6 +61,7 @@ ascending_next : {l : List ℕ} {j a b : ℕ} → Ascending l → Nth l j a → 
 ascending_next Ascending.one p q = absurd (omega (arith, nth_inside q))
 ascending_next (Ascending.more h r) here (there here) = h
 ascending_next (Ascending.more h r) (there p) (there q) = ascending_next r p q
+ascending_next {j = j} {a = a} {b = b} Rattle.written.specs.Linking.none p q = elim p [ ]
 
 -- ---- a tree with lines: its records in rows f and on, m of them, the first n of lines
 

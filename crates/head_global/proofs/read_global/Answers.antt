@@ -19,7 +19,7 @@ use Rattle.head_lines.specs.declared.Line.{Line}
 use Rattle.head_lines.proofs.Going.{going_first, end_of, wrong_of, lines_end, lines_wrong, read_end, read_wrong, turned, kept_more}
 use Rattle.head_global.specs.Global.{stored_in, judged_in, with_line, global_in}
 use Rattle.head_global.proofs.Stored.{stored_line, stored_words, empty_words, judged_words}
-use Rattle.head_global.proofs.read_global.Goals.{After-slice_known-1, After-store, At-loop-next, In-End, In-Refused}
+use Rattle.head_global.proofs.read_global.Goals.{After-store, At-loop-next, In-End, In-Refused}
 use Rattle.head_global.proofs.read_global.Goals as goal
 
 -- the words stay as many
@@ -63,10 +63,10 @@ unfolding global_fields
 loop-next-preserved c = (_, kept_line (goal.at.loop-next-preserved c).After-store, rw c.mark-with_field.ensures (turned global_fields _ _ c.loop-next.invariant.2 c.next_line-l.ensures c.in-Read.is).going)
 
 pub judge-requires : goal.judge-requires
-judge-requires c = omega (arith, long (goal.at.judge-requires c).After-slice_known-1, c.requires.0)
+judge-requires c = omega (arith, long (goal.at.judge-requires c).At-loop-next, c.requires.0)
 
 pub shape_of-words-in-End : goal.shape_of-words-in-End
-shape_of-words-in-End c = long (goal.at.shape_of-words-in-End c).After-slice_known-1
+shape_of-words-in-End c = long (goal.at.shape_of-words-in-End c).At-loop-next
 
 pub returns-in-End : goal.returns-in-End
 returns-in-End c = (

@@ -73,10 +73,10 @@ pub put1-requires : goal.put1-requires
 put1-requires c = omega (arith, (kept_long streams c.loop-row.invariant.kept), c.requires.0)
 
 pub judge-requires : goal.judge-requires
-judge-requires c = omega (arith, long_behind (goal.at.judge-requires c).After-put1-arg-1, c.requires.0)
+judge-requires c = omega (arith, long_behind (goal.at.judge-requires c).After-put1, c.requires.0)
 
 pub shape_of-words-in-End : goal.shape_of-words-in-End
-shape_of-words-in-End c = long_behind (goal.at.shape_of-words-in-End c).After-put1-arg-1
+shape_of-words-in-End c = long_behind (goal.at.shape_of-words-in-End c).After-put1
 
 pub returns-in-End : goal.returns-in-End
 returns-in-End c = let a = ended _ _ _ c.loop-row.invariant (sym c.row_at.ensures ∙ c.in-End.is) c.put1.ensures c.judge.ensures in (a.answer, a.words)

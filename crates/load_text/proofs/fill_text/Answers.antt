@@ -10,10 +10,10 @@ pub returns-then-all_linked : goal.returns-then-all_linked
 returns-then-all_linked c =
     let a = c.args in
     let l = c.link_text-linked in
-    text_kept a.s.now a.at a.first a.n a.questions.now a.patterns.now a.trees.now a.records.now a.work.now c.requires l.ensures l.auto.1.1.1.1.1.1.1.1.0 c.zero_work.ensures c.all_linked.ensures c.if-all_linked.true c.fill_all_patterns.ensures
+    text_kept a.s.now a.at a.first a.n a.questions.now a.patterns.now a.trees.now a.records.now a.work.now c.requires l.ensures l.auto.work c.zero_work.ensures c.all_linked.ensures c.if-all_linked.true c.fill_all_patterns.ensures
 
 pub returns-else-all_linked : goal.returns-else-all_linked
 returns-else-all_linked c =
     let a = c.args in
     let l = c.link_text-linked in
-    text_zero a.s.now a.at a.first a.n a.questions.now a.patterns.now a.trees.now a.records.now a.work.now c.requires l.ensures l.auto.1.1.1.1.1.1.1.1.0 c.zero_work.ensures c.all_linked.ensures c.if-all_linked.false c.zero_text.ensures
+    text_zero a.s.now a.at a.first a.n a.questions.now a.patterns.now a.trees.now a.records.now a.work.now c.requires l.ensures l.auto.work c.zero_work.ensures c.all_linked.ensures c.if-all_linked.false c.zero_text.ensures

@@ -12,7 +12,7 @@ fill_body-t-requires c =
     let a = c.args in
     let p = c.requires in
     let h = sym c.tree_head-head.ensures in
-    (p.index, (subst (Whole a.s.now) h p.whole, room_by a.s.now a.first (length a.records.now) (length a.work.now) h (p.row_in_bounds.1, p.row_in_bounds.2)))
+    record { index = p.index; whole = subst (Whole a.s.now) h p.whole; head_in_bounds = room_by a.s.now a.first (length a.records.now) (length a.work.now) h (p.row_in_bounds.1, p.row_in_bounds.2) }
 
 pub returns : goal.returns
 returns c =

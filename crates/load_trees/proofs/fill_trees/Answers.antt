@@ -14,7 +14,7 @@ pub fill_tree-t-requires : goal.fill_tree-t-requires
 fill_tree-t-requires c =
     let a = c.args in
     let l = c.loop-next in
-    (c.requires.index, (tree_whole a.s.now a.questions.now (length a.index.now) a.at a.trees.now a.records.now a.work.now l.trees l.records l.work l.i l.row l.first l.invariant, tree_room a.s.now a.questions.now (length a.index.now) a.at a.trees.now a.records.now a.work.now l.trees l.records l.work l.i l.row l.first l.invariant))
+    record { index = c.requires.index; whole = tree_whole a.s.now a.questions.now (length a.index.now) a.at a.trees.now a.records.now a.work.now l.trees l.records l.work l.i l.row l.first l.invariant; row_in_bounds = tree_room a.s.now a.questions.now (length a.index.now) a.at a.trees.now a.records.now a.work.now l.trees l.records l.work l.i l.row l.first l.invariant }
 
 pub overflow_add-first : goal.overflow_add-first
 overflow_add-first c =

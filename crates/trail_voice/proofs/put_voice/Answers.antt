@@ -11,7 +11,7 @@ loop-next-init c = storing_none c.args.file.now (header_at c.args.words.now) c.r
 pub put_model-k-requires : goal.put_model-k-requires
 put_model-k-requires c =
     let z = storing_room c.args.file.now (header_at c.args.words.now) c.requires.words_value c.loop-next.invariant in
-    ((c.requires.in_bounds, z.1), z.0)
+    record { in_bounds = (c.requires.in_bounds, z.1); which_in_bounds = z.0 }
 
 pub next_model-requires : goal.next_model-requires
 next_model-requires c = record { in_bounds = (c.requires.in_bounds, c.loop-next.invariant.at.in_types); words_value = c.requires.words_value }
