@@ -91,6 +91,7 @@ module _ (s : List ℕ) where
       go : (z : Step Tree) → tree_step_at s w.at ≡ z → Took t z → t.star ≡ w.at
       go (step.next x j) e on = star_next s w.at j t e
       go (step.last x j) e end = star_last s w.at j t e
+      go (broken _) e x3 = elim x3 [ ]
 
   -- what the head of a tree tells of its body
   pub data Headed : Body → TreeHead → Type 0 where
@@ -113,6 +114,7 @@ module _ (s : List ℕ) where
       never : {h : TreeHead} (z : Step Tree) → broken i ≡ z → Took t z → Headed t.body h
       never (step.next u j) h on = let q : ◌≡◌ {A = ℕ} 0 1 = cc in absurd (omega arith)
       never (step.last u j) h end = let q : ◌≡◌ {A = ℕ} 0 1 = cc in absurd (omega arith)
+      never (broken _) h x3 = elim x3 [ ]
 
       within : (x : ℤ) (f : ℕ) (d : Ending) → (lines_at s f).ending ≡ d → tree_read s i x (lines_at s f).items d ≡ z → Headed t.body (head.Lines x f)
       within x f (done_at k) q h = subst (λ (b : Body). Headed b (head.Lines x f)) (followed _ (after_tree s k) h w) (lines q)

@@ -72,6 +72,7 @@ among {a = suc a} (more {f = f} {n = n} {m = m} {rows = rows} {trees = trees} {r
       linked = g.linked;
       stand = λ k e h. let y : length rows + (g.j + k) ≡ length rows + g.j + k = omega arith in subst (λ (i : ℕ). Nth (rows ++ records) i e) y (behind rows records (g.stand k e h));
     }
+among {qs = qs} {a = a} (Rattle.written.specs.Tables.none {f = f}) x12 = elim x12 [ ]
 
 -- tables in which a model's rows stand have its trees
 has_tree : {qs : List said.Question} {T R : List ℕ} {trees records : List Row} (bs : List block.Row) {a : ℕ} {x : said.Tree} → length bs ≡ length trees

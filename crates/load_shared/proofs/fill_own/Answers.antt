@@ -109,11 +109,10 @@ pub returns : goal.returns
 returns c =
     let a = c.args in
     let f = c.fill in
-    let l = f.auto in
     own_filled (side_of a.top) a.d.now a.p a.questions.now a.patterns.now a.trees.now a.records.now a.values.now a.work.now
     c.own_part-q.ensures
     c.own_part-a.ensures
     c.own_part-t.ensures
     c.own_part-r.ensures
     c.own_part-v.ensures
-    f.ensures l.1.1.0 l.1.1.1.0 l.1.1.1.1.0 l.1.1.1.1.1.0 l.1.1.1.1.1.1.0
+    f.ensures f.auto.questions f.auto.patterns f.auto.trees f.auto.records f.auto.values

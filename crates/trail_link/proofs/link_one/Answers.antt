@@ -18,7 +18,7 @@ fill_tree-t-requires c =
     let a = c.args in
     let h = c.requires in
     let p = c.index_names.ensures in
-    ((is_index a.s.now a.at a.n (asked_of h) _ _ _ refl p, omega (arith, index_count a.s.now a.at a.n (asked_of h) _ _ _ refl p, h.question_room, c.well_formed)), (h.whole, (h.tree_room, omega (arith, h.record_room), h.work_room)))
+    record { index = (is_index a.s.now a.at a.n (asked_of h) _ _ _ refl p, omega (arith, index_count a.s.now a.at a.n (asked_of h) _ _ _ refl p, h.question_room, c.well_formed)); whole = h.whole; row_in_bounds = (h.tree_room, omega (arith, h.record_room), h.work_room) }
 
 pub returns : goal.returns
 returns c =

@@ -111,11 +111,10 @@ unfolding tree_placed_in
 returns c =
     let a = c.args in
     let f = c.fill_tree in
-    let l = f.auto in
     own_put (side_of a.top) a.d.now a.p a.questions.now a.patterns.now a.trees.now a.records.now a.values.now a.work.now
     c.own_part-q.ensures
     c.own_part-a.ensures
     c.own_part-t.ensures
     c.own_part-r.ensures
     c.own_part-v.ensures
-    (tree_filled a.d.now a.k a.p) f.ensures l.1.1.1.0 l.1.1.1.1.0 l.1.1.1.1.1.0 l.1.1.1.1.1.1.0 l.1.1.1.1.1.1.1.0
+    (tree_filled a.d.now a.k a.p) f.ensures f.auto.questions f.auto.patterns f.auto.trees f.auto.records f.auto.values
