@@ -125,6 +125,7 @@ module _ {s : List ℕ} where
         ref_so e l.no (ap (ref_fits e) (sym a.no) ∙ second_of (ref_fits e c.yes) (ref_fits e c.no) g) n,
       )
   lines_so e {cs = c ∷ cs} (Forall₂.cons a r) h (suc k) x (there m) n = lines_so e r (second_of (line_fits e c) (lines_fit e cs) h) k x m n
+  lines_so e {ls = l ∷ ls} {cs = []} x14 h k x m n = elim x14 [ ]
 
   so_lines : (e : ℕ) {ls : List said.Line} {cs : List code.Line} → Forall₂ (LineSaid s) ls cs
       → ((k : ℕ) (l : said.Line) → Nth ls k l → (n : ℕ) → ((l.yes ≡ said.pdf n → Within e n) × (l.no ≡ said.pdf n → Within e n))) → lines_fit e cs ≡ true
