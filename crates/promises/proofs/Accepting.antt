@@ -147,6 +147,7 @@ nth_right (x ∷ xs) (z ∷ zs) ys e l (there h) = there (nth_right xs zs ys (om
 second : {A B : Type 0} {S : A → B → Type 0} {xs : List A} {ys : List B} {k : ℕ} {x : A} → Forall₂ S xs ys → Nth xs k x → (y : B) × S x y
 second (Forall₂.cons {b = b} h t) here = (b, h)
 second (Forall₂.cons h t) (there n) = second t n
+second {A = A} {B = B} {S = S} {k = k} mathlib.Core.List.Forall₂.nil x8 = elim x8 [ ]
 
 lengths : {A B : Type 0} {S : A → B → Type 0} {xs : List A} {ys : List B} → Forall₂ S xs ys → length xs ≡ length ys
 lengths Forall₂.nil = refl

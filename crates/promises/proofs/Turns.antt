@@ -132,6 +132,7 @@ module _ {x : Side} {s : List ℕ} {h : Header} {other : Held} where
       → mine ≡ mine' → t ≡ t' → ⊥
   turns_never (InTurn.next l i) (Stops.here b) e f = loads_never (before_loads (ap₂ (emptied x) e f) l) b
   turns_never (InTurn.next l i) (Stops.later b r) e f = let z = loads_one (before_loads (ap₂ (emptied x) e f) l) b in turns_never i r (ap needed z.0) z.1
+  turns_never {v = v} {n = n} {p = p} {l = l} {k = k} (Rattle.promises.specs.Housing.end {mine = mine} {t = t}) x23 e f = elim x23 [ ]
 
   pub stops_number : {ms : List Model} {mine : Held} {t u : Lent} {n p l k : ℕ} → Stops x s h other ms mine t n p l k u → (12 ≤ n) × (n ≤ 23)
   stops_number (Stops.here a) = refused_number a

@@ -60,6 +60,7 @@ as_ending nothing = refl
 pub tree_linked : {qs : List Question} {f : ℕ} {ts : List Tree} {trees records : List Row} {i : ℕ} {t : Tree} → TreeRows qs f ts trees records → Nth ts i t → (rows : List Row) × Records qs t.body rows
 tree_linked (TreeRows.more {rows = rows} s r l m) here = (rows, r)
 tree_linked (TreeRows.more s r l m) (there n) = tree_linked m n
+tree_linked {qs = qs} {i = i} {t = t} (Rattle.written.specs.Tables.none {f = f}) x6 = elim x6 [ ]
 
 -- ---- a model that a load has stored
 

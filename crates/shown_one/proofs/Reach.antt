@@ -106,6 +106,7 @@ data Rising : List Model → Type 0 where
 all_nth : {A : Type 0} {P : A → Type 0} {l : List A} {k : ℕ} {x : A} → All P l → Nth l k x → P x
 all_nth (All.next p a) here = p
 all_nth (All.next p a) (there h) = all_nth a h
+all_nth {A = A} {P = P} {k = k} Rattle.written.specs.Record.end x6 = elim x6 [ ]
 
 all_to : {A : Type 0} {P Q : A → Type 0} → ((x : A) → P x → Q x) → {l : List A} → All P l → All Q l
 all_to f All.end = All.end
@@ -153,6 +154,7 @@ module _ {s : List ℕ} {h : Header} where
   at_stream {k = k} {a = suc a} (StreamModels.both {ms = ms} n u r) (there t) = let w = at_stream r t in (suc (suc w.0), subst (λ (i : ℕ). Nth (stream k ∷ gv k ∷ ms) (suc (suc w.0)) (stream i)) (omega arith) (there (there w.1)))
   at_stream {k = k} {a = suc a} (StreamModels.alone {ms = ms} n u r) (there t) = let w = at_stream r t in (suc w.0, subst (λ (i : ℕ). Nth (stream k ∷ ms) (suc w.0) (stream i)) (omega arith) (there w.1))
   at_stream {k = k} {a = suc a} (StreamModels.unnamed {ms = ms} n r) (there t) = let w = at_stream r t in (suc w.0, subst (λ (i : ℕ). Nth (stream k ∷ ms) (suc w.0) (stream i)) (omega arith) (there w.1))
+  at_stream {a = a} (models.end {i = i}) x10 = elim x10 [ ]
 
   at_gv : {k a : ℕ} {xs : List Span} {ms : List Model} {x : Span} → StreamModels s h k xs ms → Nth xs a x → {d : _} → models.LastNamed models.stream_name s (bytes_of s x) h.streams d → d.use_gv ≡ true → (j : ℕ) × Nth ms j (gv (k + a))
   at_gv {k} (StreamModels.both {ms = ms} n u r) here l g = (1, subst (λ (i : ℕ). Nth (stream k ∷ gv k ∷ ms) 1 (gv i)) (omega arith) (there here))
@@ -161,6 +163,7 @@ module _ {s : List ℕ} {h : Header} where
   at_gv {k = k} {a = suc a} (StreamModels.both {ms = ms} n u r) (there t) l g = let w = at_gv r t l g in (suc (suc w.0), subst (λ (i : ℕ). Nth (stream k ∷ gv k ∷ ms) (suc (suc w.0)) (gv i)) (omega arith) (there (there w.1)))
   at_gv {k = k} {a = suc a} (StreamModels.alone {ms = ms} n u r) (there t) l g = let w = at_gv r t l g in (suc w.0, subst (λ (i : ℕ). Nth (stream k ∷ ms) (suc w.0) (gv i)) (omega arith) (there w.1))
   at_gv {k = k} {a = suc a} (StreamModels.unnamed {ms = ms} n r) (there t) l g = let w = at_gv r t l g in (suc w.0, subst (λ (i : ℕ). Nth (stream k ∷ ms) (suc w.0) (gv i)) (omega arith) (there w.1))
+  at_gv {a = a} (models.end {i = i}) x18 {d = d} l g = elim x18 [ ]
 
   member : {m : Model} {ms : List Model} {x y : _} {w : ℕ} → Placed s h m x y w → Models s h ms → (j : ℕ) × Nth ms j m
   member of_duration (Models.voice v) = (0, here)
@@ -180,6 +183,7 @@ module _ {s : List ℕ} {h : Header} where
   in_rows {m = m} (more {m = n} a w) (VoiceRows.next {more = rest} u r v) (there h) x =
       let b : model_number n < model_number m = all_nth a h in
       stars_other (λ (e : model_number n ≡ model_number m). omega arith) r rest ∙ in_rows w v h x
+  in_rows {rows = rows} {j = j} {m = m} {t = t} {l = l} none _ x9 x = elim x9 [ ]
 
 -- ---- at the file's end
 

@@ -12,12 +12,12 @@ use Rattle.face_house.proofs.judge_file.Goals as goal
 pub returns-then-number-ne0 : goal.returns-then-number-ne0
 returns-then-number-ne0 c =
     let a = c.args in
-    house_first a.file.now a.words.now a.side a.held.now a.other.now (lent a.questions.now a.patterns.now a.trees.now a.records.now a.values.now a.work.now) c.bounds.ensures c.bounds-theirs.ensures (goal.at.returns-then-number-ne0 c).After-bounds2.ensures c.if-number-ne0.true c.told.ensures
+    house_first a.file.now a.words.now a.side a.held.now a.other.now (lent a.questions.now a.patterns.now a.trees.now a.records.now a.values.now a.work.now) c.bounds.ensures c.bounds-theirs.ensures c.before-number.ensures c.if-number-ne0.true c.told.ensures
 
 pub returns-then-said-ne0 : goal.returns-then-said-ne0
 returns-then-said-ne0 c =
     let a = c.args in
-    house_unopened a.file.now a.words.now a.side a.held.now a.other.now (lent a.questions.now a.patterns.now a.trees.now a.records.now a.values.now a.work.now) c.bounds.ensures c.bounds-theirs.ensures (goal.at.returns-then-said-ne0 c).After-bounds2.ensures c.if-number-ne0.false c.open_words-said.ensures.0 c.open_words-said.ensures.1 c.if-said-ne0.true c.told-then-said-ne0.ensures
+    house_unopened a.file.now a.words.now a.side a.held.now a.other.now (lent a.questions.now a.patterns.now a.trees.now a.records.now a.values.now a.work.now) c.bounds.ensures c.bounds-theirs.ensures c.before-number.ensures c.if-number-ne0.false c.open_words-said.ensures.0 c.open_words-said.ensures.1 c.if-said-ne0.true c.told-then-said-ne0.ensures
 
 pub judge_opened-requires : goal.judge_opened-requires
 judge_opened-requires c =
@@ -28,4 +28,4 @@ judge_opened-requires c =
 pub returns : goal.returns
 returns c =
     let a = c.args in
-    house-opened a.file.now a.words.now a.side a.held.now a.other.now (lent a.questions.now a.patterns.now a.trees.now a.records.now a.values.now a.work.now) c.bounds.ensures c.bounds-theirs.ensures (goal.at.returns c).After-bounds-theirs2.ensures c.if-number-ne0.false c.open_words-said.ensures.0 c.open_words-said.ensures.1 c.if-said-ne0.false c.judge_opened.ensures
+    house-opened a.file.now a.words.now a.side a.held.now a.other.now (lent a.questions.now a.patterns.now a.trees.now a.records.now a.values.now a.work.now) c.bounds.ensures c.bounds-theirs.ensures c.before-number.ensures c.if-number-ne0.false c.open_words-said.ensures.0 c.open_words-said.ensures.1 c.if-said-ne0.false c.judge_opened.ensures

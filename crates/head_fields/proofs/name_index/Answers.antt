@@ -1,5 +1,4 @@
 -- `head_fields::name_index`: the names passed and the number of the key among those left give the answer in each turn.
-use Prim.Native.Nat.{◌-◌}
 use mathlib.Core.Path.{sym, ◌∙◌}
 use Rattle.head_fields.proofs.Listed.{more_same, more_differs, more_past, seeking_none, seeking_here, seeking_next, seeking_on, seeking_end}
 use Rattle.head_fields.proofs.name_index.Goals.{then-b-eq32+else-same-w, else-b-eq32+then-same-w-2+then-b-w, else-b-eq32+else-same-w-2, else-same-w-2-via-then-same-w-2+else-b-w, else-same-w-2-via-else-same-w-2}

@@ -11,7 +11,7 @@ use Rattle.head_brackets.specs.declared.RowAt.TheVariants as found
 use Rattle.head_brackets.proofs.Through.{row_less, line_less}
 use Rattle.head_group_words.proofs.Kept.{kept_long}
 use Rattle.head_positions.proofs.Reading.{positions, reached_none, reached_line, reached_known, refused_group, reached_more, reached_ninth, ended}
-use Rattle.head_positions.proofs.read_groups.Goals.{After-put1, After-put1-arg-1, In-Found}
+use Rattle.head_positions.proofs.read_groups.Goals.{After-put1, In-Found}
 use Rattle.head_positions.proofs.read_groups.Goals as goal
 
 -- the row that was found
