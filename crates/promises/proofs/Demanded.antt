@@ -1,6 +1,6 @@
 -- Demand 1 as it reads for `larsavim_house` (02, Wish 11), by number: what the words, the task's bounds and the tables are after it. Refusals before the loads change nothing; a refused
 -- load leaves what that load leaves, after what came before it was unloaded; 0 and 30 to 36 leave the last model.
-use mathlib.Core.Path.{◌≡◌, refl, sym, ap}
+use mathlib.Core.Path.{◌≡◌, refl, sym, ap, subst}
 use mathlib.Core.List.{List, [], ◌∷◌, ◌++◌}
 use mathlib.Core.Logic.{◌⊎◌, inl, inr}
 use Prim.Native.Nat.{ℕ, ◌≤◌, ◌<◌}
@@ -63,9 +63,16 @@ module _ (x : Side) (s : List ℕ) (h : Header) (other : Held) where
     pub loads : Loads x s h other model (left before) said u
     pub bounds : mine₁ ≡ needed said
 
+  -- a model that loads, and those behind it, from the bounds that it leaves
+  last_behind : {m : Model} {y : ModelSaid} {mine n : Held} {t u : Lent} {ms : List Model} {ys : List ModelSaid} {mine₁ : Held} {v : Lent} → Loads x s h other m (emptied x mine t) y u → n ≡ needed y
+      → InTurn x s h other ms n u ys mine₁ v → Last (m ∷ ms) mine t mine₁ v
+  last_behind {m = m} {y = y} {mine = mine} {t = t} l e InTurn.end = record { model = m; said = y; before = before_first m [] mine t; last = refl; loads = l; bounds = e }
+  last_behind {m = m} {y = y} {mine = mine} {t = t} l e (InTurn.next {m = a} {ms = ms} {mine = b} {mine₁ = mine₁} {t = u} {u = w} {t₁ = v} {y = y'} {ys = ys} k r) =
+      let z : Last (a ∷ ms) (needed y) u mine₁ v = subst (λ (q : Held). Last (a ∷ ms) q u mine₁ v) e (last_behind {m = a} {y = y'} {mine = b} {n = needed y'} {t = u} {u = w} {ms = ms} {ys = ys} {mine₁ = mine₁} {v = v} k refl r) in
+      record { model = z.model; said = z.said; before = before_next l z.before; last = z.last; loads = z.loads; bounds = z.bounds }
+
   pub last_of : {m : Model} {ms : List Model} {mine mine₁ : Held} {t u : Lent} {ys : List ModelSaid} → InTurn x s h other (m ∷ ms) mine t ys mine₁ u → Last (m ∷ ms) mine t mine₁ u
-  last_of {m} {mine = mine} {t = t} (InTurn.next {y = y} l InTurn.end) = record { model = m; said = y; before = before_first m [] mine t; last = refl; loads = l; bounds = refl }
-  last_of (InTurn.next l (InTurn.next k r)) = let z = last_of (InTurn.next k r) in record { model = z.model; said = z.said; before = before_next l z.before; last = z.last; loads = z.loads; bounds = z.bounds }
+  last_of (InTurn.next l r) = last_behind l refl r
 
 -- a voice has a model
 pub last_model : {x : Side} {s : List ℕ} {h : Header} {other : Held} {ms : List Model} {mine mine₁ : Held} {t u : Lent} {ys : List ModelSaid} → Models s h ms → InTurn x s h other ms mine t ys mine₁ u

@@ -42,7 +42,7 @@ emptied_long x mine t =
     record { rows = λ k. ap (λ (r : Tables). length (r k)) (rows_back (placed x mine (zeros mine) (rows_of t)) t.work) ∙ placed_long x mine (zeros mine) (rows_of t) (exactly_zeros mine) k; work = refl }
 
 module _ {x : Side} {s : List ℕ} {h : Header} {other : Held} where
-  loads_long : {m : Model} {t u : Lent} {y : ModelSaid} → Loads x s h other m t y u → AsLong t u
+  loads_long : {m : Model} {t : Lent} {y : ModelSaid} {u : Lent} → Loads x s h other m t y u → AsLong t u
   loads_long {t = t} (loads {y = y} {l = l} {ts = ts} {rs = rs} a r w) =
       record {
         rows = λ k. ap (λ (r : Tables). length (r k)) (rows_back (placed x (needed y) (model_rows y l ts rs) (rows_of t)) t.work) ∙ placed_long x (needed y) (model_rows y l ts rs) (rows_of t) (rows_exact a w) k;
@@ -50,7 +50,7 @@ module _ {x : Side} {s : List ℕ} {h : Header} {other : Held} where
       }
 
   -- what a load says, in tables with room
-  loads_says : {m : Model} {t u : Lent} {y : ModelSaid} → Loads x s h other m t y u → SaysModel widening s h m y
+  loads_says : {m : Model} {t : Lent} {y : ModelSaid} {u : Lent} → Loads x s h other m t y u → SaysModel widening s h m y
   loads_says (loads {l = l} {ts = ts} {rs = rs} a r w) = record { layout = l; trees = ts; records = rs; reads = a; linked = w }
 
 -- ---- each model of the file that is read fits beside the other's

@@ -41,13 +41,13 @@ module _ (Q T R X : List ℕ) (width : ℕ) where
     where
       go : (b : Bool) → leaves_fit Q T R X width ≡ b → AfterLeaves Q T R X width (flag_word b)
       go true e = AfterLeaves.fits (fits_says Q T R X width e)
-      go false e = AfterLeaves.Fits-not (λ f. true≢false (sym (says_fits Q T R X width f) ∙ e))
+      go false e = AfterLeaves.fits_not (λ f. true≢false (sym (says_fits Q T R X width f) ∙ e))
 
   pub after_leaves_once : {r s : ℕ} → AfterLeaves Q T R X width r → AfterLeaves Q T R X width s → r ≡ s
   after_leaves_once (AfterLeaves.fits a) (AfterLeaves.fits b) = refl
-  after_leaves_once (AfterLeaves.fits a) (AfterLeaves.Fits-not b) = absurd (b a)
-  after_leaves_once (AfterLeaves.Fits-not a) (AfterLeaves.fits b) = absurd (a b)
-  after_leaves_once (AfterLeaves.Fits-not a) (AfterLeaves.Fits-not b) = refl
+  after_leaves_once (AfterLeaves.fits a) (AfterLeaves.fits_not b) = absurd (b a)
+  after_leaves_once (AfterLeaves.fits_not a) (AfterLeaves.fits b) = absurd (a b)
+  after_leaves_once (AfterLeaves.fits_not a) (AfterLeaves.fits_not b) = refl
 
 -- ---- larsavim_walk_jobs
 

@@ -177,15 +177,15 @@ emptied-seen x other mine t s = ap (seen x mine) (rows_back (cleared x mine (row
 
 module _ {x : Side} {s : List ℕ} {h : Header} {other : Held} where
   -- a load that is done leaves the model in the task's rows
-  pub loads_seen : {m : Model} {t u : Lent} {y : ModelSaid} → Loads x s h other m t y u
+  pub loads_seen : {m : Model} {t : Lent} {y : ModelSaid} {u : Lent} → Loads x s h other m t y u
       → (l : Layout) × (ts : List Row) × (rs : List Row) × ReadsModel widening s h m y l × TreeRows y.text.questions 0 y.text.trees ts rs × (seen x (needed y) (rows_of u) ≡ model_rows y l ts rs)
   loads_seen {t = t} (loads {y = y} {l = l} {ts = ts} {rs = rs} a r w) =
       (l, ts, rs, a, w, ap (seen x (needed y)) (rows_back (placed x (needed y) (model_rows y l ts rs) (rows_of t)) t.work) ∙ placed_own x (needed y) (model_rows y l ts rs) (rows_of t) (rows_exact a w) other r.rows)
 
-  pub loads_stand : {m : Model} {t u : Lent} {y : ModelSaid} → Loads x s h other m t y u → Stand (rows_of u) (needed y) other
+  pub loads_stand : {m : Model} {t : Lent} {y : ModelSaid} {u : Lent} → Loads x s h other m t y u → Stand (rows_of u) (needed y) other
   loads_stand {t = t} (loads {y = y} {l = l} {ts = ts} {rs = rs} a r w) = put_stand x other (needed y) (model_rows y l ts rs) (rows_of t) t.work (rows_exact a w) (needed y) r.rows
 
-  loads_apart : {m : Model} {t u : Lent} {y : ModelSaid} → Loads x s h other m t y u → theirs x other u ≡ theirs x other t
+  loads_apart : {m : Model} {t : Lent} {y : ModelSaid} {u : Lent} → Loads x s h other m t y u → theirs x other u ≡ theirs x other t
   loads_apart {t = t} (loads {y = y} {l = l} {ts = ts} {rs = rs} a r w) = put_apart x other (needed y) (model_rows y l ts rs) (rows_of t) t.work (rows_exact a w) r.rows
 
   refused_apart : {m : Model} {t u : Lent} {n p k : ℕ} → LoadRefused x s h other m t n p k u → theirs x other u ≡ theirs x other t
