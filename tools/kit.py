@@ -47,6 +47,7 @@ def crates():
     return {crate: names for _, crate, _, names in lines() if crate}
 
 
+@functools.lru_cache(None)
 def below(crate):
     """The repository's crates below a crate, each after those that it names."""
     found = []
@@ -56,17 +57,18 @@ def below(crate):
     return found
 
 
-def rlib(crate):
-    return os.path.join(ROOT, 'crates', crate, 'out', 'rlib', crate + '.rlib')
+def rlib(crate, folder='rlib'):
+    """Where a proved library stands: as `rt` leaves it, or in another folder of out/."""
+    return os.path.join(ROOT, 'crates', crate, 'out', folder, crate + '.rlib')
 
 
-def words(crate):
-    """What `rt` has the kit's `rattle check` and `rattle build` read of a library: to be called in the crate's folder, over the libraries that stand built in out/."""
+def words(crate, folder='rlib'):
+    """What `rt` has the kit's `rattle check` and `rattle build` read of a library: to be called in the crate's folder, over the libraries that stand built in that folder of out/."""
     found = ['--crate-name', crate, 'src/lib.rt', '-L', 'dependency=' + place('rlibs')]
     for name in ['std', *crates()[crate]]:
-        found += ['--extern', '%s=%s' % (name, rlib(name) if name in crates() else place('rlibs', name + '.rlib'))]
+        found += ['--extern', '%s=%s' % (name, rlib(name, folder) if name in crates() else place('rlibs', name + '.rlib'))]
     for name in below(crate):
-        found += ['-L', 'dependency=' + os.path.dirname(rlib(name))]
+        found += ['-L', 'dependency=' + os.path.dirname(rlib(name, folder))]
     return [*found, '--antt-project', place('rattle', 'logic', 'antt-project.json'), '--logic-built', place('logic_built')]
 
 
