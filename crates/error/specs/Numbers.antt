@@ -5,6 +5,10 @@ use Rattle.error.specs.declared.LinkFault.TheVariants.{NodeRef, QuestionRef, Lon
 use Rattle.error.specs.declared.Refusal.{Refusal}
 use Rattle.error.specs.declared.Told.{Told}
 use Rattle.error.specs.declared.Refusal.TheVariants.{Split, Utf8, Eof, ExpectedBool, ExpectedInteger, ExpectedArrayComma, ExpectedMapColon, ExpectedMapNewline, Field, Number, Limit, NoPosition, NoStream, UseGv, Range, Text, State, Block, Room, Unlinked, WalkTable, Steps, NoTrailer, TrailerSum, TrailerRows, Held, OtherRows}
+use Rattle.error.specs.declared.LineFault.{LineFault}
+
+abbrev pub line_fault : LinkFault → ℕ → LineFault
+line_fault f l = record { fault = f; line = l }
 
 abbrev pub fault_number : LinkFault → ℕ
 fault_number NodeRef = 21

@@ -29,6 +29,13 @@ impl LinkFault {
     }
 }
 
+// Why the lines of a tree don't link, and the first that doesn't, counted from 0.
+#[derive(Clone, Copy)]
+pub struct LineFault {
+    pub fault: LinkFault,
+    pub line: usize,
+}
+
 // A place is a file offset, that of 17 an offset into the data (02, Wish 2); `tree` and `line` are counted from 0.
 #[derive(Clone, Copy)]
 pub enum Refusal {

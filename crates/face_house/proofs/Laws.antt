@@ -23,11 +23,8 @@ use Rattle.load_bounds.proofs.Laws.{stands_at_lem}
 use Rattle.load_voice.specs.Voice.{next_model, models_after}
 use Rattle.house_types.specs.Types.{types_rule}
 use Rattle.house_step.specs.Steps.{bounds_of, step_of}
-use Rattle.house_step.specs.declared.Step.{Step}
-use Rattle.house_step.specs.declared.Step.TheVariants as step
-use Rattle.house_voice.specs.Voice.{broken, voice_on, voice_from, voice_of}
+use Rattle.house_voice.specs.Voice.{one_refused, all_judged, broken, voice_on, voice_from, voice_of}
 use Rattle.house_voice.specs.declared.Broken.{Broken}
-use Rattle.house_voice.specs.declared.VoiceJudged.TheVariants as voice
 use Rattle.house_voice.proofs.Laws.{fits-judged}
 use Rattle.face_record.specs.declared.Said.{Said}
 use Rattle.face_open.specs.Answers.{open_said, open_words}
@@ -35,6 +32,8 @@ use Rattle.face_shared.specs.Answers.{held_at, side_at, standing}
 use Rattle.face_rule.specs.declared.House.{House}
 use Rattle.face_rule.specs.Answers.{house, refused_as, ruled_by}
 use Rattle.face_house.specs.Answers.{After, untouched, said_by, bounds_numbers, held_by, opened_of, opening_by, opening_of, house_of, before_at, Opened, Is, Housed}
+use Rattle.house_step.specs.declared.Judged.{Judged}
+use Rattle.std.specs.Prelude.{Err, Ok, Result}
 
 -- ---- the bounds
 
@@ -44,22 +43,22 @@ bounds_put l t e = ap (λ (u : List ℕ). set u 4 l.values) e
 -- ---- a file that opened
 
 -- a voice whose models loaded has a record that fits
-voice_fits : (x : Side) (s : List ℕ) (h : Header) (other : Held) (T : Lent) {b : Broken} {l : Bounds} → voice.Judged b l ≡ (voice_of x s h other T).answer → record_fits (length s) h ≡ true
+voice_fits : (x : Side) (s : List ℕ) (h : Header) (other : Held) (T : Lent) {b : Broken} {l : Bounds} → all_judged b l ≡ (voice_of x s h other T).answer → record_fits (length s) h ≡ true
 unfolding voice_of voice_from models_after
 voice_fits x s h other T {b} {l} e = go (step_of x s h Duration (held_of (bounds_of 0 0 0 0 0)) other T).answer refl e
   where
-    go : (o : Step) → (step_of x s h Duration (held_of (bounds_of 0 0 0 0 0)) other T).answer ≡ o
-        → voice.Judged b l ≡ (voice_on (voice_from x s h other (models_after 16 s h (next_model s h Duration))) Duration (broken 0 0) (step_of x s h Duration (held_of (bounds_of 0 0 0 0 0)) other T).tables o).answer
+    go : (o : Result Judged Refusal) → (step_of x s h Duration (held_of (bounds_of 0 0 0 0 0)) other T).answer ≡ o
+        → all_judged b l ≡ (voice_on (voice_from x s h other (models_after 16 s h (next_model s h Duration))) Duration (broken 0 0) (step_of x s h Duration (held_of (bounds_of 0 0 0 0 0)) other T).tables o).answer
         → record_fits (length s) h ≡ true
-    go (step.Judged n k) q e = fits-judged s h Duration x (held_of (bounds_of 0 0 0 0 0)) other T (sym q)
-    go (step.Refused z) q e = let u : ◌≡◌ {A = ℕ} 0 1 = cc in absurd (omega arith)
+    go (Ok j) q e = fits-judged s h Duration x (held_of (bounds_of 0 0 0 0 0)) other T (sym q)
+    go (Err z) q e = let u : ◌≡◌ {A = ℕ} 0 1 = cc in absurd (omega arith)
 
 module _ (x : Side) (s w held : List ℕ) (other : Held) (T : Lent) {T₁ : Lent} (t : T₁ ≡ (voice_of x s (header_at w) other T).tables) where
-  pub opened_refused : {z : Refusal} {m : ℕ} {r : House} → voice.Refused z m ≡ (voice_of x s (header_at w) other T).answer → r ≡ refused_as z m → Opened x s w held other T r held T₁
+  pub opened_refused : {z : Refusal} {m : ℕ} {r : House} → one_refused z m ≡ (voice_of x s (header_at w) other T).answer → r ≡ refused_as z m → Opened x s w held other T r held T₁
   unfolding opened_of
   opened_refused e k = (k ∙ ap (said_by s (header_at w)) e, ap (held_by held) e, t)
 
-  module _ {b : Broken} {l : Bounds} (e : voice.Judged b l ≡ (voice_of x s (header_at w) other T).answer) where
+  module _ {b : Broken} {l : Bounds} (e : all_judged b l ≡ (voice_of x s (header_at w) other T).answer) where
     pub few_types : word_at w 22 ≤ 8
     few_types = (counts (length s) w (voice_fits x s (header_at w) other T e)).types
 

@@ -1,5 +1,5 @@
 -- What judging a voice by the house's rules answers in numbers, and each lent slice after it, by both tasks' bounds (02, Wish 11; host/larsavim.h).
-use Rattle.std.specs.Prelude.{◌≡◌, cond, ◌&&◌, List, [], ◌∷◌, ◌⊎◌, ℕ, ◌≤◌, ◌<◌, leb, eqb, length, get_or}
+use Rattle.std.specs.Prelude.{◌≡◌, cond, ◌&&◌, List, [], ◌∷◌, ◌⊎◌, ℕ, ◌≤◌, ◌<◌, leb, eqb, length, get_or, Err, Ok, Result}
 use Rattle.std.proofs.lemmas.List.Edits.{sets}
 use Rattle.written.specs.Sharing.{Side, Held, holds}
 use Rattle.head_record.specs.declared.Header.{Header}
@@ -10,13 +10,13 @@ use Rattle.load_bounds.specs.Bounds.{stands_at}
 use Rattle.load_bounds.specs.declared.Held.{Held as Bounds}
 use Rattle.house_types.specs.Types.{types_rule}
 use Rattle.house_voice.specs.Voice.{After as VoiceAfter, voice_of}
-use Rattle.house_voice.specs.declared.VoiceJudged.{VoiceJudged}
-use Rattle.house_voice.specs.declared.VoiceJudged.TheVariants as voice
 use Rattle.face_record.specs.declared.Said.{Said}
 use Rattle.face_open.specs.Answers.{open_said, open_words}
 use Rattle.face_shared.specs.Answers.{held_at, side_at, standing}
 use Rattle.face_rule.specs.declared.House.{House}
 use Rattle.face_rule.specs.Answers.{house, refused_as, ruled_by}
+use Rattle.house_voice.specs.declared.ModelRefused.{ModelRefused}
+use Rattle.house_voice.specs.declared.VoiceJudged.{VoiceJudged}
 
 -- the answer, and what was lent after the call
 pub record After : Type 0 where
@@ -30,17 +30,17 @@ untouched n w held T = record { said = n; words = w; held = held; tables = T }
 
 -- ---- a file that opened, with words w
 
-abbrev pub said_by : List ℕ → Header → VoiceJudged → House
-said_by s h (voice.Judged b l) = ruled_by (types_rule s h) b
-said_by s h (voice.Refused z m) = refused_as z m
+abbrev pub said_by : List ℕ → Header → Result VoiceJudged ModelRefused → House
+said_by s h (Ok j) = ruled_by (types_rule s h) j.first
+said_by s h (Err j) = refused_as j.refusal j.model
 
 abbrev pub bounds_numbers : Bounds → List ℕ
 bounds_numbers l = l.questions ∷ l.patterns ∷ l.trees ∷ l.records ∷ l.values ∷ []
 
 -- the task's bounds: the rows of the last model, or as they were
-abbrev pub held_by : List ℕ → VoiceJudged → List ℕ
-held_by held (voice.Judged b l) = sets held 0 (bounds_numbers l)
-held_by held (voice.Refused z m) = held
+abbrev pub held_by : List ℕ → Result VoiceJudged ModelRefused → List ℕ
+held_by held (Ok j) = sets held 0 (bounds_numbers j.held)
+held_by held (Err j) = held
 
 abbrev pub opened_by : List ℕ → List ℕ → List ℕ → VoiceAfter → After
 opened_by s w held v = record { said = said_by s (header_at w) v.answer; words = w; held = held_by held v.answer; tables = v.tables }

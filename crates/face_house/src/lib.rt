@@ -12,7 +12,7 @@ ghost use Rattle.face_house.specs.Answers.{bounds_numbers, before_at, Opened, Ho
 use face_open::open_words;
 use face_rule::{House, refused_as, ruled, told};
 use face_shared::{bounds, standing};
-use house_voice::{VoiceJudged, judge_voice};
+use house_voice::judge_voice;
 use load_bounds::{Held, holding};
 use table_put::put4;
 
@@ -67,10 +67,10 @@ fn judge_opened(
     match judge_voice(
         file, words, top, other, questions, patterns, trees, records, values, work,
     ) {
-        VoiceJudged::Refused { refusal, model } => refused_as(refusal, model),
-        VoiceJudged::Judged { first, held: rows } => {
-            put_bounds(held, rows);
-            ruled(file, words, first)
+        Err(at) => refused_as(at.refusal, at.model),
+        Ok(judged) => {
+            put_bounds(held, judged.held);
+            ruled(file, words, judged.first)
         }
     }
 }

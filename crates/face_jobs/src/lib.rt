@@ -7,7 +7,7 @@ ghost use Rattle.face_jobs.specs.Done.{job_done};
 
 use face_model::{Ended, walk_said};
 
-// Six numbers, 48 bytes in C.
+// Six numbers, 48 bytes in C. C reads this struct (larsavim.h).
 #[repr(C)]
 #[derive(Clone, Copy)]
 pub struct Job {

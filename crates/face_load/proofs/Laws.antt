@@ -10,13 +10,15 @@ use Rattle.face_record.proofs.Laws.{fit, unfit}
 use Rattle.written.specs.Sharing.{Side, Held}
 use Rattle.load_model.specs.Load.{Tables}
 use Rattle.load_shared.specs.Beside.{beside_of, LoadsBeside}
-use Rattle.load_model.specs.declared.Loaded.{Loaded}
 use Rattle.face_model.specs.declared.Rows.{Rows}
 use Rattle.face_model.specs.Answers.{which_of, no_rows, rows_by}
 use Rattle.face_load.specs.Answers.{Filled, filled_by, untouched, filled_of, LoadSaid}
+use Rattle.load_model.specs.declared.Loaded.{Loaded}
+use Rattle.error.specs.declared.Refusal.{Refusal}
+use Rattle.std.specs.Prelude.{Result}
 
 module _ (s u : List ℕ) (n : ℕ) (x : Side) (other : Held) (T : Tables) {j : ℕ} (e : j ≡ judged_of u) where
-  pub load_fit : {k : Which} {l : Loaded} {r : Rows} {T₁ : Tables} → j ≡ 0 → k ≡ which_of n → LoadsBeside x s (header_at u) k other T l T₁ → r ≡ rows_by l → LoadSaid s u n x other T r T₁
+  pub load_fit : {k : Which} {l : Result Loaded Refusal} {r : Rows} {T₁ : Tables} → j ≡ 0 → k ≡ which_of n → LoadsBeside x s (header_at u) k other T l T₁ → r ≡ rows_by l → LoadSaid s u n x other T r T₁
   unfolding filled_of
   load_fit {k} z g i y =
       let E : filled_by (beside_of x s (header_at u) k other T) ≡ filled_of s u n x other T =

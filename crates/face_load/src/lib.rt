@@ -7,6 +7,7 @@ ghost use Rattle.load_bounds.specs.Bounds.{side_of, held_of};
 ghost use Rattle.face_model.specs.Answers.{no_rows, rows_by};
 ghost use Rattle.face_load.specs.Answers.{LoadSaid};
 
+use error::Refusal;
 use face_model::{Rows, which_of};
 use face_record::judged;
 use load_bounds::Held;
@@ -29,27 +30,21 @@ pub fn no_rows(number: u64, place: u64, line: u64) -> Rows
 }
 
 // A load's answer in numbers.
-pub fn rows_of(loaded: Loaded) -> Rows
+pub fn rows_of(loaded: Result<Loaded, Refusal>) -> Rows
     ensures { result ≡ rows_by loaded }
 {
     match loaded {
-        Loaded::Done {
-            questions,
-            patterns,
-            trees,
-            records,
-            values,
-        } => Rows {
+        Ok(rows) => Rows {
             number: 0,
             place: 0,
             line: 0,
-            questions: questions as u64,
-            patterns: patterns as u64,
-            trees: trees as u64,
-            records: records as u64,
-            values,
+            questions: rows.questions as u64,
+            patterns: rows.patterns as u64,
+            trees: rows.trees as u64,
+            records: rows.records as u64,
+            values: rows.values,
         },
-        Loaded::Refused(refusal) => no_rows(
+        Err(refusal) => no_rows(
             refusal.number(),
             refusal.place() as u64,
             refusal.line() as u64,

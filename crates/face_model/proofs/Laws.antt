@@ -17,12 +17,11 @@ use Rattle.load_choose.specs.declared.Which.{Which}
 use Rattle.load_choose.specs.declared.Which.TheVariants.{Duration, Stream, Gv}
 use Rattle.load_plan.specs.Plans.{data_of, planned}
 use Rattle.load_plan.specs.declared.Plan.{Plan}
-use Rattle.load_plan.specs.declared.Planned.{Planned}
-use Rattle.load_plan.specs.declared.Planned.TheVariants as planned
 use Rattle.load_plan.proofs.Laws.{needs_sound}
 use Rattle.load_model.proofs.Laws.{part_short, small_values}
 use Rattle.face_model.specs.declared.Needed.{Needed}
 use Rattle.face_model.specs.Answers.{which_of, work_for, not_needed, needed_for, needed_by, needed_of}
+use Rattle.std.specs.Prelude.{Err, Ok, Result}
 
 -- ---- which model
 
@@ -56,22 +55,22 @@ module _ (l : ℕ) where
 -- ---- what a model needs
 
 -- the values of a plan are a number of 64 bits
-pub values_small : (s : List ℕ) (h : Header) (k : Which) (p : Plan) → planned.Model p ≡ planned s h k → length s < 18446744073709551616 → p.entries * p.width < 9223372036854775808
+pub values_small : (s : List ℕ) (h : Header) (k : Which) (p : Plan) → Ok p ≡ planned s h k → length s < 18446744073709551616 → p.entries * p.width < 9223372036854775808
 values_small s h k p e l =
     small_values (data_of s h) p (needs_sound s h k p e) (omega (arith, part_short s h.data_start h.data_len, l))
 
 module _ (s w : List ℕ) (n : ℕ) {j : ℕ} (e : j ≡ judged_of w) where
-  module _ (z : j ≡ 0) {k : Which} {q : Planned} (b : k ≡ which_of n) (c : q ≡ planned s (header_at w) k) where
+  module _ (z : j ≡ 0) {k : Which} {q : Result Plan Refusal} (b : k ≡ which_of n) (c : q ≡ planned s (header_at w) k) where
     by_plan : needed_by q ≡ needed_of s w n
     unfolding needed_of
     by_plan =
         ap needed_by (c ∙ ap (planned s (header_at w)) b)
         ∙ sym (ap (λ (t : Bool). cond t (needed_by (planned s (header_at w) (which_of n))) (not_needed (judged_of w) 0 0)) (fit w e z))
 
-    pub needs_model : {p : Plan} {x : Needed} → q ≡ planned.Model p → x ≡ needed_for p → x ≡ needed_of s w n
+    pub needs_model : {p : Plan} {x : Needed} → q ≡ Ok p → x ≡ needed_for p → x ≡ needed_of s w n
     needs_model d y = y ∙ sym (ap needed_by d) ∙ by_plan
 
-    pub needs_refused : {r : Refusal} {x : Needed} → q ≡ planned.Refused r → x ≡ not_needed (number_of r) (place_of r) (line_of r) → x ≡ needed_of s w n
+    pub needs_refused : {r : Refusal} {x : Needed} → q ≡ Err r → x ≡ not_needed (number_of r) (place_of r) (line_of r) → x ≡ needed_of s w n
     needs_refused d y = y ∙ sym (ap needed_by d) ∙ by_plan
 
   pub needs_unfit : (j ≡ 0 → ⊥) → not_needed j 0 0 ≡ needed_of s w n

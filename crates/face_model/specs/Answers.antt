@@ -1,5 +1,6 @@
 -- What the calls on a model and on loaded tables answer in numbers (host/larsavim.h): which model a number names, what a model needs, a load, a walk.
-use Rattle.std.specs.Prelude.{cond, List, ℕ, ◌-◌, ◌*◌, ◌/◌, ◌%◌, ltb, eqb}
+use Rattle.walk.specs.declared.Walked.{Walked}
+use Rattle.std.specs.Prelude.{cond, List, ℕ, ◌-◌, ◌*◌, ◌/◌, ◌%◌, ltb, eqb, Err, Ok, Result}
 use Rattle.error.specs.Numbers.{number_of, place_of, line_of}
 use Rattle.head_words.specs.Words.{header_at}
 use Rattle.face_record.specs.Answers.{judged_of}
@@ -7,16 +8,12 @@ use Rattle.load_choose.specs.declared.Which.{Which}
 use Rattle.load_choose.specs.declared.Which.TheVariants.{Duration, Stream, Gv}
 use Rattle.load_plan.specs.Plans.{planned}
 use Rattle.load_plan.specs.declared.Plan.{Plan}
-use Rattle.load_plan.specs.declared.Planned.{Planned}
-use Rattle.load_plan.specs.declared.Planned.TheVariants as planned
-use Rattle.load_model.specs.declared.Loaded.{Loaded}
-use Rattle.load_model.specs.declared.Loaded.TheVariants as loaded
 use Rattle.walk.specs.Walking.{walk_of}
-use Rattle.walk.specs.declared.Walked.{Walked}
-use Rattle.walk.specs.declared.Walked.TheVariants as walked
 use Rattle.face_model.specs.declared.Needed.{Needed}
 use Rattle.face_model.specs.declared.Rows.{Rows}
 use Rattle.face_model.specs.declared.Ended.{Ended}
+use Rattle.load_model.specs.declared.Loaded.{Loaded}
+use Rattle.error.specs.declared.Refusal.{Refusal}
 
 -- 0 duration, 2i + 1 stream i, 2i + 2 its GV
 unfoldable pub which_of : ℕ → Which
@@ -47,9 +44,9 @@ needed_for p =
       width = p.width;
     }
 
-abbrev pub needed_by : Planned → Needed
-needed_by (planned.Model p) = needed_for p
-needed_by (planned.Refused r) = not_needed (number_of r) (place_of r) (line_of r)
+abbrev pub needed_by : Result Plan Refusal → Needed
+needed_by (Ok p) = needed_for p
+needed_by (Err r) = not_needed (number_of r) (place_of r) (line_of r)
 
 -- of words that are judged so
 abbrev pub needed_in : List ℕ → List ℕ → ℕ → ℕ → Needed
@@ -63,15 +60,15 @@ needed_of s w n = needed_in s w n (judged_of w)
 abbrev pub no_rows : ℕ → ℕ → ℕ → Rows
 no_rows n p l = record { number = n; place = p; line = l; questions = 0; patterns = 0; trees = 0; records = 0; values = 0 }
 
-abbrev pub rows_by : Loaded → Rows
-rows_by (loaded.Done q p t r v) = record { number = 0; place = 0; line = 0; questions = q; patterns = p; trees = t; records = r; values = v }
-rows_by (loaded.Refused r) = no_rows (number_of r) (place_of r) (line_of r)
+abbrev pub rows_by : Result Loaded Refusal → Rows
+rows_by (Ok l) = record { number = 0; place = 0; line = 0; questions = l.questions; patterns = l.patterns; trees = l.trees; records = l.records; values = l.values }
+rows_by (Err r) = no_rows (number_of r) (place_of r) (line_of r)
 
 -- ---- a walk
 
-abbrev pub ended_by : Walked → Ended
-ended_by (walked.Pdf n a) = record { number = 0; pdf = n; asked = a }
-ended_by (walked.Refused r) = record { number = number_of r; pdf = 0; asked = 0 }
+abbrev pub ended_by : Result Walked Refusal → Ended
+ended_by (Ok r) = record { number = 0; pdf = r.number; asked = r.asked }
+ended_by (Err r) = record { number = number_of r; pdf = 0; asked = 0 }
 
 abbrev pub ended_of : List ℕ → List ℕ → ℕ → List ℕ → ℕ → Ended
 ended_of T R t bytes limit = ended_by (walk_of T R t bytes limit)

@@ -7,11 +7,11 @@ ghost use Rattle.face_model.specs.Answers.{which_of, work_for, not_needed, neede
 
 use face_record::judged;
 use load_choose::Which;
-use load_plan::{Plan, Planned, needs};
+use load_plan::{Plan, needs};
 use table_rows::WORK_A_LINE;
-use walk::{Walked, walk};
+use walk::walk;
 
-// What a model needs: rows of each table, values, numbers of work, and the values in an entry.
+// What a model needs: rows of each table, values, numbers of work, and the values in an entry. An exported call hands it to C number by number.
 #[repr(C)]
 #[derive(Clone, Copy)]
 pub struct Needed {
@@ -27,7 +27,7 @@ pub struct Needed {
     pub width: u64,
 }
 
-// The rows of a load, and its values.
+// The rows of a load, and its values. An exported call hands it to C number by number.
 #[repr(C)]
 #[derive(Clone, Copy)]
 pub struct Rows {
@@ -41,7 +41,7 @@ pub struct Rows {
     pub values: u64,
 }
 
-// How a walk ended.
+// How a walk ended. An exported call hands it to C number by number.
 #[repr(C)]
 #[derive(Clone, Copy)]
 pub struct Ended {
@@ -115,8 +115,8 @@ pub fn needs_said(file: &[u8], words: &[u64], which: u64) -> Needed
     let number = judged(words);
     if number == 0 {
         return match needs(file, words, which_of(which)) {
-            Planned::Model(plan) => needed_for(plan),
-            Planned::Refused(refusal) => not_needed(
+            Ok(plan) => needed_for(plan),
+            Err(refusal) => not_needed(
                 refusal.number(),
                 refusal.place() as u64,
                 refusal.line() as u64,
@@ -131,12 +131,12 @@ pub fn walk_said(trees: &[u64], records: &[u64], tree: u64, answers: &[u8], limi
     ensures { result ≡ ended_of trees.now records.now tree answers.now limit }
 {
     match walk(trees, records, tree, answers, limit) {
-        Walked::Pdf { number, asked } => Ended {
+        Ok(walked) => Ended {
             number: 0,
-            pdf: number,
-            asked,
+            pdf: walked.number,
+            asked: walked.asked,
         },
-        Walked::Refused(refusal) => Ended {
+        Err(refusal) => Ended {
             number: refusal.number(),
             pdf: 0,
             asked: 0,

@@ -7,9 +7,9 @@ use borrow.Author.Tests.{lt-ltb, le-ltb}
 use lib.Dec.{ltb}
 use lib.ListN.{length, replicate}
 use lib.Seq.{sets}
+use Rattle.std.specs.Prelude.{Ok, Err}
 use Rattle.error.specs.Numbers.{number_of, place_of}
 use Rattle.error.specs.declared.Refusal.{Refusal}
-use Rattle.head_lines.specs.declared.Verdict.TheVariants.{Accepted, Refused}
 use Rattle.head_words.specs.Words.{header_words}
 use Rattle.head_open.specs.Open.{open_of}
 use Rattle.head_open.specs.Left.{open_left}
@@ -25,11 +25,11 @@ module _ (s w : List ℕ) where
   abbrev pub Says : Said → List ℕ → Type 0
   Says x w' = (x ≡ open_said s (length w)) × (w' ≡ open_words s w)
 
-  pub says_refused : (r : Refusal) {x : Said} → (open_of s).verdict ≡ Refused r → x ≡ said (number_of r) (place_of r) → Says x w
+  pub says_refused : (r : Refusal) {x : Said} → (open_of s).verdict ≡ Err r → x ≡ said (number_of r) (place_of r) → Says x w
   unfolding open_said open_words
   says_refused r v q = (q ∙ sym (ap (open_said_by (length w)) v), sym (ap (open_words_by w (open_of s).header) v))
 
-  module _ (v : (open_of s).verdict ≡ Accepted) where
+  module _ (v : (open_of s).verdict ≡ Ok tt) where
     pub says_few : length w < 647 → Says (said 20 0) w
     unfolding open_said open_words
     says_few n =

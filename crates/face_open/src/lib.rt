@@ -8,7 +8,6 @@ ghost use Rattle.face_open.specs.Answers.{open_said, open_words};
 
 use error::Refusal;
 use face_record::Said;
-use head_lines::Verdict;
 use head_open::open;
 use head_put::put_all;
 use head_words::WORDS;
@@ -29,8 +28,8 @@ pub fn open_words(file: &[u8], words: &mut [u64]) -> Said
 {
     let mut record: [u64; 647] = [0; 647];
     match open(file, &mut record) {
-        Verdict::Refused(refusal) => refused(refusal),
-        Verdict::Accepted => {
+        Err(refusal) => refused(refusal),
+        Ok(()) => {
             if words.len() < WORDS {
                 return Said {
                     number: 20,

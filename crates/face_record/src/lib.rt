@@ -6,7 +6,7 @@ ghost use Rattle.face_record.specs.Answers.{part_of, judged_of, comment_in, comm
 
 use head_words::{COMMENT, HAS_COMMENT, WORDS, flags_fit};
 
-// 01's number, and its place; of a field, its value.
+// 01's number, and its place; of a field, its value. An exported call hands it to C number by number.
 #[repr(C)]
 #[derive(Clone, Copy)]
 pub struct Said {
@@ -14,7 +14,7 @@ pub struct Said {
     pub place: u64,
 }
 
-// A part of the file (slice 0) or of the fallback (slice 1).
+// A part of the file (slice 0) or of the fallback (slice 1). An exported call hands it to C number by number.
 #[repr(C)]
 #[derive(Clone, Copy)]
 pub struct Part {
@@ -24,7 +24,7 @@ pub struct Part {
     pub len: u64,
 }
 
-// A string or a range.
+// A string or a range. An exported call hands it to C number by number.
 #[repr(C)]
 #[derive(Clone, Copy)]
 pub struct Pair {

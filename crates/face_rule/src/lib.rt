@@ -10,7 +10,7 @@ use error::Refusal;
 use house_types::judge_types;
 use house_voice::Broken;
 
-// 01's number, its place and line, and the number of the model that was refused or that breaks a rule.
+// 01's number, its place and line, and the number of the model that was refused or that breaks a rule. An exported call hands it to C number by number.
 #[repr(C)]
 #[derive(Clone, Copy)]
 pub struct House {

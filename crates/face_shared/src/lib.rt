@@ -11,7 +11,6 @@ use error::Refusal;
 use face_load::{load_said, rows_of};
 use face_model::Rows;
 use load_bounds::{Held, holding, stand};
-use load_model::Loaded;
 use load_unload::unload;
 
 const TOP: u64 = 1;
@@ -70,7 +69,7 @@ pub fn shared_said(
     let mine = bounds(held);
     let theirs = bounds(other);
     if holding(mine) {
-        return rows_of(Loaded::Refused(Refusal::Held));
+        return rows_of(Err(Refusal::Held));
     }
     if !standing(
         side,
@@ -82,7 +81,7 @@ pub fn shared_said(
         records.len(),
         values.len(),
     ) {
-        return rows_of(Loaded::Refused(Refusal::WalkTable));
+        return rows_of(Err(Refusal::WalkTable));
     }
     load_said(
         file,

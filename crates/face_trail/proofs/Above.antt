@@ -8,12 +8,11 @@ use borrow.Author.Tests.{ltb-false}
 use lib.Dec.{ltb}
 use lib.ListN.{length}
 use lib.Seq.{sets, length-sets}
+use Rattle.std.specs.Prelude.{Result, Ok, Err, ⊤}
 use Rattle.error.specs.Numbers.{number_of}
 use Rattle.error.specs.declared.LinkFault.TheVariants as fault
 use Rattle.error.specs.declared.Refusal.{Refusal}
 use Rattle.error.specs.declared.Refusal.TheVariants as refusal
-use Rattle.head_lines.specs.declared.Verdict.{Verdict}
-use Rattle.head_lines.specs.declared.Verdict.TheVariants.{Accepted, Refused}
 use Rattle.head_words.specs.Words.{header_words}
 use Rattle.head_open.specs.Open.{open_of}
 use Rattle.face_open.specs.Answers.{open_said_by, open_said, open_words_by, open_words}
@@ -52,17 +51,17 @@ above_zero refusal.OtherRows = omega arith
 
 module _ (s w : List ℕ) (e : (open_said s (length w)).number ≡ 0) where
   -- the file was accepted, and the words have room
-  pub opened : ((open_of s).verdict ≡ Accepted) × (647 ≤ length w)
+  pub opened : ((open_of s).verdict ≡ Ok tt) × (647 ≤ length w)
   unfolding open_said
   opened = go (open_of s).verdict refl e
     where
-      go : (v : Verdict) → (open_of s).verdict ≡ v → (open_said_by (length w) v).number ≡ 0 → ((open_of s).verdict ≡ Accepted) × (647 ≤ length w)
-      go Accepted q e = pick (ltb (length w) 647) refl e
+      go : (v : Result ⊤ Refusal) → (open_of s).verdict ≡ v → (open_said_by (length w) v).number ≡ 0 → ((open_of s).verdict ≡ Ok tt) × (647 ≤ length w)
+      go (Ok _) q e = pick (ltb (length w) 647) refl e
         where
-          pick : (b : Bool) → ltb (length w) 647 ≡ b → (cond b (said 20 0) (said 0 0)).number ≡ 0 → ((open_of s).verdict ≡ Accepted) × (647 ≤ length w)
+          pick : (b : Bool) → ltb (length w) 647 ≡ b → (cond b (said 20 0) (said 0 0)).number ≡ 0 → ((open_of s).verdict ≡ Ok tt) × (647 ≤ length w)
           pick true p e = absurd (omega (arith, e))
           pick false p e = (q, ltb-false (length w) 647 p)
-      go (Refused r) q e = absurd (omega (arith, e, above_zero r))
+      go (Err r) q e = absurd (omega (arith, e, above_zero r))
 
   pub opened_long : 647 ≤ length (open_words s w)
   unfolding open_words
@@ -70,10 +69,10 @@ module _ (s w : List ℕ) (e : (open_said s (length w)).number ≡ 0) where
       let z = opened in
       go (ltb (length w) 647) (open_of s).verdict z
     where
-      go : (b : Bool) (v : Verdict) → ((open_of s).verdict ≡ Accepted) × (647 ≤ length w) → 647 ≤ length (open_words_by w (open_of s).header v)
-      go b Accepted z = pick (ltb (length w) 647)
+      go : (b : Bool) (v : Result ⊤ Refusal) → ((open_of s).verdict ≡ Ok tt) × (647 ≤ length w) → 647 ≤ length (open_words_by w (open_of s).header v)
+      go b (Ok _) z = pick (ltb (length w) 647)
         where
           pick : (b : Bool) → 647 ≤ length (cond b w (sets w 0 (header_words (open_of s).header)))
           pick true = z.1
           pick false = omega (arith, z.1, length-sets w 0 (header_words (open_of s).header))
-      go b (Refused r) z = z.1
+      go b (Err r) z = z.1

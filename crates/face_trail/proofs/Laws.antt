@@ -21,8 +21,6 @@ use Rattle.load_plan.specs.Plans.{data_of}
 use Rattle.load_voice.specs.Voice.{models_of}
 use Rattle.trail_bytes.specs.Numbers.{same_words}
 use Rattle.trail_voice.specs.Voice.{voice_rows, voice_trees}
-use Rattle.trail_voice.specs.declared.VoiceTrees.{VoiceTrees}
-use Rattle.trail_voice.specs.declared.VoiceTrees.TheVariants.{Trees, Refused}
 use Rattle.trail_voice.proofs.Laws.{counted}
 use Rattle.face_open.specs.Answers.{open_said, open_words}
 use Rattle.face_record.specs.declared.Said.{Said}
@@ -31,19 +29,20 @@ use Rattle.trail_last.proofs.Laws.{room_fits}
 use Rattle.face_trail.specs.Answers.{wrote, all_rows, trailer_bytes, written_by, written_of, left_by, written_left, trailer_by, trailer_said, trailer_left, found, rows_stand, rows_found, found_by, found_of, trailed_by, trailed_said}
 use Rattle.face_trail.specs.declared.Written.{Written}
 use Rattle.face_trail.specs.declared.Found.{Found}
+use Rattle.std.specs.Prelude.{Err, Ok, Result}
 
 -- ---- a file that opened
 
 module _ (s : List ℕ) (h : Header) where
-  abbrev all : VoiceTrees
+  abbrev all : Result ℕ Refusal
   all = voice_trees s h (models_of s h) 0
 
-  module _ {z : Refusal} (q : Refused z ≡ voice_trees s h (models_of s h) 0) where
+  module _ {z : Refusal} (q : Err z ≡ voice_trees s h (models_of s h) 0) where
     pub written_refused : (t : List ℕ) → (wrote (number_of z) (place_of z) 0 ≡ written_of s h (length t)) × (t ≡ written_left s h t)
     unfolding written_of written_left
     written_refused t = (ap (written_by (length s) (length t)) q, ap (left_by s h t) q)
 
-  module _ {n : ℕ} (q : Trees n ≡ voice_trees s h (models_of s h) 0) where
+  module _ {n : ℕ} (q : Ok n ≡ voice_trees s h (models_of s h) 0) where
     pub small : 12 * n + 12 ≤ 4000000000
     small = omega (arith, (counted s h q).few)
 
@@ -148,7 +147,7 @@ module _ (s : List ℕ) (h : Header) where
         pub found-sum : b ≡ false → found 27 0 0 0 ≡ found_of s h
         found-sum z = sym (long ∙ ap (λ (a : Bool). cond a (found_by s h (voice_trees s h (models_of s h) 0)) (found 27 0 0 0)) (sym k ∙ z))
 
-        pub found_by_lem : b ≡ true → {v : VoiceTrees} → v ≡ voice_trees s h (models_of s h) 0 → found_by s h v ≡ found_of s h
+        pub found_by_lem : b ≡ true → {v : Result ℕ Refusal} → v ≡ voice_trees s h (models_of s h) 0 → found_by s h v ≡ found_of s h
         found_by_lem z q = ap (found_by s h) q ∙ sym (long ∙ ap (λ (a : Bool). cond a (found_by s h (voice_trees s h (models_of s h) 0)) (found 27 0 0 0)) (sym k ∙ z))
 
 -- ---- by how it opened

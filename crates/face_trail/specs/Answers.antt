@@ -1,5 +1,5 @@
 -- What the calls on a trailer answer in numbers, and what they leave in the buffer (02, Wish 7; host/larsavim.h).
-use Rattle.std.specs.Prelude.{Bool, cond, ◌&&◌, List, [], ◌∷◌, ◌++◌, ℕ, ◌+◌, ◌-◌, ◌*◌, ltb, eqb, length}
+use Rattle.std.specs.Prelude.{Bool, cond, ◌&&◌, List, [], ◌∷◌, ◌++◌, ℕ, ◌+◌, ◌-◌, ◌*◌, ltb, eqb, length, Err, Ok, Result}
 use Rattle.std.proofs.lemmas.List.Edits.{sets}
 use Rattle.written.specs.Blocks.{little_endian}
 use Rattle.written.specs.Trailer.{sum32, unsummed}
@@ -11,13 +11,12 @@ use Rattle.load_plan.specs.Plans.{data_of}
 use Rattle.load_voice.specs.Voice.{models_of}
 use Rattle.trail_bytes.specs.Numbers.{same_words}
 use Rattle.trail_voice.specs.Voice.{voice_rows, voice_trees}
-use Rattle.trail_voice.specs.declared.VoiceTrees.{VoiceTrees}
-use Rattle.trail_voice.specs.declared.VoiceTrees.TheVariants.{Trees, Refused}
 use Rattle.face_open.specs.Answers.{open_said, open_words}
 use Rattle.face_record.specs.declared.Said.{Said}
 use Rattle.trail_last.specs.Last.{has_room, summed_of}
 use Rattle.face_trail.specs.declared.Written.{Written}
 use Rattle.face_trail.specs.declared.Found.{Found}
+use Rattle.error.specs.declared.Refusal.{Refusal}
 
 -- ---- writing
 
@@ -32,17 +31,17 @@ all_rows s h = voice_rows s h (models_of s h)
 unfoldable pub trailer_bytes : List ℕ → Header → ℕ → List ℕ
 trailer_bytes s h n = unsummed s (all_rows s h) n ++ little_endian (sum32 (s ++ unsummed s (all_rows s h) n) ∷ [])
 
-abbrev pub written_by : ℕ → ℕ → VoiceTrees → Written
-written_by file buffer (Trees n) = cond (has_room (12 * n + 12) buffer file) (wrote 0 0 (12 * n + 12)) (wrote 26 0 (12 * n + 12))
-written_by file buffer (Refused z) = wrote (number_of z) (place_of z) 0
+abbrev pub written_by : ℕ → ℕ → Result ℕ Refusal → Written
+written_by file buffer (Ok n) = cond (has_room (12 * n + 12) buffer file) (wrote 0 0 (12 * n + 12)) (wrote 26 0 (12 * n + 12))
+written_by file buffer (Err z) = wrote (number_of z) (place_of z) 0
 
 unfoldable pub written_of : List ℕ → Header → ℕ → Written
 written_of s h buffer = written_by (length s) buffer (voice_trees s h (models_of s h) 0)
 
 -- the buffer after it
-abbrev pub left_by : List ℕ → Header → List ℕ → VoiceTrees → List ℕ
-left_by s h t (Trees n) = cond (has_room (12 * n + 12) (length t) (length s)) (sets t 0 (trailer_bytes s h n)) t
-left_by s h t (Refused z) = t
+abbrev pub left_by : List ℕ → Header → List ℕ → Result ℕ Refusal → List ℕ
+left_by s h t (Ok n) = cond (has_room (12 * n + 12) (length t) (length s)) (sets t 0 (trailer_bytes s h n)) t
+left_by s h t (Err z) = t
 
 unfoldable pub written_left : List ℕ → Header → List ℕ → List ℕ
 written_left s h t = left_by s h t (voice_trees s h (models_of s h) 0)
@@ -71,9 +70,9 @@ rows_stand s h n =
 unfoldable pub rows_found : List ℕ → Header → ℕ → Found
 rows_found s h n = cond (rows_stand s h n) (found 0 0 n (word_at s (length s - 12 + 4))) (found 28 0 0 0)
 
-abbrev pub found_by : List ℕ → Header → VoiceTrees → Found
-found_by s h (Trees n) = rows_found s h n
-found_by s h (Refused z) = found (number_of z) (place_of z) 0 0
+abbrev pub found_by : List ℕ → Header → Result ℕ Refusal → Found
+found_by s h (Ok n) = rows_found s h n
+found_by s h (Err z) = found (number_of z) (place_of z) 0 0
 
 unfoldable pub found_of : List ℕ → Header → Found
 found_of s h =

@@ -2,11 +2,10 @@
 // Both open the file themselves, with the record into the words as `larsavim_open` has it. Any file, any words, any buffer.
 #![tactic(auto)]
 
-ghost use Rattle.std.specs.Prelude.{◌≡◌, ◌+◌, ◌-◌, ◌*◌, ◌≤◌, length};
+ghost use Rattle.std.specs.Prelude.{◌≡◌, ◌+◌, ◌-◌, ◌*◌, ◌≤◌, length, Ok};
 ghost use Rattle.head_words.specs.Words.{header_at};
 ghost use Rattle.load_voice.specs.Voice.{models_of};
 ghost use Rattle.trail_voice.specs.Voice.{voice_trees};
-ghost use Rattle.trail_voice.specs.declared.VoiceTrees.TheVariants.{Trees};
 ghost use Rattle.face_open.specs.Answers.{open_words};
 ghost use Rattle.face_trail.specs.Answers.{written_of, written_left, trailer_said, trailer_left, rows_found, found_of, trailed_said};
 
@@ -14,14 +13,14 @@ use face_open::open_words;
 use load_plan::data_of;
 use pdf_blocks::word;
 use trail_last::{has_room, put_last, summed};
-use trail_voice::{VoiceTrees, count_trees, put_voice, same_voice};
+use trail_voice::{count_trees, put_voice, same_voice};
 
 // The bytes of a row, and of the three numbers at the very end.
 const ROW: usize = 12;
 
 const LAST: usize = 12;
 
-// 01's number, its place, and the bytes of the trailer.
+// 01's number, its place, and the bytes of the trailer. An exported call hands it to C number by number.
 #[repr(C)]
 #[derive(Clone, Copy)]
 pub struct Written {
@@ -30,7 +29,7 @@ pub struct Written {
     pub bytes: u64,
 }
 
-// 01's number, its place, the rows of the trailer, and where they begin.
+// 01's number, its place, the rows of the trailer, and where they begin. An exported call hands it to C number by number.
 #[repr(C)]
 #[derive(Clone, Copy)]
 pub struct Found {
@@ -46,12 +45,12 @@ fn write_opened(file: &[u8], words: &[u64], trailer: &mut [u8]) -> Written
     ensures { (result ≡ written_of file.now (header_at words.now) (length trailer.old)) × (trailer.new ≡ written_left file.now (header_at words.now) trailer.old) }
 {
     match count_trees(file, words) {
-        VoiceTrees::Refused(refusal) => Written {
+        Err(refusal) => Written {
             number: refusal.number(),
             place: refusal.place() as u64,
             bytes: 0,
         },
-        VoiceTrees::Trees(n) => {
+        Ok(n) => {
             let bytes = ROW * n + LAST;
             if has_room(bytes, trailer.len(), file.len()) {
                 put_voice(file, words, trailer);
@@ -100,7 +99,7 @@ fn not_found(number: u64, place: u64) -> Found
 // Whether the rows of a voice of n trees end where the last three numbers begin, and are the text's.
 fn find_rows(file: &[u8], words: &[u64], n: usize) -> Found
     requires in_bounds { (647 ≤ length words.now) × (12 ≤ length file.now) }
-    requires n_value { Trees n ≡ voice_trees file.now (header_at words.now) (models_of file.now (header_at words.now)) 0 }
+    requires n_value { Ok n ≡ voice_trees file.now (header_at words.now) (models_of file.now (header_at words.now)) 0 }
     ensures { result ≡ rows_found file.now (header_at words.now) n }
 {
     let end = file.len() - LAST;
@@ -134,8 +133,8 @@ fn find_opened(file: &[u8], words: &[u64]) -> Found
         return not_found(27, 0);
     }
     match count_trees(file, words) {
-        VoiceTrees::Refused(refusal) => not_found(refusal.number(), refusal.place() as u64),
-        VoiceTrees::Trees(n) => find_rows(file, words, n),
+        Err(refusal) => not_found(refusal.number(), refusal.place() as u64),
+        Ok(n) => find_rows(file, words, n),
     }
 }
 

@@ -7,7 +7,6 @@ use Rattle.head_words.specs.Words.{header_at}
 use Rattle.written.specs.Sharing.{Side, Held, holds}
 use Rattle.load_choose.specs.declared.Which.{Which}
 use Rattle.load_model.specs.Load.{Tables}
-use Rattle.load_model.specs.declared.Loaded.{Loaded}
 use Rattle.load_shared.specs.Beside.{rows_of}
 use Rattle.trail_load.specs.Load.{tree_beside, LoadsTree}
 use Rattle.face_record.specs.Answers.{judged_of}
@@ -17,9 +16,12 @@ use Rattle.face_model.specs.Answers.{which_of, no_rows, rows_by}
 use Rattle.face_load.specs.Answers.{Filled, filled_by, untouched}
 use Rattle.face_shared.specs.Answers.{side_at, standing}
 use Rattle.face_tree.specs.Answers.{tree_filled_of, TreeLoadSaid, tree_shared_of, TreeSaid}
+use Rattle.load_model.specs.declared.Loaded.{Loaded}
+use Rattle.error.specs.declared.Refusal.{Refusal}
+use Rattle.std.specs.Prelude.{Result}
 
 module _ (s u : List ℕ) (n t : ℕ) (x : Side) (other : Held) (T : Tables) {j : ℕ} (e : j ≡ judged_of u) where
-  pub load_fit : {k : Which} {l : Loaded} {r : Rows} {T₁ : Tables} → j ≡ 0 → k ≡ which_of n → LoadsTree x s (header_at u) k n t other T l T₁ → r ≡ rows_by l → TreeLoadSaid s u n t x other T r T₁
+  pub load_fit : {k : Which} {l : Result Loaded Refusal} {r : Rows} {T₁ : Tables} → j ≡ 0 → k ≡ which_of n → LoadsTree x s (header_at u) k n t other T l T₁ → r ≡ rows_by l → TreeLoadSaid s u n t x other T r T₁
   unfolding tree_filled_of
   load_fit {k} z g i y =
       let E : filled_by (tree_beside x s (header_at u) k n t other T) ≡ tree_filled_of s u n t x other T =

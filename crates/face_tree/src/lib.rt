@@ -14,7 +14,6 @@ use face_model::{Rows, which_of};
 use face_record::judged;
 use face_shared::{bounds, standing};
 use load_bounds::{Held, holding};
-use load_model::Loaded;
 use trail_load::load_tree;
 
 const TOP: u64 = 1;
@@ -80,7 +79,7 @@ pub fn tree_said(
     let mine = bounds(held);
     let theirs = bounds(other);
     if holding(mine) {
-        return rows_of(Loaded::Refused(Refusal::Held));
+        return rows_of(Err(Refusal::Held));
     }
     if !standing(
         side,
@@ -92,7 +91,7 @@ pub fn tree_said(
         records.len(),
         values.len(),
     ) {
-        return rows_of(Loaded::Refused(Refusal::WalkTable));
+        return rows_of(Err(Refusal::WalkTable));
     }
     tree_load_said(
         file,

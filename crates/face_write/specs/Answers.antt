@@ -1,10 +1,10 @@
 -- What the writer answers in numbers (host/larsavim.h), and the buffer after it.
-use Rattle.std.specs.Prelude.{◌≡◌, List, ℕ, length}
-use Rattle.write_tables.specs.declared.Answer.{Answer}
+use Rattle.std.specs.Prelude.{◌≡◌, List, ℕ, length, Result}
 use Rattle.write_tables.specs.Answers.{judged_of, bytes_of, measure_of, answer_of, buffer_of, number_of, length_of}
 use Rattle.face_write.specs.declared.Wrote.{Wrote}
+use Rattle.write_tables.specs.declared.WriteFault.{WriteFault}
 
-abbrev pub wrote_by : Answer → Wrote
+abbrev pub wrote_by : Result ℕ WriteFault → Wrote
 wrote_by a = record { number = number_of a; len = length_of a }
 
 unfoldable pub length_said : List ℕ → List ℕ → List ℕ → List ℕ → List ℕ → Wrote

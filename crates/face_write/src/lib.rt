@@ -2,30 +2,43 @@
 // Any data, any tables, any buffer.
 #![tactic(auto)]
 
-ghost use Rattle.std.specs.Prelude.{◌≡◌};
+ghost use Rattle.std.specs.Prelude.{◌≡◌, Err};
+ghost use Rattle.write_tables.specs.Answers.{number_of};
 ghost use Rattle.face_write.specs.Answers.{wrote_by, length_said, WriteSaid};
 
-use write_tables::{Answer, measure, write_tables};
+use write_tables::{WriteFault, measure, write_tables};
 
-// 0 and the length, or why nothing is written and 0.
+// 0 and the length, or why nothing is written and 0. An exported call hands it to C number by number.
 #[derive(Clone, Copy)]
 pub struct Wrote {
     pub number: u64,
     pub len: u64,
 }
 
-fn wrote_of(answer: Answer) -> Wrote
+// The number of what keeps a text from being written.
+fn number_of(why: WriteFault) -> u64
+    ensures { result ≡ number_of (Err why) }
+{
+    match why {
+        WriteFault::Outside => 24,
+        WriteFault::OddByte => 22,
+        WriteFault::Unread => 17,
+        WriteFault::Room => 20,
+    }
+}
+
+fn wrote_of(answer: Result<usize, WriteFault>) -> Wrote
     ensures { result ≡ wrote_by answer }
 {
     match answer {
-        Answer::Done(n) => Wrote {
+        Ok(n) => Wrote {
             number: 0,
             len: n as u64,
         },
-        Answer::Outside => Wrote { number: 24, len: 0 },
-        Answer::OddByte => Wrote { number: 22, len: 0 },
-        Answer::Unread => Wrote { number: 17, len: 0 },
-        Answer::Room => Wrote { number: 20, len: 0 },
+        Err(why) => Wrote {
+            number: number_of(why),
+            len: 0,
+        },
     }
 }
 

@@ -7,6 +7,7 @@ use native.Mathlib.Omega.{arith}
 use borrow.Author.Tests.{eqb-true, leb-false, le-leb, lt-leb}
 use lib.Dec.{eqb, leb}
 use lib.ListN.{length, get_or}
+use Rattle.std.specs.Prelude.{Option, Some, None, Result, Ok, Err}
 use Rattle.written.specs.Bytes.{newline, colon, bracket, unbracket, none_of, same, byte_at, part}
 use Rattle.laws.specs.Runs.{stop}
 use Rattle.laws.proofs.Runs.{stop_from, byte_in}
@@ -14,29 +15,29 @@ use Rattle.error.specs.declared.Refusal.{Refusal}
 use Rattle.head_record.specs.Empty.{no_span}
 use Rattle.text_parts.specs.declared.Span.{Span}
 use Rattle.head_de.specs.declared.Cursor.{Cursor}
-use Rattle.head_lines.specs.declared.Key.{Key}
-use Rattle.head_lines.specs.declared.Key.TheVariants as key
+use Rattle.head_de.specs.declared.Read.{Read}
 use Rattle.head_lines.specs.Lines.{key_at}
 use Rattle.head_lines.proofs.Moves.{no, key_moves}
-use Rattle.head_brackets.specs.Rows.{split_at, split_of, split_row, key_row, row_of, row_at, onward_row, rows_from, rows_at, Going, on, stop_with, over_next, over, last_next, last_of, known_from}
+use Rattle.head_brackets.specs.Rows.{bracketed, split_at, split_of, split_row, key_row, row_of, row_at, onward_row, rows_from, rows_at, Going, on, stop_with, over_next, over, last_next, last_of, known_from}
 use Rattle.text_parts.specs.Parts.{bytes_of}
-use Rattle.head_brackets.specs.declared.Split.{Split}
-use Rattle.head_brackets.specs.declared.Split.TheVariants as split
+use Rattle.head_brackets.specs.declared.Brackets.{Brackets}
 use Rattle.head_brackets.specs.declared.Row.{Row}
 use Rattle.head_brackets.specs.declared.RowAt.{RowAt}
 use Rattle.head_brackets.specs.declared.RowAt.TheVariants as found
 
 -- ---- a key
 
-pub split_whole : (w : List ℕ) {b n : ℕ} → split_of w ≡ split.Bracketed b n → b + n + 2 ≡ length w
+pub split_whole : (w : List ℕ) {k : Brackets} → split_of w ≡ Some k → k.field + k.name + 2 ≡ length w
 unfolding split_of
-split_whole w {b} {n} e = go (eqb (byte_at w (length w - 1)) unbracket) (stop (none_of (bracket ∷ [])) w 0) e
+split_whole w {k = x} e = go (eqb (byte_at w (length w - 1)) unbracket) (stop (none_of (bracket ∷ [])) w 0) e
   where
-    at : (k : ℕ) (t : Bool) → leb (length w) (k + 1) ≡ t → cond t split.Plain (split.Bracketed k (length w - k - 2)) ≡ split.Bracketed b n → b + n + 2 ≡ length w
+    at : (k : ℕ) (t : Bool) → leb (length w) (k + 1) ≡ t → cond t None (bracketed k (length w - k - 2)) ≡ Some x → x.field + x.name + 2 ≡ length w
     at k true f g = no cc
-    at k false f g = let p : k ≡ b = cc in let q : length w - k - 2 ≡ n = cc in omega (arith, leb-false (length w) (k + 1) f)
+    at k false f g =
+        let h : ◌≡◌ {A = Brackets} (record { field = k; name = length w - k - 2 }) x = cc in
+        omega (arith, leb-false (length w) (k + 1) f, ap (λ (z : Brackets). z.field) h, ap (λ (z : Brackets). z.name) h)
 
-    go : (t : Bool) (k : ℕ) → cond t (split_at (length w) k) split.Plain ≡ split.Bracketed b n → b + n + 2 ≡ length w
+    go : (t : Bool) (k : ℕ) → cond t (split_at (length w) k) None ≡ Some x → x.field + x.name + 2 ≡ length w
     go true k g = at k (leb (length w) (k + 1)) refl g
     go false k g = no cc
 
@@ -52,9 +53,9 @@ pub record Onward (s : List ℕ) (i j : ℕ) : Type 0 where
   pub inside : i < length s
   pub on : i < j
 
-split_end : (a v e : ℕ) (x : Split) (i : ℕ) → row_end i (split_row a v e x) ≡ e
-split_end a v e (split.Bracketed b n) i = refl
-split_end a v e split.Plain i = refl
+split_end : (a v e : ℕ) (x : Option Brackets) (i : ℕ) → row_end i (split_row a v e x) ≡ e
+split_end a v e (Some k) i = refl
+split_end a v e None i = refl
 
 -- what is not the end ends where the value does
 row_on : (s : List ℕ) (i : ℕ) (x : RowAt) → row_at s i ≡ x → (x ≡ found.End → ⊥) → Onward s i (row_end i x)
@@ -69,10 +70,10 @@ row_on s i x e f = go (key_at s i) refl e
         record { inside = omega arith; on = omega (arith, d, stop_from (none_of (newline ∷ [])) s (k + 1)) }
     at a n k h false g q = absurd (f (sym q))
 
-    go : (d : Key) → key_at s i ≡ d → row_of s d ≡ x → Onward s i (row_end i x)
-    go (key.Read a n c) g q = at a n c.at (key_moves s i g) (eqb (byte_at s c.at) colon) refl q
-    go key.End g q = absurd (f (sym q))
-    go (key.Refused r) g q = absurd (f (sym q))
+    go : (d : Result (Option (Read Span)) Refusal) → key_at s i ≡ d → row_of s d ≡ x → Onward s i (row_end i x)
+    go (Ok (Some y)) g q = at y.value.start y.value.len y.next.at (key_moves s i g) (eqb (byte_at s y.next.at) colon) refl q
+    go (Ok None) g q = absurd (f (sym q))
+    go (Err r) g q = absurd (f (sym q))
 
 -- what is left of the rows
 pub record Left (s : List ℕ) (at : ℕ) (rows : List Row) : Type 0 where

@@ -1,5 +1,5 @@
 -- What going through the lines of groups answers.
-use Rattle.std.specs.Prelude.{Bool, true, false, cond, List, [], ◌∷◌, ℕ, zero, suc, ◌+◌, ◌-◌, eqb, ltb, leb, length, get_or, set, take, replicate}
+use Rattle.std.specs.Prelude.{Bool, true, false, cond, List, [], ◌∷◌, ℕ, zero, suc, ◌+◌, ◌-◌, eqb, ltb, leb, length, get_or, set, take, replicate, Option, Some, None, Result, Ok, Err}
 use Rattle.written.specs.Bytes.{newline, colon, bracket, unbracket, none_of, same, byte_at, part}
 use Rattle.written.specs.HeaderText.{Field, kind_of}
 use Rattle.laws.specs.Runs.{stop}
@@ -9,11 +9,9 @@ use Rattle.text_parts.specs.declared.Span.{Span}
 use Rattle.text_parts.specs.Parts.{bytes_of}
 use Rattle.head_de.specs.Values.{cursor}
 use Rattle.head_de_values.specs.Values.{read_at}
-use Rattle.head_lines.specs.declared.Key.{Key}
-use Rattle.head_lines.specs.declared.Key.TheVariants as key
+use Rattle.head_de.specs.declared.Read.{Read}
 use Rattle.head_lines.specs.Lines.{key_at, Next, keyed_at}
-use Rattle.head_brackets.specs.declared.Split.{Split}
-use Rattle.head_brackets.specs.declared.Split.TheVariants as split
+use Rattle.head_brackets.specs.declared.Brackets.{Brackets}
 use Rattle.head_brackets.specs.declared.Row.{Row}
 use Rattle.head_brackets.specs.declared.RowAt.{RowAt}
 use Rattle.head_brackets.specs.declared.RowAt.TheVariants as found
@@ -21,27 +19,31 @@ use Rattle.head_brackets.specs.declared.Names.{Names}
 
 -- ---- a key
 
--- a key of n bytes whose first bracket stands at b
-abbrev pub split_at : ℕ → ℕ → Split
-split_at n b = cond (leb n (b + 1)) split.Plain (split.Bracketed b (n - b - 2))
+-- a field's name of b bytes, and a group's of n in brackets
+abbrev pub bracketed : ℕ → ℕ → Option Brackets
+bracketed b n = Some (record { field = b; name = n })
 
-unfoldable pub split_of : List ℕ → Split
-split_of w = cond (eqb (byte_at w (length w - 1)) unbracket) (split_at (length w) (stop (none_of (bracket ∷ [])) w 0)) split.Plain
+-- a key of n bytes whose first bracket stands at b
+abbrev pub split_at : ℕ → ℕ → Option Brackets
+split_at n b = cond (leb n (b + 1)) None (bracketed b (n - b - 2))
+
+unfoldable pub split_of : List ℕ → Option Brackets
+split_of w = cond (eqb (byte_at w (length w - 1)) unbracket) (split_at (length w) (stop (none_of (bracket ∷ [])) w 0)) None
 
 -- ---- a line
 
 -- the line with a key of n bytes from a on, and a value from v up to e
-abbrev pub split_row : ℕ → ℕ → ℕ → Split → RowAt
-split_row a v e (split.Bracketed b n) = found.Found (record { field = span a b; name = span (a + b + 1) n; value = v; end = e })
-split_row a v e split.Plain = found.Other (cursor e)
+abbrev pub split_row : ℕ → ℕ → ℕ → Option Brackets → RowAt
+split_row a v e (Some k) = found.Found (record { field = span a k.field; name = span (a + k.field + 1) k.name; value = v; end = e })
+split_row a v e None = found.Other (cursor e)
 
 unfoldable pub key_row : List ℕ → ℕ → ℕ → ℕ → RowAt
 key_row s a n k = cond (eqb (byte_at s k) colon) (split_row a (k + 1) (stop (none_of (newline ∷ [])) s (k + 1)) (split_of (part s a n))) found.End
 
-abbrev pub row_of : List ℕ → Key → RowAt
-row_of s (key.Read a n c) = key_row s a n c.at
-row_of s key.End = found.End
-row_of s (key.Refused r) = found.End
+abbrev pub row_of : List ℕ → Result (Option (Read Span)) Refusal → RowAt
+row_of s (Ok (Some x)) = key_row s x.value.start x.value.len x.next.at
+row_of s (Ok None) = found.End
+row_of s (Err r) = found.End
 
 unfoldable pub row_at : List ℕ → ℕ → RowAt
 row_at s i = row_of s (key_at s i)

@@ -4,23 +4,22 @@
 
 ghost use Rattle.std.specs.Prelude.{◌≡◌, ◌+◌};
 ghost use Rattle.head_fields.specs.Fields.{fields_of};
-ghost use Rattle.head_lines.specs.Lines.{line_in};
-ghost use Rattle.head_brackets.specs.Rows.{split_of, row_at, row_line_at};
+ghost use Rattle.head_lines.specs.Lines.{some_of, line_in};
+ghost use Rattle.head_brackets.specs.Rows.{split_of, key_row, row_at, row_line_at};
 
 use error::Refusal;
-use head_de::{Cursor, Delimiters};
-use head_de_lists::Outcome;
-use head_de_values::{Around, blank, read};
+use head_de::{Cursor, Delimiters, Read};
+use head_de_values::{Around, read};
 use head_fields::{Table, field_of, kind_of};
-use head_lines::{Key, Line, Step, next_key, stood};
+use head_lines::{Line, next_key, stood};
 use text_base::byte_at;
 use text_parts::{Span, part_of, up_to};
 
 // A key that names a group: the lengths of the field's name before the bracket and of the group's name inside.
 #[derive(Clone, Copy)]
-pub enum Split {
-    Bracketed { field: usize, name: usize },
-    Plain,
+pub struct Brackets {
+    pub field: usize,
+    pub name: usize,
 }
 
 // A line of a group: where the field's and the group's names stand, and its value's start and end.
@@ -32,6 +31,7 @@ pub struct Row {
     pub end: usize,
 }
 
+// The next line. No Option: a line of no group still says where the one behind it starts.
 #[derive(Clone, Copy)]
 pub enum RowAt {
     Found(Row),
@@ -40,7 +40,8 @@ pub enum RowAt {
     End,
 }
 
-// The names of the groups found, as contracts speak of them: the first 8 of them; 9 counts for more.
+// The names of the groups found, as contracts speak of them: the first 8 of them; 9 counts for more, so it is no `Spans` of `head_de_lists`, which counts
+// them all.
 #[derive(Clone, Copy)]
 pub struct Names {
     pub items: [Span; 8],
@@ -48,92 +49,90 @@ pub struct Names {
 }
 
 // A key ending in `]` with a `[` names the group between its first `[` and its last `]`.
-pub fn split_key(key: &[u8]) -> Split
+pub fn split_key(key: &[u8]) -> Option<Brackets>
     ensures { result ≡ split_of key.now }
 {
     let n = key.len();
     if n == 0 {
-        return Split::Plain;
+        return None;
     }
     if byte_at(key, n - 1) != 93 {
-        return Split::Plain;
+        return None;
     }
     let first = Cursor { at: 0 };
     let bracket = first.until(key, Delimiters::Bracket);
     let field = bracket.at;
     if n <= field + 1 {
-        return Split::Plain;
+        return None;
     }
-    Split::Bracketed {
+    Some(Brackets {
         field,
         name: n - field - 2,
+    })
+}
+
+// The line behind a key.
+fn row_behind(key: Read<Span>, s: &[u8]) -> RowAt
+    ensures { result ≡ key_row s.now key.value.start key.value.len key.next.at }
+{
+    let colon = key.next.at;
+    if byte_at(s, colon) != 58 {
+        return RowAt::End;
+    }
+    let value = colon + 1;
+    let behind = Cursor { at: value };
+    let end = behind.until(s, Delimiters::Newline);
+    let start = key.value.start;
+    match split_key(part_of(s, start, key.value.len)) {
+        Some(split) => {
+            let row = Row {
+                field: Span {
+                    start,
+                    len: split.field,
+                },
+                name: Span {
+                    start: start + split.field + 1,
+                    len: split.name,
+                },
+                value,
+                end: end.at,
+            };
+            RowAt::Found(row)
+        }
+        None => RowAt::Other(end),
     }
 }
 
 // The next line, as a line of a group if it is one.
+#[tactic(auto, unfolding(crate::specs::Rows::row_at))]
 pub fn row_at(c: Cursor, s: &[u8]) -> RowAt
     ensures { result ≡ row_at s.now c.at }
 {
     match next_key(c, s) {
-        Key::End => RowAt::End,
-        Key::Refused(_) => RowAt::End,
-        Key::Read { start, len, next } => {
-            let colon = next.at;
-            if byte_at(s, colon) != 58 {
-                return RowAt::End;
-            }
-            let value = colon + 1;
-            let behind = Cursor { at: value };
-            let end = behind.until(s, Delimiters::Newline);
-            match split_key(part_of(s, start, len)) {
-                Split::Bracketed { field, name } => {
-                    let row = Row {
-                        field: Span { start, len: field },
-                        name: Span {
-                            start: start + field + 1,
-                            len: name,
-                        },
-                        value,
-                        end: end.at,
-                    };
-                    RowAt::Found(row)
-                }
-                Split::Plain => RowAt::Other(end),
-            }
-        }
+        Ok(Some(key)) => row_behind(key, s),
+        Ok(None) => RowAt::End,
+        Err(_) => RowAt::End,
     }
 }
 
 // A row's value, read alone; what follows a complete value is ignored. A field that repeats is refused.
-pub fn row_line(s: &[u8], row: Row, table: Table, seen: [bool; 10]) -> Line
-    ensures { result ≡ line_in (fields_of table) (row_line_at (fields_of table) seen s.now row) }
+pub fn row_line(s: &[u8], row: Row, table: Table, seen: [bool; 10]) -> Result<Line, Refusal>
+    ensures { some_of result ≡ line_in (fields_of table) (row_line_at (fields_of table) seen s.now row) }
 {
     let name = row.field;
     let field = field_of(table, part_of(s, name.start, name.len));
     if stood(seen, field) {
-        return Line {
-            step: Step::Refused(Refusal::Field),
-            field: 0,
-            value: blank(Outcome::Refused(Refusal::Field)),
-        };
+        return Err(Refusal::Field);
     }
-    let value = read(
+    let found = read(
         Cursor { at: row.value },
         up_to(s, row.end),
         kind_of(table, field),
         Around::Alone,
-    );
-    let outcome = value.outcome;
-    match outcome {
-        Outcome::Read(after) => Line {
-            step: Step::Read(after),
-            field,
-            value,
-        },
-        Outcome::Refused(refusal) => Line {
-            step: Step::Refused(refusal),
-            field: 0,
-            value,
-        },
-    }
+    )?;
+    Ok(Line {
+        field,
+        value: found.value,
+        next: found.next,
+    })
 }

@@ -8,21 +8,22 @@ use native.Mathlib.Decide.{dec_lt}
 use borrow.Author.Tests.{eqb-false}
 use lib.Dec.{eqb, ltb}
 use lib.ListN.{length, drop}
+use Rattle.text_parts.specs.declared.Read.{Read as Found}
+use Rattle.text_numbers.specs.declared.NumberError.TheVariants as fault
+use Rattle.text_numbers.specs.declared.NumberError.{NumberError}
+use Rattle.text_parts.specs.Parts.{read_to}
+use Rattle.std.specs.Prelude.{Result, Ok, Err}
 use Rattle.written.specs.Bytes.{quote, dash, digit, one_of, none_of, byte_at, decimal}
 use Rattle.laws.specs.Runs.{run, stop}
 use Rattle.laws.proofs.Runs.{stop_from, byte_out}
+use Rattle.head_record.specs.Empty.{span}
 use Rattle.text_numbers.specs.Answers.{unsigned_of, unsigned_from, unsigned_at}
-use Rattle.text_numbers.specs.declared.Unsigned.{Unsigned}
-use Rattle.text_numbers.specs.declared.Unsigned.TheVariants as unsigned
-use Rattle.head_de.specs.Values.{cursor, text_at, number_of, number_at, flag_at, delimiter_at, element_of, element_at, second_of, first_of, pair_at}
-use Rattle.head_de.specs.Readings.{Reading, read, refused, of_text, of_number, of_flag, of_pair}
+use Rattle.head_de.specs.Values.{cursor, got, text_at, number_of, number_at, flag_at, delimiter_at, element_of, element_at, second_of, first_of, pair_at}
+use Rattle.head_de.specs.Readings.{Reading, read, refused, of_text, of_plain, of_pair}
 use Rattle.error.specs.declared.Refusal.{Refusal}
 use Rattle.error.specs.declared.Refusal.TheVariants as refusal
 use Rattle.head_de.specs.declared.Cursor.{Cursor}
-use Rattle.head_de.specs.declared.Text.TheVariants as text
-use Rattle.head_de.specs.declared.Flag.TheVariants as flag
-use Rattle.head_de.specs.declared.Number.{Number}
-use Rattle.head_de.specs.declared.Number.TheVariants as number
+use Rattle.head_de.specs.declared.Read.{Read}
 use Rattle.head_de.specs.declared.Delimiter.{Delimiter}
 use Rattle.head_de.specs.declared.Delimiter.TheVariants as delimiter
 
@@ -45,7 +46,7 @@ inside s i e = elim (dec_lt i (length s)) [ yes l ↦ l | no n ↦ absurd (e (by
 -- ---- strings
 
 text_to : (r : Refusal) (i e n : ℕ) (t u : Bool) → i + 1 ≤ e → i ≤ n
-    → i ≤ behind i (of_text (cond t (cond u (text.Read (i + 1) (e - (i + 1)) (cursor (e + 1))) (text.Refused r)) (text.Read i (n - i) (cursor n))))
+    → i ≤ behind i (of_text (cond t (cond u (got (span (i + 1) (e - (i + 1))) (e + 1)) (Err r)) (got (span i (n - i)) n)))
 text_to r i e n true true p q = omega arith
 text_to r i e n true false p q = omega arith
 text_to r i e n false u p q = q
@@ -58,42 +59,42 @@ text_moves D s i =
 
 -- ---- numbers and bools
 
-abbrev unsigned_end : ℕ → Unsigned → ℕ
-unsigned_end i (unsigned.Number n e) = e
-unsigned_end i unsigned.TooLarge = i
-unsigned_end i unsigned.NoDigit = i
+abbrev unsigned_end : ℕ → Result (Found ℕ) NumberError → ℕ
+unsigned_end i (Ok r) = r.next
+unsigned_end i (Err fault.TooLarge) = i
+unsigned_end i (Err fault.NoDigit) = i
 
 unsigned_moves : (s : List ℕ) (i : ℕ) → i ≤ unsigned_end i (unsigned_at s i)
 unfolding unsigned_at unsigned_from unsigned_of
 unsigned_moves s i = go (digit (byte_at s i)) (ltb (decimal 0 (run digit (drop i s))) (2 ^ 64)) (decimal 0 (run digit (drop i s))) (stop digit s i) (stop_from digit s i)
   where
-    go : (t u : Bool) (n e : ℕ) → i ≤ e → i ≤ unsigned_end i (cond t (cond u (unsigned.Number n e) unsigned.TooLarge) unsigned.NoDigit)
+    go : (t u : Bool) (n e : ℕ) → i ≤ e → i ≤ unsigned_end i (cond t (cond u (Ok (read_to n e)) (Err fault.TooLarge)) (Err fault.NoDigit))
     go true true n e h = h
     go true false n e h = omega arith
     go false u n e h = omega arith
 
-number_of_lem : (s : List ℕ) (k i : ℕ) (u : Unsigned) → k ≤ i → i ≤ unsigned_end i u → k ≤ behind k (of_number (number_of s i u))
-number_of_lem s k i (unsigned.Number n e) l h = omega arith
-number_of_lem s k i unsigned.TooLarge l h = omega arith
-number_of_lem s k i unsigned.NoDigit l h = go (eqb (byte_at s i) 256)
+number_of_lem : (s : List ℕ) (k i : ℕ) (u : Result (Found ℕ) NumberError) → k ≤ i → i ≤ unsigned_end i u → k ≤ behind k (of_plain (number_of s i u))
+number_of_lem s k i (Ok r) l h = omega arith
+number_of_lem s k i (Err fault.TooLarge) l h = omega arith
+number_of_lem s k i (Err fault.NoDigit) l h = go (eqb (byte_at s i) 256)
   where
-    go : (t : Bool) → k ≤ behind k (of_number (cond t (number.Refused (refusal.Eof (length s))) (number.Refused (refusal.ExpectedInteger i))))
+    go : (t : Bool) → k ≤ behind k (of_plain {A = ℕ} (cond t (Err (refusal.Eof (length s))) (Err (refusal.ExpectedInteger i))))
     go true = omega arith
     go false = omega arith
 
 -- seen from a place before it, too
-pub number_from : (s : List ℕ) (k i : ℕ) → k ≤ i → Onward k (of_number (number_at s i))
+pub number_from : (s : List ℕ) (k i : ℕ) → k ≤ i → Onward k (of_plain (number_at s i))
 unfolding number_at
 number_from s k i l = record { moves = number_of_lem s k i (unsigned_at s i) l (unsigned_moves s i) }
 
-pub number_moves : (s : List ℕ) (i : ℕ) → Onward i (of_number (number_at s i))
+pub number_moves : (s : List ℕ) (i : ℕ) → Onward i (of_plain (number_at s i))
 number_moves s i = number_from s i i (omega arith)
 
-pub flag_moves : (s : List ℕ) (i : ℕ) → Onward i (of_flag (flag_at s i))
+pub flag_moves : (s : List ℕ) (i : ℕ) → Onward i (of_plain (flag_at s i))
 unfolding flag_at
 flag_moves s i = record { moves = go (eqb (byte_at s i) 256) (eqb (byte_at s i) 48) (eqb (byte_at s i) 49) }
   where
-    go : (t u v : Bool) → i ≤ behind i (of_flag (cond t (flag.Refused (refusal.Eof (length s))) (cond u (flag.Read false (cursor (i + 1))) (cond v (flag.Read true (cursor (i + 1))) (flag.Refused (refusal.ExpectedBool i))))))
+    go : (t u v : Bool) → i ≤ behind i (of_plain (cond t (Err (refusal.Eof (length s))) (cond u (got false (i + 1)) (cond v (got true (i + 1)) (Err (refusal.ExpectedBool i))))))
     go true u v = omega arith
     go false true v = omega arith
     go false false true = omega arith
@@ -118,15 +119,15 @@ delimiter_moves a D s i {d} h = go (eqb (byte_at s i) 256) refl (eqb (byte_at s 
     go false e false true g = let z : ◌≡◌ {A = ℕ} 0 1 = cc in absurd (omega arith)
     go false e false false g = let z : ◌≡◌ {A = ℕ} 0 1 = cc in absurd (omega arith)
 
-element_from : (D : List ℕ) (first : Bool) (s : List ℕ) (k i : ℕ) → k ≤ i → k ≤ behind k (of_number (element_at D first s i))
+element_from : (D : List ℕ) (first : Bool) (s : List ℕ) (k i : ℕ) → k ≤ i → k ≤ behind k (of_plain (element_at D first s i))
 unfolding element_at
 element_from D first s k i l = go (delimiter_at dash D s i) refl
   where
-    bare : (t : Bool) → k ≤ behind k (of_number (cond t (number_at s i) (number.Refused (refusal.ExpectedArrayComma i))))
+    bare : (t : Bool) → k ≤ behind k (of_plain (cond t (number_at s i) (Err (refusal.ExpectedArrayComma i))))
     bare true = (number_from s k i l).moves
     bare false = omega arith
 
-    go : (d : Delimiter) → delimiter_at dash D s i ≡ d → k ≤ behind k (of_number (element_of first s i d))
+    go : (d : Delimiter) → delimiter_at dash D s i ≡ d → k ≤ behind k (of_plain (element_of first s i d))
     go (delimiter.Passed c) e = let h = delimiter_moves dash D s i e in (number_from s k c.at (omega (arith, h.1))).moves
     go delimiter.Closed e = omega arith
     go delimiter.Missing e = bare first
@@ -135,10 +136,10 @@ pub pair_moves : (D s : List ℕ) (i : ℕ) → Onward i (of_pair (pair_at D s i
 unfolding pair_at
 pair_moves D s i = record { moves = first (element_at D true s i) (element_from D true s i i (omega arith)) }
   where
-    second : (a : ℕ) (x : Number) → i ≤ behind i (of_number x) → i ≤ behind i (of_pair (second_of a x))
-    second a (number.Read b c) h = h
-    second a (number.Refused r) h = omega arith
+    second : (a : ℕ) (x : Result (Read ℕ) Refusal) → i ≤ behind i (of_plain x) → i ≤ behind i (of_pair (second_of a x))
+    second a (Ok y) h = h
+    second a (Err r) h = omega arith
 
-    first : (x : Number) → i ≤ behind i (of_number x) → i ≤ behind i (of_pair (first_of D s x))
-    first (number.Read a c) h = second a (element_at D false s c.at) (element_from D false s i c.at h)
-    first (number.Refused r) h = omega arith
+    first : (x : Result (Read ℕ) Refusal) → i ≤ behind i (of_plain x) → i ≤ behind i (of_pair (first_of D s x))
+    first (Ok y) h = second y.value (element_at D false s y.next.at) (element_from D false s i y.next.at h)
+    first (Err r) h = omega arith

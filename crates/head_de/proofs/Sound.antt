@@ -9,6 +9,9 @@ use native.Mathlib.Decide.{dec_lt}
 use borrow.Author.Tests.{eqb-true, eqb-false, ltb-true, ltb-false}
 use lib.Dec.{eqb, ltb}
 use lib.ListN.{length, get_or, drop}
+use Rattle.text_numbers.specs.declared.NumberError.TheVariants as fault
+use Rattle.text_parts.specs.Parts.{read_to}
+use Rattle.std.specs.Prelude.{Result, Ok, Err}
 use Rattle.written.specs.Bytes.{quote, dash, digit, one_of, none_of, byte_at, At, Ends, over, met, part, between, decimal}
 use Rattle.written.specs.HeaderText.{Text, Number, Flag, Led, swallowed, plain, Pair}
 use Rattle.written.specs.HeaderText as says
@@ -21,14 +24,11 @@ use Rattle.laws.proofs.Cursor.{stop_each, bare_string, close, quoted_string, ope
 use Rattle.error.specs.Numbers as error
 use Rattle.error.specs.declared.Refusal.{Refusal}
 use Rattle.error.specs.declared.Refusal.TheVariants as refusal
+use Rattle.head_record.specs.Empty.{span}
 use Rattle.text_numbers.specs.Answers.{unsigned_of, unsigned_from, unsigned_at}
-use Rattle.text_numbers.specs.declared.Unsigned.TheVariants as unsigned
-use Rattle.head_de.specs.Values.{cursor, ends_at, text_at, number_of, number_at, flag_at, delimiter_at, element_of, element_at, second_of, first_of, pair_at}
-use Rattle.head_de.specs.Readings.{Reading, read, refused, of_text, of_number, of_flag, of_pair}
-use Rattle.head_de.specs.declared.Text.TheVariants as text
-use Rattle.head_de.specs.declared.Number as deNumber
-use Rattle.head_de.specs.declared.Number.TheVariants as number
-use Rattle.head_de.specs.declared.Flag.TheVariants as flag
+use Rattle.head_de.specs.Values.{cursor, got, ends_at, text_at, number_of, number_at, flag_at, delimiter_at, element_of, element_at, second_of, first_of, pair_at}
+use Rattle.head_de.specs.Readings.{Reading, read, refused, of_text, of_plain, of_pair}
+use Rattle.head_de.specs.declared.Read.{Read}
 use Rattle.head_de.specs.declared.Delimiter.{Delimiter}
 use Rattle.head_de.specs.declared.Delimiter.TheVariants as delimiter
 use Rattle.head_de.proofs.Moves.{inside}
@@ -109,7 +109,7 @@ unfolding text_at
 text_sound D s i h = go (eqb (byte_at s i) quote) refl
   where
     shut : At s i quote → (t : Bool) → ltb (close s i) (length s) ≡ t
-        → Answers s i (Text D s i) (NoText s i) (of_text (cond t (text.Read (i + 1) (close s i - (i + 1)) (cursor (close s i + 1))) (text.Refused (refusal.Eof (length s)))))
+        → Answers s i (Text D s i) (NoText s i) (of_text (cond t (got (span (i + 1) (close s i - (i + 1))) (close s i + 1)) (Err (refusal.Eof (length s)))))
     shut a true e =
         let l = ltb-true (close s i) (length s) e in
         let k : i + 1 ≤ length s = omega (arith, a.inside) in
@@ -119,7 +119,7 @@ text_sound D s i h = go (eqb (byte_at s i) quote) refl
 
     go : (t : Bool) → eqb (byte_at s i) quote ≡ t
         → Answers s i (Text D s i) (NoText s i)
-        (of_text (cond t (cond (ltb (close s i) (length s)) (text.Read (i + 1) (close s i - (i + 1)) (cursor (close s i + 1))) (text.Refused (refusal.Eof (length s)))) (text.Read i (stop (none_of D) s i - i) (cursor (stop (none_of D) s i)))))
+        (of_text (cond t (cond (ltb (close s i) (length s)) (got (span (i + 1) (close s i - (i + 1))) (close s i + 1)) (Err (refusal.Eof (length s)))) (got (span i (stop (none_of D) s i - i)) (stop (none_of D) s i))))
     go true e = shut (at_byte s i quote (omega arith) e) (ltb (close s i) (length s)) refl
     go false e = let o = stop_each (none_of D) s i h in right o.order o.inside (bare_string D s i h (not_at s i quote e))
 
@@ -133,7 +133,7 @@ digits_part : (s : List ℕ) (i : ℕ) → part s i (stop digit s i - i) ≡ run
 unfolding between digit
 digits_part s i = run-between digit refl s (run_is digit refl s i)
 
-pub number_sound : {s : List ℕ} → Bytes s → (i : ℕ) → i ≤ length s → Answers s i (Number s i) (NoNumber s i) (of_number (number_at s i))
+pub number_sound : {s : List ℕ} → Bytes s → (i : ℕ) → i ≤ length s → Answers s i (Number s i) (NoNumber s i) (of_plain (number_at s i))
 unfolding number_at unsigned_at unsigned_from unsigned_of
 number_sound {s} b i h = go (digit (byte_at s i)) refl
   where
@@ -144,32 +144,32 @@ number_sound {s} b i h = go (digit (byte_at s i)) refl
     same = ap (decimal 0) (digits_part s i)
 
     size : i < length s → digit (get_or s i 0) ≡ true → (t : Bool) → ltb n (2 ^ 64) ≡ t
-        → Answers s i (Number s i) (NoNumber s i) (of_number (number_of s i (cond t (unsigned.Number n (stop digit s i)) unsigned.TooLarge)))
+        → Answers s i (Number s i) (NoNumber s i) (of_plain (number_of s i (cond t (Ok (read_to n (stop digit s i))) (Err fault.TooLarge))))
     size l d true e =
         let k = digit-run s i l d in
         right k.digits.order k.digits.inside (record { digits = k; says = same; fits = ltb-true n (2 ^ 64) e })
     size l d false e = wrong (too_large (digit-run s i l d) (omega (arith, same, ltb-false n (2 ^ 64) e)))
 
     none : digit (byte_at s i) ≡ false → (t : Bool) → eqb (byte_at s i) 256 ≡ t
-        → Answers s i (Number s i) (NoNumber s i) (of_number (cond t (number.Refused (refusal.Eof (length s))) (number.Refused (refusal.ExpectedInteger i))))
+        → Answers s i (Number s i) (NoNumber s i) (of_plain {A = ℕ} (cond t (Err (refusal.Eof (length s))) (Err (refusal.ExpectedInteger i))))
     none d true e = wrong (NoNumber.over (at_end b i h e))
     none d false e = let l = before_end s i e in wrong (no_digit l (ap digit (sym (byte_is s i l)) ∙ d))
 
     go : (t : Bool) → digit (byte_at s i) ≡ t
-        → Answers s i (Number s i) (NoNumber s i) (of_number (number_of s i (cond t (cond (ltb n (2 ^ 64)) (unsigned.Number n (stop digit s i)) unsigned.TooLarge) unsigned.NoDigit)))
+        → Answers s i (Number s i) (NoNumber s i) (of_plain (number_of s i (cond t (cond (ltb n (2 ^ 64)) (Ok (read_to n (stop digit s i))) (Err fault.TooLarge)) (Err fault.NoDigit))))
     go true e = there (dec_lt i (length s))
       where
-        there : Dec (i < length s) → Answers s i (Number s i) (NoNumber s i) (of_number (number_of s i (cond (ltb n (2 ^ 64)) (unsigned.Number n (stop digit s i)) unsigned.TooLarge)))
+        there : Dec (i < length s) → Answers s i (Number s i) (NoNumber s i) (of_plain (number_of s i (cond (ltb n (2 ^ 64)) (Ok (read_to n (stop digit s i))) (Err fault.TooLarge))))
         there (yes l) = size l (ap digit (sym (byte_is s i l)) ∙ e) (ltb n (2 ^ 64)) refl
         there (no l) = differ e (ap digit (byte_out s i (omega arith)) ∙ digit_past)
     go false e = none e (eqb (byte_at s i) 256) refl
 
-pub flag_sound : {s : List ℕ} → Bytes s → (i : ℕ) → i ≤ length s → Answers s i (Flag s i) (NoFlag s i) (of_flag (flag_at s i))
+pub flag_sound : {s : List ℕ} → Bytes s → (i : ℕ) → i ≤ length s → Answers s i (Flag s i) (NoFlag s i) (of_plain (flag_at s i))
 unfolding flag_at one_of
 flag_sound {s} b i h = go (eqb (byte_at s i) 256) refl (eqb (byte_at s i) 48) refl (eqb (byte_at s i) 49) refl
   where
     go : (t : Bool) → eqb (byte_at s i) 256 ≡ t → (u : Bool) → eqb (byte_at s i) 48 ≡ u → (v : Bool) → eqb (byte_at s i) 49 ≡ v
-        → Answers s i (Flag s i) (NoFlag s i) (of_flag (cond t (flag.Refused (refusal.Eof (length s))) (cond u (flag.Read false (cursor (i + 1))) (cond v (flag.Read true (cursor (i + 1))) (flag.Refused (refusal.ExpectedBool i))))))
+        → Answers s i (Flag s i) (NoFlag s i) (of_plain (cond t (Err (refusal.Eof (length s))) (cond u (got false (i + 1)) (cond v (got true (i + 1)) (Err (refusal.ExpectedBool i))))))
     go true e u f v g = wrong (NoFlag.over (at_end b i h e))
     go false e true f v g = let l = before_end s i e in right {j = i + 1} (omega arith) (omega arith) (Flag.zero (at_byte s i 48 (omega arith) f) refl refl)
     go false e false f true g = let l = before_end s i e in right {j = i + 1} (omega arith) (omega arith) (Flag.one (at_byte s i 49 (omega arith) g) refl refl)
@@ -186,9 +186,9 @@ module _ {s : List ℕ} (b : Bytes s) (D : List ℕ) (open-dash : one_of D dash 
   unfolding element_at
   second_sound i k a m x y z led f = go (delimiter_at dash D s m) (stands b dash D m (omega arith) z)
     where
-      last : At s m dash → (x : deNumber.Number) → Answers s (m + 1) (Number s (m + 1)) (NoNumber s (m + 1)) (of_number x) → Answers s i (Pair s i) (NoPair D s i) (of_pair (second_of a x))
-      last d (number.Read c e) (right p q g) = right {j = e.at} (omega arith) q (record { k = k; m = m; led = led; first = f; split = d; second = g })
-      last d (number.Refused r) (wrong g) = wrong (NoPair.behind led f (second d g))
+      last : At s m dash → (x : Result (Read ℕ) Refusal) → Answers s (m + 1) (Number s (m + 1)) (NoNumber s (m + 1)) (of_plain x) → Answers s i (Pair s i) (NoPair D s i) (of_pair (second_of a x))
+      last d (Ok y) (right p q g) = right {j = y.next.at} (omega arith) q (record { k = k; m = m; led = led; first = f; split = d; second = g })
+      last d (Err r) (wrong g) = wrong (NoPair.behind led f (second d g))
 
       go : (d : Delimiter) → Stands dash D s m d → Answers s i (Pair s i) (NoPair D s i) (of_pair (second_of a (element_of false s m d)))
       go (delimiter.Passed c) (passed d) = last d (number_at s (m + 1)) (number_sound b (m + 1) (omega (arith, d.inside)))
@@ -199,9 +199,9 @@ module _ {s : List ℕ} (b : Bytes s) (D : List ℕ) (open-dash : one_of D dash 
   unfolding pair_at element_at
   pair_sound i h = go (delimiter_at dash D s i) (stands b dash D i (omega arith) h)
     where
-      first : (k : ℕ) → i ≤ k → Led dash s i k → ¬ Ends (one_of D) s i → (x : deNumber.Number) → Answers s k (Number s k) (NoNumber s k) (of_number x) → Answers s i (Pair s i) (NoPair D s i) (of_pair (first_of D s x))
-      first k l led e (number.Read a c) (right p q g) = second_sound i k a c.at l p q led g
-      first k l led e (number.Refused r) (wrong g) = wrong (NoPair.first e led g)
+      first : (k : ℕ) → i ≤ k → Led dash s i k → ¬ Ends (one_of D) s i → (x : Result (Read ℕ) Refusal) → Answers s k (Number s k) (NoNumber s k) (of_plain x) → Answers s i (Pair s i) (NoPair D s i) (of_pair (first_of D s x))
+      first k l led e (Ok y) (right p q g) = second_sound i k y.value y.next.at l p q led g
+      first k l led e (Err r) (wrong g) = wrong (NoPair.first e led g)
 
       go : (d : Delimiter) → Stands dash D s i d → Answers s i (Pair s i) (NoPair D s i) (of_pair (first_of D s (element_of true s i d)))
       go (delimiter.Passed c) (passed d) = first (i + 1) (omega arith) (swallowed d refl) (not_ends D s i dash open-dash d) (number_at s (i + 1)) (number_sound b (i + 1) (omega (arith, d.inside)))

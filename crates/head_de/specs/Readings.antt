@@ -1,16 +1,11 @@
 -- What reading gives, in the words of `written`: something and the place behind it, or a refusal.
-use Rattle.std.specs.Prelude.{Bool, ℕ}
-use Rattle.written.specs.Bytes.{Span}
-use Rattle.written.specs.HeaderText.{Range}
+use Rattle.std.specs.Prelude.{ℕ, Result, Ok, Err}
+use Rattle.written.specs.Bytes as written
+use Rattle.written.specs.HeaderText as says
 use Rattle.error.specs.declared.Refusal.{Refusal}
-use Rattle.head_de.specs.declared.Text.{Text}
-use Rattle.head_de.specs.declared.Text.TheVariants as text
-use Rattle.head_de.specs.declared.Number.{Number}
-use Rattle.head_de.specs.declared.Number.TheVariants as number
-use Rattle.head_de.specs.declared.Flag.{Flag}
-use Rattle.head_de.specs.declared.Flag.TheVariants as flag
-use Rattle.head_de.specs.declared.Pair.{Pair}
-use Rattle.head_de.specs.declared.Pair.TheVariants as pair
+use Rattle.text_parts.specs.declared.Span.{Span}
+use Rattle.head_record.specs.declared.Range.{Range}
+use Rattle.head_de.specs.declared.Read.{Read}
 
 pub data Reading (A : Type 0) : Type 0 where
   read : A → ℕ → Reading A
@@ -20,18 +15,16 @@ abbrev pub mapped : {A B : Type 0} → (A → B) → Reading A → Reading B
 mapped f (read a j) = read (f a) j
 mapped f (refused r) = refused r
 
-abbrev pub of_text : Text → Reading Span
-of_text (text.Read i n c) = read (record { start = i; len = n }) c.at
-of_text (text.Refused r) = refused r
+-- an answer of the code, where f says what its value is in those words
+abbrev pub reading : {A B : Type 0} → (A → B) → Result (Read A) Refusal → Reading B
+reading f (Ok x) = read (f x.value) x.next.at
+reading f (Err r) = refused r
 
-abbrev pub of_number : Number → Reading ℕ
-of_number (number.Read n c) = read n c.at
-of_number (number.Refused r) = refused r
+abbrev pub of_text : Result (Read Span) Refusal → Reading written.Span
+of_text x = reading (λ t. record { start = t.start; len = t.len }) x
 
-abbrev pub of_flag : Flag → Reading Bool
-of_flag (flag.Read b c) = read b c.at
-of_flag (flag.Refused r) = refused r
+abbrev pub of_plain : {A : Type 0} → Result (Read A) Refusal → Reading A
+of_plain x = reading (λ a. a) x
 
-abbrev pub of_pair : Pair → Reading Range
-of_pair (pair.Read a b c) = read (record { from = a; to = b }) c.at
-of_pair (pair.Refused r) = refused r
+abbrev pub of_pair : Result (Read Range) Refusal → Reading says.Range
+of_pair x = reading (λ r. record { from = r.from; to = r.to }) x

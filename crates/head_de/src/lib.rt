@@ -9,8 +9,10 @@ ghost use Rattle.laws.specs.Runs.{stop};
 ghost use Rattle.head_de.specs.Values.{cursor, delimiters_of, ends_at, text_at, number_at, flag_at, delimiter_at, element_at, pair_at};
 
 use error::Refusal;
+use head_record::Range;
 use text_base::byte_at;
-use text_numbers::{Unsigned, parse_unsigned};
+use text_numbers::{NumberError, parse_unsigned};
+use text_parts::Span;
 
 #[derive(Clone, Copy)]
 pub struct Cursor {
@@ -31,36 +33,14 @@ pub enum Delimiters {
     Bracket,
 }
 
-// A string: a part of the file, without quotes.
+// What was read, and the cursor behind it.
 #[derive(Clone, Copy)]
-pub enum Text {
-    Read {
-        start: usize,
-        len: usize,
-        next: Cursor,
-    },
-    Refused(Refusal),
+pub struct Read<T> {
+    pub value: T,
+    pub next: Cursor,
 }
 
-#[derive(Clone, Copy)]
-pub enum Number {
-    Read(u64, Cursor),
-    Refused(Refusal),
-}
-
-#[derive(Clone, Copy)]
-pub enum Flag {
-    Read(bool, Cursor),
-    Refused(Refusal),
-}
-
-#[derive(Clone, Copy)]
-pub enum Pair {
-    Read { from: u64, to: u64, next: Cursor },
-    Refused(Refusal),
-}
-
-// What stands where a sequence may go on.
+// What stands where a sequence may go on. Three answers: what closes one sequence refuses nothing.
 #[derive(Clone, Copy)]
 pub enum Delimiter {
     // its own delimiter, now passed
@@ -96,7 +76,7 @@ impl Cursor {
         is_delimiter(d, b)
     }
 
-    // To the first open delimiter, or to the end.
+    // To the first open delimiter, or to the end. A `while`: the place where the loop stops is the answer, also for one past the end.
     pub fn until(self, s: &[u8], d: Delimiters) -> Cursor
         ensures { result ≡ cursor (stop (none_of (delimiters_of d)) s.now self.at) }
     {
@@ -110,8 +90,8 @@ impl Cursor {
         Cursor { at: i }
     }
 
-    // A string that opens with a quote runs to the next one, newlines included; otherwise to an open delimiter.
-    pub fn string(self, s: &[u8], d: Delimiters) -> Text
+    // A string: a part of the file, without quotes. One that opens with a quote runs to the next one, newlines included; otherwise to an open delimiter.
+    pub fn string(self, s: &[u8], d: Delimiters) -> Result<Read<Span>, Refusal>
         ensures { result ≡ text_at (delimiters_of d) s.now self.at }
     {
         let at = self.at;
@@ -121,53 +101,65 @@ impl Cursor {
             let closing = inside.until(s, Delimiters::Quote);
             let end = closing.at;
             if end < s.len() {
-                return Text::Read {
+                let value = Span {
                     start,
                     len: end - start,
-                    next: Cursor { at: end + 1 },
                 };
+                return Ok(Read {
+                    value,
+                    next: Cursor { at: end + 1 },
+                });
             }
-            return Text::Refused(Refusal::Eof(s.len()));
+            return Err(Refusal::Eof(s.len()));
         }
         let next = self.until(s, d);
-        Text::Read {
+        let value = Span {
             start: at,
             len: next.at - at,
-            next,
-        }
+        };
+        Ok(Read { value, next })
     }
 
-    pub fn number(self, s: &[u8]) -> Number
+    pub fn number(self, s: &[u8]) -> Result<Read<u64>, Refusal>
         ensures { result ≡ number_at s.now self.at }
     {
         let at = self.at;
         match parse_unsigned(s, at) {
-            Unsigned::Number { value, next } => Number::Read(value, Cursor { at: next }),
-            Unsigned::TooLarge => Number::Refused(Refusal::Number(at)),
-            Unsigned::NoDigit => {
+            Ok(read) => Ok(Read {
+                value: read.value,
+                next: Cursor { at: read.next },
+            }),
+            Err(NumberError::TooLarge) => Err(Refusal::Number(at)),
+            Err(NumberError::NoDigit) => {
                 if byte_at(s, at) == 256 {
-                    return Number::Refused(Refusal::Eof(s.len()));
+                    return Err(Refusal::Eof(s.len()));
                 }
-                Number::Refused(Refusal::ExpectedInteger(at))
+                Err(Refusal::ExpectedInteger(at))
             }
         }
     }
 
-    pub fn flag(self, s: &[u8]) -> Flag
+    pub fn flag(self, s: &[u8]) -> Result<Read<bool>, Refusal>
         ensures { result ≡ flag_at s.now self.at }
     {
         let at = self.at;
         let b = byte_at(s, at);
         if b == 256 {
-            return Flag::Refused(Refusal::Eof(s.len()));
+            return Err(Refusal::Eof(s.len()));
         }
         if b == 48 {
-            return Flag::Read(false, Cursor { at: at + 1 });
+            return Ok(Read {
+                value: false,
+                next: Cursor { at: at + 1 },
+            });
         }
         if b == 49 {
-            return Flag::Read(true, Cursor { at: at + 1 });
+            return Ok(Read {
+                value: true,
+                next: Cursor { at: at + 1 },
+            });
         }
-        Flag::Refused(Refusal::ExpectedBool(at))
+        Err(Refusal::ExpectedBool(at))
     }
 
     // The delimiter of the innermost sequence is passed; d are those around it.
@@ -189,30 +181,33 @@ impl Cursor {
     }
 
     // A number of a pair, behind its `-`; the first may stand without. A pair that ends before it has fewer than two numbers.
-    pub fn element(self, s: &[u8], d: Delimiters, first: bool) -> Number
+    pub fn element(self, s: &[u8], d: Delimiters, first: bool) -> Result<Read<u64>, Refusal>
         ensures { result ≡ element_at (delimiters_of d) first s.now self.at }
     {
         match self.delimiter(s, 45, d) {
             Delimiter::Passed(next) => next.number(s),
-            Delimiter::Closed => Number::Refused(Refusal::Field),
+            Delimiter::Closed => Err(Refusal::Field),
             Delimiter::Missing => {
                 if first {
                     return self.number(s);
                 }
-                Number::Refused(Refusal::ExpectedArrayComma(self.at))
+                Err(Refusal::ExpectedArrayComma(self.at))
             }
         }
     }
 
-    pub fn pair(self, s: &[u8], d: Delimiters) -> Pair
+    pub fn pair(self, s: &[u8], d: Delimiters) -> Result<Read<Range>, Refusal>
         ensures { result ≡ pair_at (delimiters_of d) s.now self.at }
     {
-        match self.element(s, d, true) {
-            Number::Read(from, middle) => match middle.element(s, d, false) {
-                Number::Read(to, next) => Pair::Read { from, to, next },
-                Number::Refused(refusal) => Pair::Refused(refusal),
-            },
-            Number::Refused(refusal) => Pair::Refused(refusal),
-        }
+        let first = self.element(s, d, true)?;
+        let second = first.next.element(s, d, false)?;
+        let value = Range {
+            from: first.value,
+            to: second.value,
+        };
+        Ok(Read {
+            value,
+            next: second.next,
+        })
     }
 }

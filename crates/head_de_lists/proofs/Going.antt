@@ -70,18 +70,18 @@ module _ {A : Type 0} (item : ℕ → Reading A) (D s : List ℕ) (i₀ : ℕ) w
 
 -- ---- one more in an array
 
-pub spans_with_lem : (l : List written.Span) (x : written.Span) → spans_with (spans_of l) x.start x.len ≡ spans_of (l ++ (x ∷ []))
+pub spans_with_lem : (l : List written.Span) (x : written.Span) → spans_with (spans_of l) (span_of x) ≡ spans_of (l ++ (x ∷ []))
 unfolding spans_with spans_of
 spans_with_lem l x = go (dec_lt (length l) 32)
   where
-    go : Dec (length l < 32) → spans_with (spans_of l) x.start x.len ≡ spans_of (l ++ (x ∷ []))
+    go : Dec (length l < 32) → spans_with (spans_of l) (span_of x) ≡ spans_of (l ++ (x ∷ []))
     go (yes h) = rw (lt-ltb (length l) 32 h, filled_with no_span span_of 32 l x h, length_one_more l x)
     go (no h) = let k : 32 ≤ length l = omega arith in rw (le-ltb (length l) 32 k, filled_past no_span span_of 32 l x k, length_one_more l x)
 
-pub ranges_with_lem : (l : List says.Range) (x : says.Range) → ranges_with (ranges_of l) x.from x.to ≡ ranges_of (l ++ (x ∷ []))
+pub ranges_with_lem : (l : List says.Range) (x : says.Range) → ranges_with (ranges_of l) (range_of x) ≡ ranges_of (l ++ (x ∷ []))
 unfolding ranges_with ranges_of
 ranges_with_lem l x = go (dec_lt (length l) 8)
   where
-    go : Dec (length l < 8) → ranges_with (ranges_of l) x.from x.to ≡ ranges_of (l ++ (x ∷ []))
+    go : Dec (length l < 8) → ranges_with (ranges_of l) (range_of x) ≡ ranges_of (l ++ (x ∷ []))
     go (yes h) = rw (lt-ltb (length l) 8 h, filled_with no_range range_of 8 l x h, length_one_more l x)
     go (no h) = let k : 8 ≤ length l = omega arith in rw (le-ltb (length l) 8 k, filled_past no_range range_of 8 l x k, length_one_more l x)

@@ -1,21 +1,21 @@
 -- What reading a comma list answers, over any reader of its items; and how a list of strings or pairs stands in an array.
-use Rattle.std.specs.Prelude.{cond, List, [], ◌∷◌, ◌++◌, map, ℕ, zero, suc, ◌+◌, ltb, length, set, get_or}
+use Rattle.std.specs.Prelude.{cond, List, [], ◌∷◌, ◌++◌, map, ℕ, zero, suc, ◌+◌, ltb, length, set, get_or, Result, Err}
 use Rattle.written.specs.Bytes as written
 use Rattle.written.specs.Bytes.{comma}
 use Rattle.written.specs.HeaderText as says
+use Rattle.error.specs.declared.Refusal.{Refusal}
 use Rattle.error.specs.declared.Refusal.TheVariants as refusal
-use Rattle.head_record.specs.Empty.{no_span, no_range, span, range}
+use Rattle.head_record.specs.Empty.{no_span, no_range}
 use Rattle.head_record.specs.Lists.{filled, span_of, range_of}
 use Rattle.text_parts.specs.declared.Span.{Span}
-use Rattle.head_de.specs.Values.{cursor, delimiter_at}
+use Rattle.head_record.specs.declared.Range.{Range}
+use Rattle.head_de.specs.Values.{got, delimiter_at}
 use Rattle.head_de.specs.Readings.{Reading, read, refused}
+use Rattle.head_de.specs.declared.Read.{Read}
 use Rattle.head_de.specs.declared.Delimiter.{Delimiter}
 use Rattle.head_de.specs.declared.Delimiter.TheVariants as delimiter
 use Rattle.head_de_lists.specs.declared.Spans.{Spans}
 use Rattle.head_de_lists.specs.declared.Ranges.{Ranges}
-use Rattle.head_de_lists.specs.declared.Outcome.TheVariants as outcome
-use Rattle.head_de_lists.specs.declared.StringList.{StringList}
-use Rattle.head_de_lists.specs.declared.PairList.{PairList}
 
 -- ---- the list, once its items up to here are l
 
@@ -55,21 +55,21 @@ unfoldable pub ranges_of : List says.Range → Ranges
 ranges_of l = record { items = filled 8 no_range (map range_of l); count = length l }
 
 -- one more
-unfoldable pub spans_with : Spans → ℕ → ℕ → Spans
-spans_with x start n = record { items = cond (ltb x.count 32) (set x.items x.count (span start n)) x.items; count = x.count + 1 }
+unfoldable pub spans_with : Spans → Span → Spans
+spans_with x y = record { items = cond (ltb x.count 32) (set x.items x.count y) x.items; count = x.count + 1 }
 
-unfoldable pub ranges_with : Ranges → ℕ → ℕ → Ranges
-ranges_with x a b = record { items = cond (ltb x.count 8) (set x.items x.count (range a b)) x.items; count = x.count + 1 }
+unfoldable pub ranges_with : Ranges → Range → Ranges
+ranges_with x y = record { items = cond (ltb x.count 8) (set x.items x.count y) x.items; count = x.count + 1 }
 
 -- the n items from i on
 unfoldable pub firsts : ℕ → List Span → ℕ → List Span
 firsts zero t i = []
 firsts (suc n) t i = get_or t i no_span ∷ firsts n t (i + 1)
 
-abbrev pub strings_in : Reading (List written.Span) → StringList
-strings_in (read l j) = record { outcome = outcome.Read (cursor j); list = spans_of l }
-strings_in (refused r) = record { outcome = outcome.Refused r; list = spans_of [] }
+abbrev pub strings_in : Reading (List written.Span) → Result (Read Spans) Refusal
+strings_in (read l j) = got (spans_of l) j
+strings_in (refused r) = Err r
 
-abbrev pub pairs_in : Reading (List says.Range) → PairList
-pairs_in (read l j) = record { outcome = outcome.Read (cursor j); list = ranges_of l }
-pairs_in (refused r) = record { outcome = outcome.Refused r; list = ranges_of [] }
+abbrev pub pairs_in : Reading (List says.Range) → Result (Read Ranges) Refusal
+pairs_in (read l j) = got (ranges_of l) j
+pairs_in (refused r) = Err r

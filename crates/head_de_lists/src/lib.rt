@@ -8,7 +8,7 @@ ghost use Rattle.head_de.specs.Readings.{of_text, of_pair};
 ghost use Rattle.head_de_lists.specs.Lists.{spans_of, ranges_of, spans_with, ranges_with, strings_in, pairs_in, items_at, list_at};
 
 use error::Refusal;
-use head_de::{Cursor, Delimiter, Delimiters, Pair, Text};
+use head_de::{Cursor, Delimiter, Delimiters, Read};
 use head_record::Range;
 use text_parts::Span;
 
@@ -19,30 +19,12 @@ pub struct Spans {
     pub count: usize,
 }
 
-// The first 8 pairs of a list, and how many it has.
+// The first 8 pairs of a list, and how many it has. Apart from `Spans`: a generic struct holds no array of a type parameter, and a trait over both lists,
+// with its laws, is longer than what it would save.
 #[derive(Clone, Copy)]
 pub struct Ranges {
     pub items: [Range; 8],
     pub count: usize,
-}
-
-#[derive(Clone, Copy)]
-pub enum Outcome {
-    Read(Cursor),
-    Refused(Refusal),
-}
-
-// A list; where it is refused, the empty one.
-#[derive(Clone, Copy)]
-pub struct StringList {
-    pub outcome: Outcome,
-    pub list: Spans,
-}
-
-#[derive(Clone, Copy)]
-pub struct PairList {
-    pub outcome: Outcome,
-    pub list: Ranges,
 }
 
 impl Spans {
@@ -55,14 +37,14 @@ impl Spans {
         }
     }
 
-    fn push(self, start: usize, len: usize) -> Spans
+    fn push(self, item: Span) -> Spans
         requires { self.count + 1 < 2 ^ 64 }
-        ensures { result ≡ spans_with self start len }
+        ensures { result ≡ spans_with self item }
     {
         let n = self.count;
         let mut out = self;
         if n < 32 {
-            out.items[n] = Span { start, len };
+            out.items[n] = item;
             out.count = n + 1;
             return out;
         }
@@ -81,14 +63,14 @@ impl Ranges {
         }
     }
 
-    fn push(self, from: u64, to: u64) -> Ranges
+    fn push(self, item: Range) -> Ranges
         requires { self.count + 1 < 2 ^ 64 }
-        ensures { result ≡ ranges_with self from to }
+        ensures { result ≡ ranges_with self item }
     {
         let n = self.count;
         let mut out = self;
         if n < 8 {
-            out.items[n] = Range { from, to };
+            out.items[n] = item;
             out.count = n + 1;
             return out;
         }
@@ -98,105 +80,97 @@ impl Ranges {
 }
 
 // The strings from a place on: `inner` is open in an item, `outer` around the list.
-fn strings_from(c: Cursor, s: &[u8], inner: Delimiters, outer: Delimiters) -> StringList
+fn strings_from(
+    c: Cursor,
+    s: &[u8],
+    inner: Delimiters,
+    outer: Delimiters,
+) -> Result<Read<Spans>, Refusal>
     ensures { result ≡ strings_in (items_at (λ i. of_text (text_at (delimiters_of inner) s.now i)) (delimiters_of outer) s.now c.at) }
 {
     let mut at = c;
     let mut list = Spans::none();
     loop {
-        match at.string(s, inner) {
-            Text::Refused(refusal) => {
-                return StringList {
-                    outcome: Outcome::Refused(refusal),
-                    list: Spans::none(),
-                };
+        let item = at.string(s, inner)?;
+        list = list.push(item.value);
+        let next = item.next;
+        match next.delimiter(s, 44, outer) {
+            Delimiter::Passed(after) => {
+                at = after;
             }
-            Text::Read { start, len, next } => {
-                list = list.push(start, len);
-                match next.delimiter(s, 44, outer) {
-                    Delimiter::Passed(after) => {
-                        at = after;
-                    }
-                    Delimiter::Closed => {
-                        return StringList {
-                            outcome: Outcome::Read(next),
-                            list,
-                        };
-                    }
-                    Delimiter::Missing => {
-                        return StringList {
-                            outcome: Outcome::Refused(Refusal::ExpectedArrayComma(next.at)),
-                            list: Spans::none(),
-                        };
-                    }
-                }
+            Delimiter::Closed => {
+                return Ok(Read { value: list, next });
+            }
+            Delimiter::Missing => {
+                return Err(Refusal::ExpectedArrayComma(next.at));
             }
         }
     }
 }
 
 // A list of strings; one leading comma is swallowed, and empty text is no item.
-pub fn strings(c: Cursor, s: &[u8], inner: Delimiters, outer: Delimiters) -> StringList
+pub fn strings(
+    c: Cursor,
+    s: &[u8],
+    inner: Delimiters,
+    outer: Delimiters,
+) -> Result<Read<Spans>, Refusal>
     ensures { result ≡ strings_in (list_at (λ i. of_text (text_at (delimiters_of inner) s.now i)) (delimiters_of outer) s.now c.at) }
 {
     match c.delimiter(s, 44, outer) {
         Delimiter::Passed(next) => strings_from(next, s, inner, outer),
-        Delimiter::Closed => StringList {
-            outcome: Outcome::Read(c),
-            list: Spans::none(),
-        },
+        Delimiter::Closed => Ok(Read {
+            value: Spans::none(),
+            next: c,
+        }),
         Delimiter::Missing => strings_from(c, s, inner, outer),
     }
 }
 
 // The pairs from a place on.
-fn pairs_from(c: Cursor, s: &[u8], inner: Delimiters, outer: Delimiters) -> PairList
+fn pairs_from(
+    c: Cursor,
+    s: &[u8],
+    inner: Delimiters,
+    outer: Delimiters,
+) -> Result<Read<Ranges>, Refusal>
     ensures { result ≡ pairs_in (items_at (λ i. of_pair (pair_at (delimiters_of inner) s.now i)) (delimiters_of outer) s.now c.at) }
 {
     let mut at = c;
     let mut list = Ranges::none();
     loop {
-        match at.pair(s, inner) {
-            Pair::Refused(refusal) => {
-                return PairList {
-                    outcome: Outcome::Refused(refusal),
-                    list: Ranges::none(),
-                };
+        let item = at.pair(s, inner)?;
+        list = list.push(item.value);
+        let next = item.next;
+        match next.delimiter(s, 44, outer) {
+            Delimiter::Passed(after) => {
+                at = after;
             }
-            Pair::Read { from, to, next } => {
-                list = list.push(from, to);
-                match next.delimiter(s, 44, outer) {
-                    Delimiter::Passed(after) => {
-                        at = after;
-                    }
-                    Delimiter::Closed => {
-                        return PairList {
-                            outcome: Outcome::Read(next),
-                            list,
-                        };
-                    }
-                    Delimiter::Missing => {
-                        return PairList {
-                            outcome: Outcome::Refused(Refusal::ExpectedArrayComma(next.at)),
-                            list: Ranges::none(),
-                        };
-                    }
-                }
+            Delimiter::Closed => {
+                return Ok(Read { value: list, next });
+            }
+            Delimiter::Missing => {
+                return Err(Refusal::ExpectedArrayComma(next.at));
             }
         }
     }
 }
 
 // A list of pairs, likewise.
-pub fn pairs(c: Cursor, s: &[u8], inner: Delimiters, outer: Delimiters) -> PairList
+pub fn pairs(
+    c: Cursor,
+    s: &[u8],
+    inner: Delimiters,
+    outer: Delimiters,
+) -> Result<Read<Ranges>, Refusal>
     ensures { result ≡ pairs_in (list_at (λ i. of_pair (pair_at (delimiters_of inner) s.now i)) (delimiters_of outer) s.now c.at) }
 {
     match c.delimiter(s, 44, outer) {
         Delimiter::Passed(next) => pairs_from(next, s, inner, outer),
-        Delimiter::Closed => PairList {
-            outcome: Outcome::Read(c),
-            list: Ranges::none(),
-        },
+        Delimiter::Closed => Ok(Read {
+            value: Ranges::none(),
+            next: c,
+        }),
         Delimiter::Missing => pairs_from(c, s, inner, outer),
     }
 }

@@ -14,7 +14,7 @@ use Rattle.laws.specs.Runs.{stop}
 use Rattle.laws.proofs.Cursor.{stop_each, unknown_value}
 use Rattle.error.specs.Numbers as error
 use Rattle.head_de.specs.Values.{ends_at, text_at, number_at, flag_at, pair_at}
-use Rattle.head_de.specs.Readings.{Reading, read, refused, mapped, of_text, of_number, of_flag, of_pair}
+use Rattle.head_de.specs.Readings.{Reading, read, refused, mapped, of_text, of_plain, of_pair}
 use Rattle.head_de.proofs.Sound.{Answers, right, wrong, Bytes, ends_so, ends_not, text_sound, number_sound, flag_sound, pair_sound}
 use Rattle.head_de_lists.specs.Lists.{list_at}
 use Rattle.head_de_lists.proofs.Sound.{list_sound}
@@ -63,8 +63,8 @@ ends_newline {s} {i} (met l e) = met l (one_newline (get_or s i 0) ∙ e)
 pub value_sound : {s : List ℕ} → Bytes s → (D : List ℕ) → Around D → (i : ℕ) → i ≤ length s → (t : Kind) → Answers s i (Reads D s i t) (Unreadable D s i t) (read_at D s i t)
 unfolding read_at
 value_sound {s} b D o i h a_string = mapped_sound text (λ a j r. is_string r) (λ n p r. no_string r) (of_text (text_at D s i)) (text_sound D s i h)
-value_sound {s} b D o i h a_number = mapped_sound number (λ a j r. is_number r) (λ n p r. no_number r) (of_number (number_at s i)) (number_sound b i h)
-value_sound {s} b D o i h a_bool = mapped_sound flag (λ a j r. is_bool r) (λ n p r. no_bool r) (of_flag (flag_at s i)) (flag_sound b i h)
+value_sound {s} b D o i h a_number = mapped_sound number (λ a j r. is_number r) (λ n p r. no_number r) (of_plain (number_at s i)) (number_sound b i h)
+value_sound {s} b D o i h a_bool = mapped_sound flag (λ a j r. is_bool r) (λ n p r. no_bool r) (of_plain (flag_at s i)) (flag_sound b i h)
 value_sound {s} b D o i h strings =
     mapped_sound texts (λ a j r. are_strings r) (λ n p r. no_strings r) (list_at (λ k. of_text (text_at (comma ∷ D) s k)) D s i)
     (list_sound (Text (comma ∷ D) s) (NoText s) b D o.no_comma (λ k. of_text (text_at (comma ∷ D) s k)) (λ k l. text_sound (comma ∷ D) s k l) i h)

@@ -6,11 +6,12 @@ ghost use Rattle.std.specs.Prelude.{◌≡◌, ◌∷◌};
 ghost use Rattle.written.specs.Bytes.{comma};
 ghost use Rattle.written.specs.HeaderText.{a_string, a_number, a_bool, strings, a_pair, pairs, perhaps_a_pair, anything};
 ghost use Rattle.head_de.specs.Values.{delimiters_of};
-ghost use Rattle.head_de_values.specs.Values.{around_of, kind_from, kind_asked, was_read, blank_of, value_in, read_at};
+ghost use Rattle.head_de_values.specs.Values.{around_of, kind_from, kind_asked, blank_value, of_scalar, value_in, read_at};
 
-use head_de::{Cursor, Delimiters};
-use head_de_lists::{Outcome, Ranges, Spans, pairs, strings};
-use head_deserializer::{Asked, scalar_in};
+use error::Refusal;
+use head_de::{Cursor, Delimiters, Read};
+use head_de_lists::{Ranges, Spans, pairs, strings};
+use head_deserializer::{Asked, Scalar, scalar_in};
 use head_record::Range;
 use text_parts::Span;
 
@@ -36,10 +37,10 @@ pub enum Around {
     Alone,
 }
 
-// A value; the parts that its kind does not have are zero, and so are all where it is refused. `flag` says too whether a perhaps absent pair is there.
+// A value; the parts that its kind does not have are zero. `flag` says too whether a perhaps absent pair is there. One struct for every kind, and no enum:
+// `stored` of the sections is said by the parts, whatever the kind.
 #[derive(Clone, Copy)]
 pub struct Value {
-    pub outcome: Outcome,
     pub number: u64,
     pub flag: bool,
     pub span: Span,
@@ -69,104 +70,118 @@ impl Around {
     }
 }
 
-pub fn blank(outcome: Outcome) -> Value
-    ensures { result ≡ blank_of outcome }
-{
-    Value {
-        outcome,
-        number: 0,
-        flag: false,
-        span: Span { start: 0, len: 0 },
-        range: Range { from: 0, to: 0 },
-        spans: Spans::none(),
-        ranges: Ranges::none(),
+impl Value {
+    #[tactic(auto, unfolding(crate::specs::Values::blank_value))]
+    pub fn blank() -> Value
+        ensures { result ≡ blank_value }
+    {
+        Value {
+            number: 0,
+            flag: false,
+            span: Span { start: 0, len: 0 },
+            range: Range { from: 0, to: 0 },
+            spans: Spans::none(),
+            ranges: Ranges::none(),
+        }
+    }
+
+    #[tactic(auto, unfolding(crate::specs::Values::blank_value))]
+    fn of_scalar(x: Scalar) -> Value
+        ensures { result ≡ of_scalar x }
+    {
+        let mut v = Value::blank();
+        match x {
+            Scalar::Text(span) => {
+                v.span = span;
+            }
+            Scalar::Number(number) => {
+                v.number = number;
+            }
+            Scalar::Flag(flag) => {
+                v.flag = flag;
+            }
+            Scalar::Pair(range) => {
+                v.range = range;
+            }
+        }
+        v
     }
 }
 
 // A value that is no list, by a reader that holds the section.
-fn read_scalar(c: Cursor, s: &[u8], around: Around, asked: Asked) -> Value
+fn read_scalar(c: Cursor, s: &[u8], around: Around, asked: Asked) -> Result<Read<Value>, Refusal>
     ensures { result ≡ value_in (read_at (around_of around) s.now c.at (kind_asked asked)) }
 {
-    let x = scalar_in(s, c, around.outer(), asked);
-    let outcome = x.outcome;
-    let span = x.span;
-    let range = x.range;
-    let mut v = blank(outcome);
-    v.number = x.number;
-    v.flag = x.flag;
-    v.span = span;
-    v.range = range;
-    v
+    let x = scalar_in(s, c, around.outer(), asked)?;
+    Ok(Read {
+        value: Value::of_scalar(x.value),
+        next: x.next,
+    })
 }
 
-fn read_text(c: Cursor, s: &[u8], around: Around) -> Value
+fn read_text(c: Cursor, s: &[u8], around: Around) -> Result<Read<Value>, Refusal>
     ensures { result ≡ value_in (read_at (around_of around) s.now c.at a_string) }
 {
     read_scalar(c, s, around, Asked::Text)
 }
 
-fn read_number(c: Cursor, s: &[u8], around: Around) -> Value
+fn read_number(c: Cursor, s: &[u8], around: Around) -> Result<Read<Value>, Refusal>
     ensures { result ≡ value_in (read_at (around_of around) s.now c.at a_number) }
 {
     read_scalar(c, s, around, Asked::Number)
 }
 
-fn read_flag(c: Cursor, s: &[u8], around: Around) -> Value
+fn read_flag(c: Cursor, s: &[u8], around: Around) -> Result<Read<Value>, Refusal>
     ensures { result ≡ value_in (read_at (around_of around) s.now c.at a_bool) }
 {
     read_scalar(c, s, around, Asked::Flag)
 }
 
-fn read_strings(c: Cursor, s: &[u8], around: Around) -> Value
+fn read_strings(c: Cursor, s: &[u8], around: Around) -> Result<Read<Value>, Refusal>
     ensures { result ≡ value_in (read_at (around_of around) s.now c.at strings) }
 {
-    let found = strings(c, s, around.inner(), around.outer());
-    let outcome = found.outcome;
-    let list = found.list;
-    let mut v = blank(outcome);
-    v.spans = list;
-    v
+    let found = strings(c, s, around.inner(), around.outer())?;
+    let mut value = Value::blank();
+    value.spans = found.value;
+    Ok(Read {
+        value,
+        next: found.next,
+    })
 }
 
-fn read_pair(c: Cursor, s: &[u8], around: Around) -> Value
+fn read_pair(c: Cursor, s: &[u8], around: Around) -> Result<Read<Value>, Refusal>
     ensures { result ≡ value_in (read_at (around_of around) s.now c.at a_pair) }
 {
     read_scalar(c, s, around, Asked::Pair)
 }
 
-fn read_pairs(c: Cursor, s: &[u8], around: Around) -> Value
+fn read_pairs(c: Cursor, s: &[u8], around: Around) -> Result<Read<Value>, Refusal>
     ensures { result ≡ value_in (read_at (around_of around) s.now c.at pairs) }
 {
-    let found = pairs(c, s, around.inner(), around.outer());
-    let outcome = found.outcome;
-    let list = found.list;
-    let mut v = blank(outcome);
-    v.ranges = list;
-    v
+    let found = pairs(c, s, around.inner(), around.outer())?;
+    let mut value = Value::blank();
+    value.ranges = found.value;
+    Ok(Read {
+        value,
+        next: found.next,
+    })
 }
 
-fn is_read(outcome: Outcome) -> bool
-    ensures { result ≡ was_read outcome }
-{
-    match outcome {
-        Outcome::Read(_) => true,
-        Outcome::Refused(_) => false,
-    }
-}
-
-fn read_perhaps(c: Cursor, s: &[u8], around: Around) -> Value
+fn read_perhaps(c: Cursor, s: &[u8], around: Around) -> Result<Read<Value>, Refusal>
     ensures { result ≡ value_in (read_at (around_of around) s.now c.at perhaps_a_pair) }
 {
     if c.ends(s, Delimiters::Newline) {
-        return blank(Outcome::Read(c));
+        return Ok(Read {
+            value: Value::blank(),
+            next: c,
+        });
     }
-    let mut v = read_pair(c, s, around);
-    let outcome = v.outcome;
-    v.flag = is_read(outcome);
-    v
+    let mut found = read_pair(c, s, around)?;
+    found.value.flag = true;
+    Ok(found)
 }
 
-fn read_anything(c: Cursor, s: &[u8], around: Around) -> Value
+fn read_anything(c: Cursor, s: &[u8], around: Around) -> Result<Read<Value>, Refusal>
     ensures { result ≡ value_in (read_at (around_of around) s.now c.at anything) }
 {
     let next = c.until(s, around.outer());
@@ -174,12 +189,12 @@ fn read_anything(c: Cursor, s: &[u8], around: Around) -> Value
         start: c.at,
         len: next.at - c.at,
     };
-    let mut v = blank(Outcome::Read(next));
-    v.span = span;
-    v
+    let mut value = Value::blank();
+    value.span = span;
+    Ok(Read { value, next })
 }
 
-pub fn read(c: Cursor, s: &[u8], kind: Kind, around: Around) -> Value
+pub fn read(c: Cursor, s: &[u8], kind: Kind, around: Around) -> Result<Read<Value>, Refusal>
     ensures { result ≡ value_in (read_at (around_of around) s.now c.at (kind_from kind)) }
 {
     match kind {

@@ -29,9 +29,7 @@ fn name_index(names: &[u8], w: &[u8]) -> usize
 {
     let mut name = 0;
     let mut same = 0;
-    let mut i = 0;
-    while i < names.len() {
-        let b = names[i];
+    for &b in names {
         if b == b' ' {
             if same == w.len() {
                 return name;
@@ -43,7 +41,6 @@ fn name_index(names: &[u8], w: &[u8]) -> usize
         } else {
             same = w.len() + 1;
         }
-        i = i + 1;
     }
     name
 }
@@ -136,9 +133,7 @@ pub fn missing(seen: [bool; 10], n: usize) -> bool
     requires { n ≤ 10 }
     ensures { result ≡ any_missing seen n }
 {
-    let mut k = n;
-    while 0 < k {
-        k = k - 1;
+    for k in (0..n).rev() {
         if !seen[k] {
             return true;
         }

@@ -17,9 +17,7 @@ use Rattle.head_record.specs.Empty.{empty_global, no_span}
 use Rattle.head_record.specs.Lists.{filled, span_of}
 use Rattle.head_record.specs.Record.{span_or, there as is_there, global_record}
 use Rattle.head_record.specs.declared.Global.{Global}
-use Rattle.head_de.specs.Values.{cursor}
 use Rattle.head_de_lists.specs.Lists.{firsts, spans_of}
-use Rattle.head_de_lists.specs.declared.Outcome.TheVariants as outcome
 use Rattle.head_de_lists.proofs.Firsts.{first8}
 use Rattle.head_de_values.specs.Values.{value_of}
 use Rattle.head_de_values.specs.declared.Value as values
@@ -29,7 +27,7 @@ use Rattle.head_lines.proofs.Kept.{OfKind, Kinded, value_kind, Stands, nowhere, 
 use Rattle.head_global.specs.Global.{stored, with_line}
 
 abbrev in_value : Value → values.Value
-in_value v = value_of (outcome.Read (cursor 0)) v
+in_value v = value_of v
 
 -- the required fields of the table are its first eight
 pub global_leads : Leads global_fields 8

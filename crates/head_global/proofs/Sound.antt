@@ -8,6 +8,7 @@ use native.Mathlib.Omega.{arith}
 use borrow.Author.Tests.{ltb-true, ltb-false}
 use lib.Dec.{ltb}
 use lib.ListN.{length}
+use Rattle.std.specs.Prelude.{Ok}
 use Rattle.written.specs.HeaderText.{Entry, Section}
 use Rattle.written.specs.Faults.{Missing, NoSection}
 use Rattle.written.specs.Record.{global_fields, SaysGlobal, GlobalFits}
@@ -21,7 +22,6 @@ use Rattle.head_record.specs.declared.Global.{Global}
 use Rattle.head_de.proofs.Sound.{Bytes}
 use Rattle.head_fields.specs.Fields.{any_missing}
 use Rattle.head_lines.specs.Lines.{Lines, whole, faulty, lines_at, kept}
-use Rattle.head_lines.specs.declared.Verdict.TheVariants as verdict
 use Rattle.head_lines.proofs.Marks.{Marks}
 use Rattle.head_lines.proofs.Kept.{lines_kinded, missing_so, missing_not}
 use Rattle.head_lines.proofs.Sound.{LinesAnswer, a_section, no_section, lines_sound}
@@ -31,7 +31,7 @@ use Rattle.head_global.proofs.Says.{global_leads, global_says}
 
 -- the text of s from i on says the record; or its lines are wrong, a field is missing (9), or a count passes its limit (12)
 pub data GlobalAnswers (s : List ℕ) (i : ℕ) : GlobalRead → Type 0 where
-  says : {xs : List Entry} {g : record_of.Global} → Section global_fields s i xs → SaysGlobal xs g → GlobalFits g → GlobalAnswers s i (made verdict.Accepted (global_record g))
+  says : {xs : List Entry} {g : record_of.Global} → Section global_fields s i xs → SaysGlobal xs g → GlobalFits g → GlobalAnswers s i (made (Ok tt) (global_record g))
   lines : {r : Refusal} → NoSection global_fields s i (error.number_of r) (error.place_of r) → GlobalAnswers s i (refused_with r)
   missing : {xs : List Entry} → Section global_fields s i xs → Missing global_fields xs → GlobalAnswers s i (refused_with refusal.Field)
   too_many : {xs : List Entry} {g : record_of.Global} → Section global_fields s i xs → SaysGlobal xs g → ¬ GlobalFits g → GlobalAnswers s i (refused_with refusal.Limit)
@@ -47,23 +47,23 @@ global_sound {s} b i h = go (lines_at global_fields s i) (lines_sound global_fie
     -- the counts of the struct are those of the record
     limited : (xs : List Entry) → Section global_fields s i xs → (g : record_of.Global) → SaysGlobal xs g
         → (t : Bool) → ltb 8 (length g.stream_type) ≡ t → (u : Bool) → ltb 32 (length g.gv_off_context) ≡ u
-        → GlobalAnswers s i (cond t (refused_with refusal.Limit) (cond u (refused_with refusal.Limit) (made verdict.Accepted (global_record g))))
+        → GlobalAnswers s i (cond t (refused_with refusal.Limit) (cond u (refused_with refusal.Limit) (made (Ok tt) (global_record g))))
     limited xs c g y true e u f = too_many c y (λ z. let k = ltb-true 8 (length g.stream_type) e in omega (arith, z.names))
     limited xs c g y false e true f = too_many c y (λ z. let k = ltb-true 32 (length g.gv_off_context) f in omega (arith, z.contexts))
     limited xs c g y false e false f = says c y (record { names = ltb-false 8 (length g.stream_type) e; contexts = ltb-false 32 (length g.gv_off_context) f })
 
     stands : (xs : List Entry) → Section global_fields s i xs → (g : record_of.Global) → SaysGlobal xs g → (G : Global) → G ≡ global_record g
-        → GlobalAnswers s i (cond (ltb 8 G.stream_type_count) (refused_with refusal.Limit) (cond (ltb 32 G.gv_off_context_count) (refused_with refusal.Limit) (made verdict.Accepted G)))
+        → GlobalAnswers s i (cond (ltb 8 G.stream_type_count) (refused_with refusal.Limit) (cond (ltb 32 G.gv_off_context_count) (refused_with refusal.Limit) (made (Ok tt) G)))
     stands xs c g y G e =
         subst
-        (λ (k : Global). GlobalAnswers s i (cond (ltb 8 k.stream_type_count) (refused_with refusal.Limit) (cond (ltb 32 k.gv_off_context_count) (refused_with refusal.Limit) (made verdict.Accepted k))))
+        (λ (k : Global). GlobalAnswers s i (cond (ltb 8 k.stream_type_count) (refused_with refusal.Limit) (cond (ltb 32 k.gv_off_context_count) (refused_with refusal.Limit) (made (Ok tt) k))))
         (sym e) (limited xs c g y (ltb 8 (length g.stream_type)) refl (ltb 32 (length g.gv_off_context)) refl)
 
     field : (m : List Bool) (xs : List Entry) → Section global_fields s i xs → Marks global_fields m xs → (t : Bool) → any_missing m 8 ≡ t
         → GlobalAnswers s i
         (cond t (refused_with refusal.Field)
         (cond (ltb 8 (kept with_line empty_global xs).stream_type_count) (refused_with refusal.Limit)
-        (cond (ltb 32 (kept with_line empty_global xs).gv_off_context_count) (refused_with refusal.Limit) (made verdict.Accepted (kept with_line empty_global xs)))))
+        (cond (ltb 32 (kept with_line empty_global xs).gv_off_context_count) (refused_with refusal.Limit) (made (Ok tt) (kept with_line empty_global xs)))))
     field m xs c k true e = missing c (missing_so k 8 global_leads e)
     field m xs c k false e = let y = global_says (lines_kinded c.lines) c.distinct (missing_not k 8 global_leads e) in stands xs c y.0 y.1 (kept with_line empty_global xs) y.2
 

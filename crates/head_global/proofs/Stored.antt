@@ -2,15 +2,14 @@
 use mathlib.Core.Path.{◌≡◌, refl, sym, ap₂, ◌∙◌}
 use mathlib.Core.Bool.{Bool, true, false, cond}
 use mathlib.Core.List.{List, [], ◌∷◌, ◌++◌}
-use mathlib.Core.Option.{some, none}
 use Prim.Native.Nat.{ℕ, zero, suc, ◌<◌, ◌≤◌}
 use native.Mathlib.Omega.{arith}
 use borrow.Author.Tests.{ne_eqb}
 use lib.Dec.{eqb, ltb}
 use lib.ListN.{length, take, drop, get_or-replicate}
 use lib.Seq.{sets}
-use Rattle.written.specs.HeaderText as says
-use Rattle.written.specs.HeaderText.{Entry, text, number, flag, texts, range, ranges, perhaps, unread}
+use Rattle.std.specs.Prelude.{Ok, Err}
+use Rattle.written.specs.HeaderText.{Entry}
 use Rattle.written.specs.Record.{global_fields}
 use Rattle.laws.proofs.Tables.{sets_at}
 use Rattle.error.specs.declared.Refusal.TheVariants as refusal
@@ -19,28 +18,14 @@ use Rattle.head_record.specs.declared.Global.{Global}
 use Rattle.head_words.specs.Words.{flat, span_words, spans_words, global_words, word_at, Zeros}
 use Rattle.head_words.proofs.Items.{zeros-laid, laid_inside}
 use Rattle.head_de_lists.specs.Lists.{firsts}
-use Rattle.head_de_lists.specs.declared.Outcome.{Outcome}
 use Rattle.head_de_values.specs.Values.{value_of}
 use Rattle.head_de_values.specs.declared.Value.{Value}
 use Rattle.head_fields.specs.Fields.{field_index, any_missing}
-use Rattle.head_lines.specs.declared.Verdict.TheVariants as verdict
 use Rattle.head_global.specs.Global.{stored, stored_in, with_line, judged, judged_in, made, refused_with}
 
-any : (g : Global) (k : ℕ) (o p : Outcome) (v : says.Value) → stored g k (value_of o v) ≡ stored g k (value_of p v)
-unfolding stored value_of
-any g k o p (text x) = refl
-any g k o p (number n) = refl
-any g k o p (flag b) = refl
-any g k o p (texts l) = refl
-any g k o p (range r) = refl
-any g k o p (ranges l) = refl
-any g k o p (perhaps none) = refl
-any g k o p (perhaps (some r)) = refl
-any g k o p (unread x) = refl
-
-pub stored_line : (g : Global) (x : Entry) (o : Outcome) {k : ℕ} {u : Value} → k ≡ field_index global_fields x.name → u ≡ value_of o x.value → stored g k u ≡ with_line g x
+pub stored_line : (g : Global) (x : Entry) {k : ℕ} {u : Value} → k ≡ field_index global_fields x.name → u ≡ value_of x.value → stored g k u ≡ with_line g x
 unfolding with_line
-stored_line g x o e f = rw (e, f) (any g _ _ _ x.value)
+stored_line g x e f = rw (e, f)
 
 -- ---- among the words of a record
 
@@ -69,8 +54,8 @@ unfolding empty_global global_words flat
 empty_words w z = sym (zeros-laid w 0 (global_words empty_global) z (λ k h. get_or-replicate 95 k 0 0 h))
 
 verdict_of : (g : Global) (a b c : Bool)
-    → cond a (verdict.Refused refusal.Field) (cond b (verdict.Refused refusal.Limit) (cond c (verdict.Refused refusal.Limit) verdict.Accepted))
-    ≡ (cond a (refused_with refusal.Field) (cond b (refused_with refusal.Limit) (cond c (refused_with refusal.Limit) (made verdict.Accepted g)))).verdict
+    → cond a (Err refusal.Field) (cond b (Err refusal.Limit) (cond c (Err refusal.Limit) (Ok tt)))
+    ≡ (cond a (refused_with refusal.Field) (cond b (refused_with refusal.Limit) (cond c (refused_with refusal.Limit) (made (Ok tt) g)))).verdict
 verdict_of g true b c = refl
 verdict_of g false true c = refl
 verdict_of g false false true = refl
@@ -82,5 +67,5 @@ unfolding judged judged_in global_words flat
 judged_words m w g h =
     let a : word_at (sets w 0 (global_words g)) 22 ≡ g.stream_type_count = sets_at (global_words g) w 0 22 0 (omega arith) h in
     let b : word_at (sets w 0 (global_words g)) 91 ≡ g.gv_off_context_count = sets_at (global_words g) w 0 91 0 (omega arith) h in
-    ap₂ (λ (x y : ℕ). cond (any_missing m 8) (verdict.Refused refusal.Field) (cond (ltb 8 x) (verdict.Refused refusal.Limit) (cond (ltb 32 y) (verdict.Refused refusal.Limit) verdict.Accepted))) a b
+    ap₂ (λ (x y : ℕ). cond (any_missing m 8) (Err refusal.Field) (cond (ltb 8 x) (Err refusal.Limit) (cond (ltb 32 y) (Err refusal.Limit) (Ok tt)))) a b
     ∙ verdict_of g (any_missing m 8) (ltb 8 g.stream_type_count) (ltb 32 g.gv_off_context_count)

@@ -1,5 +1,5 @@
 -- What the lines of [GLOBAL] make of `Global`.
-use Rattle.std.specs.Prelude.{Bool, true, cond, List, [], ◌∷◌, ◌++◌, ℕ, eqb, ltb}
+use Rattle.std.specs.Prelude.{Bool, true, cond, List, [], ◌∷◌, ◌++◌, ℕ, eqb, ltb, Result, Ok, Err, ⊤}
 use Rattle.std.proofs.lemmas.List.Edits.{sets}
 use Rattle.written.specs.HeaderText.{Entry}
 use Rattle.written.specs.Record.{global_fields}
@@ -8,15 +8,11 @@ use Rattle.error.specs.declared.Refusal.TheVariants as refusal
 use Rattle.head_record.specs.Empty.{empty_global}
 use Rattle.head_record.specs.declared.Global.{Global}
 use Rattle.head_words.specs.Words.{span_words, spans_words, word_at}
-use Rattle.head_de.specs.Values.{cursor}
 use Rattle.head_de_lists.specs.Lists.{firsts}
-use Rattle.head_de_lists.specs.declared.Outcome.TheVariants as outcome
 use Rattle.head_de_values.specs.Values.{value_of}
 use Rattle.head_de_values.specs.declared.Value.{Value}
 use Rattle.head_fields.specs.Fields.{field_index, any_missing}
 use Rattle.head_lines.specs.Lines.{Lines, whole, faulty, kept}
-use Rattle.head_lines.specs.declared.Verdict.{Verdict}
-use Rattle.head_lines.specs.declared.Verdict.TheVariants as verdict
 use Rattle.head_global.specs.declared.GlobalRead.{GlobalRead}
 
 -- the value v in the field of the number k
@@ -54,26 +50,26 @@ stored_in w k v =
 
 -- a line's value in its field
 unfoldable pub with_line : Global → Entry → Global
-with_line g x = stored g (field_index global_fields x.name) (value_of (outcome.Read (cursor 0)) x.value)
+with_line g x = stored g (field_index global_fields x.name) (value_of x.value)
 
-abbrev pub made : Verdict → Global → GlobalRead
+abbrev pub made : Result ⊤ Refusal → Global → GlobalRead
 made v g = record { verdict = v; global = g }
 
 abbrev pub refused_with : Refusal → GlobalRead
-refused_with r = made (verdict.Refused r) empty_global
+refused_with r = made (Err r) empty_global
 
 -- a field is missing (9); a count passes its limit (12)
 unfoldable pub judged : List Bool → Global → GlobalRead
 judged m g =
     cond (any_missing m 8) (refused_with refusal.Field)
     (cond (ltb 8 g.stream_type_count) (refused_with refusal.Limit)
-    (cond (ltb 32 g.gv_off_context_count) (refused_with refusal.Limit) (made verdict.Accepted g)))
+    (cond (ltb 32 g.gv_off_context_count) (refused_with refusal.Limit) (made (Ok tt) g)))
 
 -- the same out of the words of the record
-unfoldable pub judged_in : List Bool → List ℕ → Verdict
+unfoldable pub judged_in : List Bool → List ℕ → Result ⊤ Refusal
 judged_in m w =
-    cond (any_missing m 8) (verdict.Refused refusal.Field)
-    (cond (ltb 8 (word_at w 22)) (verdict.Refused refusal.Limit) (cond (ltb 32 (word_at w 91)) (verdict.Refused refusal.Limit) verdict.Accepted))
+    cond (any_missing m 8) (Err refusal.Field)
+    (cond (ltb 8 (word_at w 22)) (Err refusal.Limit) (cond (ltb 32 (word_at w 91)) (Err refusal.Limit) (Ok tt)))
 
 abbrev pub global_in : Lines → GlobalRead
 global_in (whole m xs) = judged m (kept with_line empty_global xs)

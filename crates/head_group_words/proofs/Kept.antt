@@ -9,11 +9,11 @@ use borrow.Author.Tests.{lt-ltb, le-ltb, leb-false}
 use lib.Dec.{ltb, leb}
 use lib.ListN.{length, get_or, set, replicate, length-set, length-replicate, get_or-replicate}
 use lib.Seq.{sets, length-sets, get_or-set_same, get_or-set_other}
+use Rattle.std.specs.Prelude.{Ok, Err}
 use Rattle.written.specs.Bytes.{same}
 use Rattle.error.specs.declared.Refusal.TheVariants as refusal
 use Rattle.head_record.specs.Empty.{span, no_span}
 use Rattle.text_parts.specs.declared.Span.{Span}
-use Rattle.head_lines.specs.declared.Verdict.TheVariants as verdict
 use Rattle.head_words.specs.Words.{flat, Zeros, word_at, span_at}
 use Rattle.head_words.proofs.Items.{Stands, length-flat, flat_same, flat_around, stands_item, stands-laid, laid_inside, zeros-laid, stands_under}
 use Rattle.head_brackets.specs.Rows.{no_names, names_with, known_from, known_in}
@@ -199,8 +199,8 @@ module _ {A : Type 0} (g : Section A) where
     -- the limits, where words behind the groups were stored
     pub kept_judged : (u : List ℕ) (j : ℕ) (ws : List ℕ) → u ≡ sets w j ws → g.place + g.width * 8 ≤ j
         → (p m : ℕ) → p < g.width → (t : ℕ → Bool) → t 0 ≡ false → ((k : ℕ) → k < 8 → t (suc k) ≡ cond (ltb m (get_or (g.words_of (item g items k)) p 0)) true (t k))
-        → judged_in u (g.place + p) g.width m n ≡ cond (ltb 8 names.count) (verdict.Refused refusal.Limit) (cond (t 8) (verdict.Refused refusal.Limit) verdict.Accepted)
+        → judged_in u (g.place + p) g.width m n ≡ cond (ltb 8 names.count) (Err refusal.Limit) (cond (t 8) (Err refusal.Limit) (Ok tt))
     unfolding judged_in
     kept_judged u j ws e h p m o t z q =
-        ap₂ (λ (k : ℕ) (b : Bool). cond (ltb 8 k) (verdict.Refused refusal.Limit) (cond b (verdict.Refused refusal.Limit) verdict.Accepted)) x.count
+        ap₂ (λ (k : ℕ) (b : Bool). cond (ltb 8 k) (Err refusal.Limit) (cond b (Err refusal.Limit) (Ok tt))) x.count
         (many_laid g u items (rw e (stands_under w g.place (groups_words g items) j ws (omega (arith, long_words g items)) stands)) p m o t z q 8 (omega arith))

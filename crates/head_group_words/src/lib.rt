@@ -8,7 +8,6 @@ ghost use Rattle.text_parts.specs.Parts.{bytes_of};
 ghost use Rattle.head_group_words.specs.Groups.{names_at, judged_in};
 
 use error::Refusal;
-use head_lines::Verdict;
 use text_parts::{Span, same_part};
 
 // Whether one of the first n groups from `at` on has the bytes of x for its name, of the first 8.
@@ -16,8 +15,7 @@ pub fn known(s: &[u8], words: &[u64], at: usize, width: usize, n: usize, x: Span
     requires { (2 ≤ width) × (at + width * 8 ≤ length words.now) }
     ensures { result ≡ known_in s.now (names_at words.now at width) n (bytes_of s.now x) }
 {
-    let mut k = 0;
-    while k < n {
+    for k in 0..n {
         if k < 8 {
             let place = at + width * k;
             let name = Span {
@@ -28,25 +26,22 @@ pub fn known(s: &[u8], words: &[u64], at: usize, width: usize, n: usize, x: Span
                 return true;
             }
         }
-        k = k + 1;
     }
     false
 }
 
 // The limits on counts: n groups, and in each the list whose count stands at `at` for the first.
-pub fn judge(words: &[u64], at: usize, width: usize, limit: u64, n: usize) -> Verdict
+pub fn judge(words: &[u64], at: usize, width: usize, limit: u64, n: usize) -> Result<(), Refusal>
     requires { at + width * 7 < length words.now }
     ensures { result ≡ judged_in words.now at width limit n }
 {
     if 8 < n {
-        return Verdict::Refused(Refusal::Limit);
+        return Err(Refusal::Limit);
     }
-    let mut k = 8;
-    while 0 < k {
-        k = k - 1;
+    for k in (0..8).rev() {
         if limit < words[at + width * k] {
-            return Verdict::Refused(Refusal::Limit);
+            return Err(Refusal::Limit);
         }
     }
-    Verdict::Accepted
+    Ok(())
 }

@@ -6,40 +6,37 @@ use mathlib.Core.List.{List, [], ◌∷◌, ◌++◌}
 use Prim.Native.Nat.{ℕ, zero, suc, ◌-◌, ◌≤◌, ◌<◌}
 use native.Mathlib.Omega.{arith}
 use lib.ListN.{length}
+use Rattle.std.specs.Prelude.{Option, Some, None, Result, Ok, Err}
 use Rattle.written.specs.HeaderText.{Field, Entry}
 use Rattle.error.specs.declared.Refusal.{Refusal}
-use Rattle.head_de.specs.declared.Cursor.{Cursor}
+use Rattle.head_de.specs.Values.{cursor}
 use Rattle.head_fields.specs.Fields.{field_index}
 use Rattle.head_lines.specs.Lines.{Next, entry, end, wrong, line_at, line_in, marked, whole, faulty, onward, lines_from, unseen, lines_at, onward_read, read_from, lines_read, kept}
-use Rattle.head_de_lists.specs.declared.Outcome.TheVariants as outcome
 use Rattle.head_de_values.specs.Values.{value_of}
 use Rattle.head_lines.specs.declared.Line.{Line}
-use Rattle.head_lines.specs.declared.Step.{Step}
-use Rattle.head_lines.specs.declared.Step.TheVariants as step
 use Rattle.head_lines.proofs.Moves.{no, line_moves}
 
 -- ---- what a `Line` says
 
-abbrev place_of : Step → ℕ
-place_of (step.Read c) = c.at
-place_of step.End = 0
-place_of (step.Refused r) = 0
-
-pub record IsEntry (n : Next) (j : ℕ) : Type 0 where
+pub record IsEntry (T : List Field) (n : Next) (l : Line) : Type 0 where
   pub line : Entry
-  pub same : n ≡ entry line j
+  pub same : n ≡ entry line l.next.at
+  pub field : l.field ≡ field_index T line.name
+  pub value : l.value ≡ value_of line.value
 
-pub entry_of : (T : List Field) (n : Next) {c : Cursor} → (line_in T n).step ≡ step.Read c → IsEntry n c.at
-entry_of T (entry x j) e = record { line = x; same = ap (entry x) (ap place_of e) }
+pub entry_of : (T : List Field) (n : Next) {l : Line} → line_in T n ≡ Ok (Some l) → IsEntry T n l
+entry_of T (entry x j) {l} e =
+    let f : ◌≡◌ {A = Line} (record { field = field_index T x.name; value = value_of x.value; next = cursor j }) l = cc in
+    record { line = x; same = ap (λ (k : Line). entry x k.next.at) f; field = sym (ap (λ (k : Line). k.field) f); value = sym (ap (λ (k : Line). k.value) f) }
 entry_of T end e = no cc
 entry_of T (wrong r) e = no cc
 
-pub end_of : (T : List Field) (n : Next) → (line_in T n).step ≡ step.End → n ≡ end
+pub end_of : (T : List Field) (n : Next) → line_in T n ≡ Ok None → n ≡ end
 end_of T (entry x j) e = no cc
 end_of T end e = refl
 end_of T (wrong r) e = no cc
 
-pub wrong_of : (T : List Field) (n : Next) {q : Refusal} → (line_in T n).step ≡ step.Refused q → n ≡ wrong q
+pub wrong_of : (T : List Field) (n : Next) {q : Refusal} → line_in T n ≡ Err q → n ≡ wrong q
 wrong_of T (entry x j) e = no cc
 wrong_of T end e = no cc
 wrong_of T (wrong r) {q} e = let f : r ≡ q = cc in ap wrong f
@@ -87,21 +84,19 @@ module _ (T : List Field) (s : List ℕ) (i₀ : ℕ) where
         (record { fuel = g.fuel - 1; enough = omega (arith, g.enough, h.1); same = rw k (turn (entry x j) e); same_read = rw k (turn_read (entry x j) e) }, omega (arith, h.0, h.1))
 
 -- a turn that reads a line
-pub record Turned (T : List Field) (s : List ℕ) (i₀ : ℕ) (at : ℕ) (m : List Bool) (xs : List Entry) (l : Line) (c : Cursor) : Type 0 where
+pub record Turned (T : List Field) (s : List ℕ) (i₀ : ℕ) (at : ℕ) (m : List Bool) (xs : List Entry) (l : Line) : Type 0 where
   pub line : Entry
   pub field : l.field ≡ field_index T line.name
-  pub value : l.value ≡ value_of (outcome.Read c) line.value
-  pub going : Going T s i₀ c.at (marked (length T) m l.field) (xs ++ (line ∷ []))
-  pub less : length s - c.at < length s - at
+  pub value : l.value ≡ value_of line.value
+  pub going : Going T s i₀ l.next.at (marked (length T) m l.field) (xs ++ (line ∷ []))
+  pub less : length s - l.next.at < length s - at
 
-pub turned : (T : List Field) (s : List ℕ) (i₀ : ℕ) {at : ℕ} {m : List Bool} {xs : List Entry} {l : Line} {c : Cursor} → Going T s i₀ at m xs → l ≡ line_in T (line_at T m s at)
-    → l.step ≡ step.Read c → Turned T s i₀ at m xs l c
-turned T s i₀ {at} {m} {xs} {l} {c} g e f =
-    let i = entry_of T (line_at T m s at) (ap (λ (x : Line). x.step) (sym e) ∙ f) in
+pub turned : (T : List Field) (s : List ℕ) (i₀ : ℕ) {at : ℕ} {m : List Bool} {xs : List Entry} {r : Result (Option Line) Refusal} {l : Line} → Going T s i₀ at m xs → r ≡ line_in T (line_at T m s at)
+    → r ≡ Ok (Some l) → Turned T s i₀ at m xs l
+turned T s i₀ {at} {m} {xs} {r} {l} g e f =
+    let i = entry_of T (line_at T m s at) (sym e ∙ f) in
     let o = lines_on T s i₀ g i.same in
-    let h : l ≡ line_in T (entry i.line c.at) = e ∙ ap (line_in T) i.same in
-    let k : l.field ≡ field_index T i.line.name = ap (λ (x : Line). x.field) h in
-    record { line = i.line; field = k; value = ap (λ (x : Line). x.value) h; going = subst (λ (n : ℕ). Going T s i₀ c.at (marked (length T) m n) (xs ++ (i.line ∷ []))) (sym k) o.0; less = o.1 }
+    record { line = i.line; field = i.field; value = i.value; going = subst (λ (n : ℕ). Going T s i₀ l.next.at (marked (length T) m n) (xs ++ (i.line ∷ []))) (sym i.field) o.0; less = o.1 }
 
 -- where none is refused, they are the lines
 module _ (T : List Field) (s : List ℕ) {n : List Bool} {ys : List Entry} where

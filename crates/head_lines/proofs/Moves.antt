@@ -7,46 +7,46 @@ use native.Mathlib.Omega.{arith}
 use borrow.Author.Tests.{eqb-true}
 use lib.Dec.{eqb}
 use lib.ListN.{length}
-use Rattle.written.specs.Bytes.{newline, colon, is_newline, byte_at, part}
+use Rattle.std.specs.Prelude.{Option, Some, None, Result, Ok, Err}
+use Rattle.written.specs.Bytes.{newline, colon, is_newline, byte_at}
 use Rattle.written.specs.HeaderText.{Kind, Value, Field, kind_of, Entry}
 use Rattle.laws.specs.Runs.{stop}
 use Rattle.laws.proofs.Runs.{stop_from, byte_in}
+use Rattle.error.specs.declared.Refusal.{Refusal}
 use Rattle.error.specs.declared.Refusal.TheVariants as refusal
+use Rattle.text_parts.specs.declared.Span.{Span}
+use Rattle.text_parts.specs.Parts.{bytes_of}
 use Rattle.head_de.specs.Values.{ends_at, text_at}
 use Rattle.head_de.specs.Readings.{Reading, read, refused, of_text}
-use Rattle.head_de.specs.declared.Cursor.{Cursor}
-use Rattle.head_de.specs.declared.Text.{Text}
-use Rattle.head_de.specs.declared.Text.TheVariants as text
+use Rattle.head_de.specs.declared.Read.{Read}
 use Rattle.head_de.proofs.Moves.{behind, read_moves, text_moves}
 use Rattle.head_de_values.specs.Values.{read_at}
 use Rattle.head_de_values.proofs.Moves.{value_moves}
 use Rattle.head_fields.specs.Fields.{field_index}
-use Rattle.head_lines.specs.Lines.{key_of, key_at, ended_of, line_value_at, stood_at, entry, wrong, entry_of, keyed_at, line_of, line_at}
-use Rattle.head_lines.specs.declared.Key.{Key}
-use Rattle.head_lines.specs.declared.Key.TheVariants as key
+use Rattle.head_lines.specs.Lines.{some_of, key_at, ended_of, line_value_at, stood_at, entry, wrong, entry_of, keyed_at, behind_key, line_of, line_at}
 
 pub no : {A : Type 0} → ◌≡◌ {A = ℕ} 0 1 → A
 no e = absurd (omega arith)
 
 -- ---- the key
 
-abbrev key_end : ℕ → Key → ℕ
-key_end i (key.Read a n c) = c.at
-key_end i key.End = i
-key_end i (key.Refused r) = i
+abbrev key_end : ℕ → Result (Option (Read Span)) Refusal → ℕ
+key_end i (Ok (Some x)) = x.next.at
+key_end i (Ok None) = i
+key_end i (Err r) = i
 
-key_of_lem : (k : ℕ) (t : Text) → k ≤ behind k (of_text t) → k ≤ key_end k (key_of t)
-key_of_lem k (text.Read a n c) h = h
-key_of_lem k (text.Refused r) h = omega arith
+key_of_lem : (k : ℕ) (t : Result (Read Span) Refusal) → k ≤ behind k (of_text t) → k ≤ key_end k (some_of t)
+key_of_lem k (Ok x) h = h
+key_of_lem k (Err r) h = omega arith
 
-pub key_moves : (s : List ℕ) (i : ℕ) {a n : ℕ} {c : Cursor} → key_at s i ≡ key.Read a n c → i ≤ c.at
+pub key_moves : (s : List ℕ) (i : ℕ) {x : Read Span} → key_at s i ≡ Ok (Some x) → i ≤ x.next.at
 unfolding key_at
-key_moves s i {a} {n} {c} e = let h = rw e at (go (eqb (byte_at s k) 256)) in omega (arith, stop_from is_newline s i)
+key_moves s i {x} e = let h = rw e at (go (eqb (byte_at s k) 256)) in omega (arith, stop_from is_newline s i)
   where
     k : ℕ
     k = stop is_newline s i
 
-    go : (t : Bool) → k ≤ key_end k (cond t key.End (key_of (text_at (newline ∷ colon ∷ []) s k)))
+    go : (t : Bool) → k ≤ key_end k (cond t (Ok None) (some_of (text_at (newline ∷ colon ∷ []) s k)))
     go true = omega arith
     go false = key_of_lem k (text_at (newline ∷ colon ∷ []) s k) (text_moves (newline ∷ colon ∷ []) s k).moves
 
@@ -83,10 +83,10 @@ line_moves T m s i {x} {j} e = go (key_at s i) refl e
     keyed a w k true g = no cc
     keyed a w k false g = value a w k (line_value_at s k (kind_of T w)) refl g
 
-    at : (a n : ℕ) (c : Cursor) → i ≤ c.at → keyed_at T m a (part s a n) (line_value_at s c.at (kind_of T (part s a n))) ≡ entry x j → (i < length s) × (i < j)
-    at a n c h g = let o = keyed a (part s a n) c.at (stood_at m (field_index T (part s a n))) g in (omega (arith, o.0), omega (arith, o.1))
+    at : (y : Read Span) → i ≤ y.next.at → behind_key T m s y ≡ entry x j → (i < length s) × (i < j)
+    at y h g = let o = keyed y.value.start (bytes_of s y.value) y.next.at (stood_at m (field_index T (bytes_of s y.value))) g in (omega (arith, o.0), omega (arith, o.1))
 
-    go : (d : Key) → key_at s i ≡ d → line_of T m s d ≡ entry x j → (i < length s) × (i < j)
-    go (key.Read a n c) f g = at a n c (key_moves s i f) g
-    go key.End f g = no cc
-    go (key.Refused r) f g = no cc
+    go : (d : Result (Option (Read Span)) Refusal) → key_at s i ≡ d → line_of T m s d ≡ entry x j → (i < length s) × (i < j)
+    go (Ok (Some y)) f g = at y (key_moves s i f) g
+    go (Ok None) f g = no cc
+    go (Err r) f g = no cc

@@ -8,6 +8,7 @@ use native.Mathlib.Omega.{arith}
 use borrow.Author.Tests.{not-true}
 use lib.Dec.{eqb}
 use lib.ListN.{length, get_or}
+use Rattle.std.specs.Prelude.{None, Result, Ok, Err}
 use Rattle.written.specs.Bytes.{newline, colon, is_newline, byte_at, At, Each, Ends, over, met, part}
 use Rattle.written.specs.HeaderText.{Text, Value, Reads, Field, kind_of, Entry, values_of, Distinct, Key, NextLine, Many, none, Section}
 use Rattle.written.specs.Faults.{NoText, Unreadable, Repeats, NoValue, NoLine, NoSection}
@@ -18,16 +19,15 @@ use Rattle.written_total.proofs.Total.{snoc, distinct_more}
 use Rattle.error.specs.Numbers as error
 use Rattle.error.specs.declared.Refusal.{Refusal}
 use Rattle.error.specs.declared.Refusal.TheVariants as refusal
+use Rattle.text_parts.specs.declared.Span.{Span}
 use Rattle.head_de.specs.Values.{ends_at, text_at}
 use Rattle.head_de.specs.Readings.{Reading, read, refused, of_text}
-use Rattle.head_de.specs.declared.Text as deText
-use Rattle.head_de.specs.declared.Text.TheVariants as text
+use Rattle.head_de.specs.declared.Read.{Read}
 use Rattle.head_de.proofs.Sound.{Answers, right, wrong as fault, Bytes, at_byte, not_at, at_end, before_end, ends_so, ends_not, text_sound}
 use Rattle.head_de_values.specs.Values.{read_at}
 use Rattle.head_de_values.proofs.Sound.{around_newline, newline_ends, ends_newline, value_sound}
 use Rattle.head_fields.specs.Fields.{field_index}
-use Rattle.head_lines.specs.Lines.{key_of, key_at, ended_of, line_value_at, stood_at, Next, entry, end, wrong, entry_of, keyed_at, line_of, line_at, marked, Lines, whole, faulty, onward, lines_from, lines_at}
-use Rattle.head_lines.specs.declared.Key.TheVariants as key
+use Rattle.head_lines.specs.Lines.{some_of, key_at, ended_of, line_value_at, stood_at, Next, entry, end, wrong, entry_of, keyed_at, line_of, line_at, marked, Lines, whole, faulty, onward, lines_from, lines_at}
 use Rattle.head_lines.proofs.Marks.{Marks, marks_none, stood_repeats, new_repeats, marks_more}
 
 -- ---- the value behind a key
@@ -92,11 +92,11 @@ line_sound T {m} {xs} marks {s} b i h = start (eqb (byte_at s k) 256) refl
     keyed l a n j p y q true e = no_line k blank (here l) (NoLine.repeated q (stood_repeats marks (part s a n) e))
     keyed l a n j p y q false e = valued l a n j p q (new_repeats marks (part s a n) e) (line_value_at s j (kind_of T (part s a n))) (behind_key T b (part s a n) j y)
 
-    named : k < length s → (t : deText.Text) → Answers s k (Text (newline ∷ colon ∷ []) s k) (NoText s k) (of_text t) → LineAnswers T xs s i (line_of T m s (key_of t))
-    named l (text.Read a n c) (right p q g) = keyed l a n c.at p q (record { len = n; string = g; bytes_of = refl }) (stood_at m (field_index T (part s a n))) refl
-    named l (text.Refused r) (fault g) = no_line k blank (here l) (NoLine.key g)
+    named : k < length s → (t : Result (Read Span) Refusal) → Answers s k (Text (newline ∷ colon ∷ []) s k) (NoText s k) (of_text t) → LineAnswers T xs s i (line_of T m s (some_of t))
+    named l (Ok x) (right p q g) = keyed l x.value.start x.value.len x.next.at p q (record { len = x.value.len; string = g; bytes_of = refl }) (stood_at m (field_index T (part s x.value.start x.value.len))) refl
+    named l (Err r) (fault g) = no_line k blank (here l) (NoLine.key g)
 
-    start : (t : Bool) → eqb (byte_at s k) 256 ≡ t → LineAnswers T xs s i (line_of T m s (cond t key.End (key_of (text_at (newline ∷ colon ∷ []) s k))))
+    start : (t : Bool) → eqb (byte_at s k) 256 ≡ t → LineAnswers T xs s i (line_of T m s (cond t (Ok None) (some_of (text_at (newline ∷ colon ∷ []) s k))))
     start true e = no_more (subst (λ (n : ℕ). Each is_newline s i n) (at_end b k blank.inside e) blank)
     start false e = named (before_end s k e) (text_at (newline ∷ colon ∷ []) s k) (text_sound (newline ∷ colon ∷ []) s k blank.inside)
 

@@ -1,34 +1,32 @@
 -- What reading the lines of a section answers, in the words of `written`, and how a line stands in `Line`.
-use Rattle.std.specs.Prelude.{Bool, true, false, cond, List, [], ◌∷◌, ◌++◌, ℕ, zero, suc, ◌+◌, eqb, ltb, length, get_or, set}
-use Rattle.written.specs.Bytes.{newline, colon, is_newline, byte_at, part}
+use Rattle.std.specs.Prelude.{Bool, true, false, cond, List, [], ◌∷◌, ◌++◌, ℕ, zero, suc, ◌+◌, eqb, ltb, length, get_or, set, Option, Some, None, Result, Ok, Err}
+use Rattle.written.specs.Bytes.{newline, colon, is_newline, byte_at}
 use Rattle.written.specs.HeaderText.{Kind, Value, Field, kind_of, Entry}
 use Rattle.laws.specs.Runs.{stop}
 use Rattle.error.specs.declared.Refusal.{Refusal}
 use Rattle.error.specs.declared.Refusal.TheVariants as refusal
+use Rattle.text_parts.specs.declared.Span.{Span}
+use Rattle.text_parts.specs.Parts.{bytes_of}
 use Rattle.head_de.specs.Values.{cursor, ends_at, text_at}
 use Rattle.head_de.specs.Readings.{Reading, read, refused}
-use Rattle.head_de.specs.declared.Text.{Text}
-use Rattle.head_de.specs.declared.Text.TheVariants as text
-use Rattle.head_de_lists.specs.declared.Outcome.TheVariants as outcome
-use Rattle.head_de_values.specs.Values.{read_at, blank_of, value_of}
+use Rattle.head_de.specs.declared.Read.{Read}
+use Rattle.head_de_values.specs.Values.{read_at, value_of}
 use Rattle.head_fields.specs.Fields.{field_index}
-use Rattle.head_lines.specs.declared.Key.{Key}
-use Rattle.head_lines.specs.declared.Key.TheVariants as key
-use Rattle.head_lines.specs.declared.Step.TheVariants as step
 use Rattle.head_lines.specs.declared.Line.{Line}
 
 -- ---- a key
 
-abbrev pub key_of : Text → Key
-key_of (text.Read i n c) = key.Read i n c
-key_of (text.Refused r) = key.Refused r
+-- what is read stands; or the refusal
+abbrev pub some_of : {A : Type 0} → Result A Refusal → Result (Option A) Refusal
+some_of (Ok a) = Ok (Some a)
+some_of (Err r) = Err r
 
--- the key at k, where no newline stands
-abbrev pub key_from : List ℕ → ℕ → Key
-key_from s k = cond (eqb (byte_at s k) 256) key.End (key_of (text_at (newline ∷ colon ∷ []) s k))
+-- the key at k, where no newline stands; none at the end
+abbrev pub key_from : List ℕ → ℕ → Result (Option (Read Span)) Refusal
+key_from s k = cond (eqb (byte_at s k) 256) (Ok None) (some_of (text_at (newline ∷ colon ∷ []) s k))
 
 -- blank lines are passed over
-unfoldable pub key_at : List ℕ → ℕ → Key
+unfoldable pub key_at : List ℕ → ℕ → Result (Option (Read Span)) Refusal
 key_at s i = key_from s (stop is_newline s i)
 
 -- ---- the value behind it
@@ -64,19 +62,23 @@ stood_at m k = cond (ltb k 10) (get_or m k false) false
 unfoldable pub keyed_at : List Field → List Bool → ℕ → List ℕ → Reading Value → Next
 keyed_at T m at w x = cond (stood_at m (field_index T w)) (wrong refusal.Field) (entry_of at w x)
 
-abbrev pub line_of : List Field → List Bool → List ℕ → Key → Next
-line_of T m s (key.Read at n c) = keyed_at T m at (part s at n) (line_value_at s c.at (kind_of T (part s at n)))
-line_of T m s key.End = end
-line_of T m s (key.Refused r) = wrong r
+-- behind its key
+abbrev pub behind_key : List Field → List Bool → List ℕ → Read Span → Next
+behind_key T m s x = keyed_at T m x.value.start (bytes_of s x.value) (line_value_at s x.next.at (kind_of T (bytes_of s x.value)))
+
+abbrev pub line_of : List Field → List Bool → List ℕ → Result (Option (Read Span)) Refusal → Next
+line_of T m s (Ok (Some x)) = behind_key T m s x
+line_of T m s (Ok None) = end
+line_of T m s (Err r) = wrong r
 
 unfoldable pub line_at : List Field → List Bool → List ℕ → ℕ → Next
 line_at T m s i = line_of T m s (key_at s i)
 
 -- how it stands in `Line`
-abbrev pub line_in : List Field → Next → Line
-line_in T (entry x j) = record { step = step.Read (cursor j); field = field_index T x.name; value = value_of (outcome.Read (cursor j)) x.value }
-line_in T end = record { step = step.End; field = 0; value = blank_of (outcome.Read (cursor 0)) }
-line_in T (wrong r) = record { step = step.Refused r; field = 0; value = blank_of (outcome.Refused r) }
+abbrev pub line_in : List Field → Next → Result (Option Line) Refusal
+line_in T (entry x j) = Ok (Some (record { field = field_index T x.name; value = value_of x.value; next = cursor j }))
+line_in T end = Ok None
+line_in T (wrong r) = Err r
 
 -- ---- the lines of a section
 

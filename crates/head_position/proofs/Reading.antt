@@ -3,6 +3,7 @@ use mathlib.Core.Path.{◌≡◌, refl, sym, ap, ◌∙◌}
 use mathlib.Core.Bool.{Bool, true, false}
 use mathlib.Core.List.{List}
 use Prim.Native.Nat.{ℕ}
+use Rattle.std.specs.Prelude.{Result, Ok, Err}
 use Rattle.written.specs.Bytes.{same}
 use Rattle.written.specs.Record.{position_group}
 use Rattle.error.specs.declared.Refusal.{Refusal}
@@ -10,9 +11,8 @@ use Rattle.text_parts.specs.declared.Span.{Span}
 use Rattle.head_record.specs.declared.PositionData.{PositionData}
 use Rattle.head_words.specs.Words.{position_words}
 use Rattle.head_de.specs.declared.Cursor.{Cursor}
-use Rattle.head_lines.specs.Lines.{line_in, marked, unseen}
+use Rattle.head_lines.specs.Lines.{some_of, line_in, marked, unseen}
 use Rattle.head_lines.specs.declared.Line.{Line}
-use Rattle.head_lines.specs.declared.Step.TheVariants as step
 use Rattle.head_brackets.specs.Rows.{row_at, rows_at, row_line_at, Going, over, last_of, on, stop_with}
 use Rattle.text_parts.specs.Parts.{bytes_of}
 use Rattle.head_brackets.specs.declared.Row.{Row}
@@ -20,7 +20,7 @@ use Rattle.head_brackets.specs.declared.RowAt.TheVariants as found
 use Rattle.head_brackets.proofs.Through.{Through, Ended, through_none, through_line, through_row, through_stop, through_end}
 use Rattle.head_position.specs.Group.{stored, stored_in, empty_of, named, with_row}
 use Rattle.head_position.specs.declared.Group.{Group}
-use Rattle.head_position.proofs.Stored.{stored_words, of_group, of_other, group, line_taken, line_none, line_refused}
+use Rattle.head_position.proofs.Stored.{stored_words, of_group, of_other, group, line_taken, line_refused}
 
 module _ (s : List ℕ) (start : ℕ) (name : Span) where
   pub record Reached (item : List ℕ) (at : ℕ) (seen : List Bool) : Type 0 where
@@ -55,20 +55,17 @@ module _ (s : List ℕ) (start : ℕ) (name : Span) where
       reached_other f = same_group (of_other s (bytes_of s name) here r f)
 
       -- one of the group
-      module _ (f : same (bytes_of s r.name) (bytes_of s name) ≡ true) (l : Line) (q : l ≡ line_in position_group (row_line_at position_group seen s r)) where
-        pub reached_taken : {c : Cursor} → l.step ≡ step.Read c → (m : List Bool) → m ≡ marked 5 seen l.field → (t : List ℕ) → t ≡ stored_in item l.field l.value → Reached t r.end m
-        reached_taken h m p t u =
+      module _ (f : same (bytes_of s r.name) (bytes_of s name) ≡ true) {x : Result Line Refusal} (q : some_of x ≡ line_in position_group (row_line_at position_group seen s r)) where
+        pub reached_taken : {l : Line} → x ≡ Ok l → (m : List Bool) → m ≡ marked 5 seen l.field → (t : List ℕ) → t ≡ stored_in item l.field l.value → Reached t r.end m
+        reached_taken {l} h m p t u =
             record {
               fields = stored g.fields l.field l.value;
               words = u ∙ ap (λ (w : List ℕ). stored_in w l.field l.value) g.words ∙ stored_words g.fields l.field l.value;
-              through = through_row _ _ _ _ g.through e (of_group s (bytes_of s name) here r f ∙ line_taken here (row_line_at position_group seen s r) l q h p refl);
+              through = through_row _ _ _ _ g.through e (of_group s (bytes_of s name) here r f ∙ line_taken here (row_line_at position_group seen s r) q h p refl);
             }
 
-        pub reached_no_line : l.step ≡ step.End → Reached item r.end seen
-        reached_no_line h = same_group (of_group s (bytes_of s name) here r f ∙ line_none here (row_line_at position_group seen s r) l q h)
-
-        pub broken : {x : Refusal} → l.step ≡ step.Refused x → Answered item (stop_with x)
-        broken h = answered (through_stop _ _ _ _ g.through e (of_group s (bytes_of s name) here r f ∙ line_refused here (row_line_at position_group seen s r) l q h))
+        pub broken : {y : Refusal} → x ≡ Err y → Answered item (stop_with y)
+        broken h = answered (through_stop _ _ _ _ g.through e (of_group s (bytes_of s name) here r f ∙ line_refused here (row_line_at position_group seen s r) q h))
 
     -- a line of no group
     pub reached_line : {c : Cursor} → row_at s at ≡ found.Other c → Reached item c.at seen

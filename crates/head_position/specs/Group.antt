@@ -1,22 +1,19 @@
 -- What the rows of a group make of `PositionData`.
-use Rattle.std.specs.Prelude.{cond, List, [], ◌∷◌, ◌++◌, ℕ, eqb}
+use Rattle.std.specs.Prelude.{cond, List, [], ◌∷◌, ◌++◌, ℕ, eqb, Result, Ok, Err, ⊤}
 use Rattle.std.proofs.lemmas.List.Edits.{sets}
 use Rattle.written.specs.Bytes.{same}
 use Rattle.written.specs.HeaderText.{Entry}
 use Rattle.written.specs.Record.{position_group}
+use Rattle.error.specs.declared.Refusal.{Refusal}
 use Rattle.error.specs.declared.Refusal.TheVariants as refusal
 use Rattle.head_record.specs.Empty.{empty_position}
 use Rattle.text_parts.specs.declared.Span.{Span}
 use Rattle.head_words.specs.Words.{flag_word, range_words, ranges_words}
 use Rattle.head_record.specs.declared.PositionData.{PositionData}
-use Rattle.head_de.specs.Values.{cursor}
-use Rattle.head_de_lists.specs.declared.Outcome.TheVariants as outcome
 use Rattle.head_de_values.specs.Values.{value_of}
 use Rattle.head_de_values.specs.declared.Value.{Value}
 use Rattle.head_fields.specs.Fields.{field_index, any_missing}
 use Rattle.head_lines.specs.Lines.{Next, entry, end, wrong, marked, unseen}
-use Rattle.head_lines.specs.declared.Verdict.{Verdict}
-use Rattle.head_lines.specs.declared.Verdict.TheVariants as verdict
 use Rattle.head_brackets.specs.Rows.{row_line_at, Going, on, stop_with}
 use Rattle.text_parts.specs.Parts.{bytes_of}
 use Rattle.head_brackets.specs.declared.Row.{Row}
@@ -49,7 +46,7 @@ stored_in t k v =
 
 -- a line's value in its field
 unfoldable pub with_line : PositionData → Entry → PositionData
-with_line d x = stored d (field_index position_group x.name) (value_of (outcome.Read (cursor 0)) x.value)
+with_line d x = stored d (field_index position_group x.name) (value_of x.value)
 
 -- a group of that name with no row yet
 abbrev pub empty_of : Span → PositionData
@@ -79,13 +76,13 @@ after_line g (wrong r) = stop_with r
 unfoldable pub with_row : List ℕ → List ℕ → Group → Row → Going Group
 with_row s w g r = cond (same (bytes_of s r.name) w) (after_line g (row_line_at position_group g.seen s r)) (on g)
 
-abbrev pub made : Verdict → PositionData → GroupRead
+abbrev pub made : Result ⊤ Refusal → PositionData → GroupRead
 made v d = record { verdict = v; item = d }
 
 -- a field is missing (9)
 unfoldable pub judged : Group → GroupRead
-judged g = cond (any_missing g.seen 3) (made (verdict.Refused refusal.Field) empty_position) (made verdict.Accepted g.item)
+judged g = cond (any_missing g.seen 3) (made (Err refusal.Field) empty_position) (made (Ok tt) g.item)
 
 abbrev pub group_in : Going Group → GroupRead
 group_in (on g) = judged g
-group_in (stop_with r) = made (verdict.Refused r) empty_position
+group_in (stop_with r) = made (Err r) empty_position

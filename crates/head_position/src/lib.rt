@@ -13,7 +13,7 @@ use head_brackets::{RowAt, row_at, row_line};
 use head_de::Cursor;
 use head_de_values::Value;
 use head_fields::{Table, missing};
-use head_lines::{Step, Verdict, mark};
+use head_lines::mark;
 use head_put::{put_range, put_ranges, put_span, put1};
 use head_record::PositionData;
 use head_words::{
@@ -28,10 +28,10 @@ pub struct Group {
     pub item: PositionData,
 }
 
-// What a group says, as contracts speak of it; where it is refused, the empty struct.
+// What a group says, as contracts speak of it; where it is refused, the empty struct. No Result: `with_group` names the parts, whatever the verdict.
 #[derive(Clone, Copy)]
 pub struct GroupRead {
-    pub verdict: Verdict,
+    pub verdict: Result<(), Refusal>,
     pub item: PositionData,
 }
 
@@ -42,27 +42,17 @@ fn store(item: &mut [u64], field: usize, v: Value)
 {
     match field {
         0 => {
-            let l = v.ranges;
-            let x = l.items;
-            put_ranges(item, STREAM_WIN, x);
-            put1(item, STREAM_WIN_COUNT, l.count as u64);
+            put_ranges(item, STREAM_WIN, v.ranges.items);
+            put1(item, STREAM_WIN_COUNT, v.ranges.count as u64);
         }
-        1 => {
-            let x = v.range;
-            put_range(item, STREAM_PDF, x);
-        }
-        2 => {
-            let x = v.range;
-            put_range(item, STREAM_TREE, x);
-        }
+        1 => put_range(item, STREAM_PDF, v.range),
+        2 => put_range(item, STREAM_TREE, v.range),
         3 => {
-            let x = v.range;
-            put_range(item, GV_PDF, x);
+            put_range(item, GV_PDF, v.range);
             put1(item, HAS_GV_PDF, v.flag as u64);
         }
         4 => {
-            let x = v.range;
-            put_range(item, GV_TREE, x);
+            put_range(item, GV_TREE, v.range);
             put1(item, HAS_GV_TREE, v.flag as u64);
         }
         _ => {}
@@ -70,7 +60,7 @@ fn store(item: &mut [u64], field: usize, v: Value)
 }
 
 // The group of that name into its words, out of the rows of the section that starts at `start`; where it is refused, what stood before the fault.
-pub fn read_group(s: &[u8], start: usize, name: Span, item: &mut [u64]) -> Verdict
+pub fn read_group(s: &[u8], start: usize, name: Span, item: &mut [u64]) -> Result<(), Refusal>
     requires { item.old ≡ replicate 29 0 }
     ensures { (result ≡ (group_in (over (with_row s.now (bytes_of s.now name)) (named name) (rows_at s.now start))).verdict) × (item.new ≡ position_words (last_of (with_row s.now (bytes_of s.now name)) (named name) (rows_at s.now start)).item) }
 {
@@ -81,23 +71,11 @@ pub fn read_group(s: &[u8], start: usize, name: Span, item: &mut [u64]) -> Verdi
         match row_at(at, s) {
             RowAt::Found(row) => {
                 at = Cursor { at: row.end };
-                let of = row.name;
-                if same_part(s, of, name) {
-                    let l = row_line(s, row, Table::PositionGroup, seen);
-                    let step = l.step;
-                    match step {
-                        Step::Read(_) => {
-                            let field = l.field;
-                            let value = l.value;
-                            let with_field = mark(seen, field, 5);
-                            seen = with_field;
-                            store(item, field, value);
-                        }
-                        Step::End => {}
-                        Step::Refused(refusal) => {
-                            return Verdict::Refused(refusal);
-                        }
-                    }
+                if same_part(s, row.name, name) {
+                    let line = row_line(s, row, Table::PositionGroup, seen)?;
+                    let with_field = mark(seen, line.field, 5);
+                    seen = with_field;
+                    store(item, line.field, line.value);
                 }
             }
             RowAt::Other(next) => {
@@ -105,9 +83,9 @@ pub fn read_group(s: &[u8], start: usize, name: Span, item: &mut [u64]) -> Verdi
             }
             RowAt::End => {
                 if missing(seen, 3) {
-                    return Verdict::Refused(Refusal::Field);
+                    return Err(Refusal::Field);
                 }
-                return Verdict::Accepted;
+                return Ok(());
             }
         }
     }

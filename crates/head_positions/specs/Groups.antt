@@ -1,13 +1,12 @@
 -- What the rows of [POSITION] make of its groups.
-use Rattle.std.specs.Prelude.{Bool, true, false, cond, List, [], ◌∷◌, ℕ, zero, suc, ltb, get_or, set, replicate}
+use Rattle.std.specs.Prelude.{Bool, true, false, cond, List, [], ◌∷◌, ℕ, zero, suc, ltb, get_or, set, replicate, Result, Ok, Err, ⊤}
 use Rattle.std.proofs.lemmas.List.Edits.{sets}
+use Rattle.error.specs.declared.Refusal.{Refusal}
 use Rattle.error.specs.declared.Refusal.TheVariants as refusal
 use Rattle.head_record.specs.Empty.{empty_position, no_span, no_range}
 use Rattle.text_parts.specs.declared.Span.{Span}
 use Rattle.head_record.specs.declared.PositionData.{PositionData}
 use Rattle.head_words.specs.Words.{positions_words}
-use Rattle.head_lines.specs.declared.Verdict.{Verdict}
-use Rattle.head_lines.specs.declared.Verdict.TheVariants as verdict
 use Rattle.head_brackets.specs.Rows.{rows_at, Going, on, stop_with, over, no_names, names_with, known_in}
 use Rattle.text_parts.specs.Parts.{bytes_of}
 use Rattle.head_brackets.specs.declared.Row.{Row}
@@ -36,25 +35,25 @@ many_over t (suc n) = cond (ltb n 8) (cond (ltb 8 (get_or t n nothing).stream_wi
 abbrev pub group_of : List ℕ → ℕ → Span → GroupRead
 group_of s i x = group_in (over (with_row s (bytes_of s x)) (named x) (rows_at s i))
 
-abbrev pub after_group : Positions → Verdict → PositionData → Going Positions
-after_group x verdict.Accepted d = on (with_positions x d)
-after_group x (verdict.Refused r) d = stop_with r
+abbrev pub after_group : Positions → Result ⊤ Refusal → PositionData → Going Positions
+after_group x (Ok _) d = on (with_positions x d)
+after_group x (Err r) d = stop_with r
 
 -- the groups with that of a row, unless it is known
 unfoldable pub with_group : List ℕ → ℕ → Positions → Row → Going Positions
 with_group s i x r =
     cond (known_in s x.names.items x.names.count (bytes_of s r.name)) (on x) (after_group x (group_of s i r.name).verdict (group_of s i r.name).item)
 
-abbrev pub made : Verdict → Positions → GroupsRead
+abbrev pub made : Result ⊤ Refusal → Positions → GroupsRead
 made v x = record { verdict = v; positions = x }
 
 -- a count passes its limit (12)
 unfoldable pub judged : Positions → GroupsRead
-judged x = cond (ltb 8 x.names.count) (made (verdict.Refused refusal.Limit) no_positions) (cond (many_over x.items 8) (made (verdict.Refused refusal.Limit) no_positions) (made verdict.Accepted x))
+judged x = cond (ltb 8 x.names.count) (made (Err refusal.Limit) no_positions) (cond (many_over x.items 8) (made (Err refusal.Limit) no_positions) (made (Ok tt) x))
 
 abbrev pub groups_in : Going Positions → GroupsRead
 groups_in (on x) = judged x
-groups_in (stop_with r) = made (verdict.Refused r) no_positions
+groups_in (stop_with r) = made (Err r) no_positions
 
 -- ---- the words of the record
 

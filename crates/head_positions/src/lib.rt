@@ -7,10 +7,10 @@ ghost use Rattle.head_brackets.specs.Rows.{rows_at, over, last_of};
 ghost use Rattle.head_words.specs.Words.{Zeros};
 ghost use Rattle.head_positions.specs.Groups.{no_positions, with_group, groups_in, words_in};
 
+use error::Refusal;
 use head_brackets::{Names, RowAt, row_at};
 use head_de::Cursor;
 use head_group_words::{judge, known};
-use head_lines::Verdict;
 use head_position::read_group;
 use head_put::{put_all, put1};
 use head_record::PositionData;
@@ -23,16 +23,16 @@ pub struct Positions {
     pub items: [PositionData; 8],
 }
 
-// The groups, as contracts speak of them; where they are refused, none.
+// The groups, as contracts speak of them; where they are refused, none. No Result: `open_of` names the parts, whatever the verdict.
 #[derive(Clone, Copy)]
 pub struct GroupsRead {
-    pub verdict: Verdict,
+    pub verdict: Result<(), Refusal>,
     pub positions: Positions,
 }
 
 // The groups of the section whose text runs from `start` to the end of s, and whose lines are whole, into the words of the record; where one is refused,
 // those before it.
-pub fn read_groups(s: &[u8], start: usize, words: &mut [u64]) -> Verdict
+pub fn read_groups(s: &[u8], start: usize, words: &mut [u64]) -> Result<(), Refusal>
     requires { (645 ≤ length words.old) × Zeros words.old 412 232 }
     ensures { (result ≡ (groups_in (over (with_group s.now start) no_positions (rows_at s.now start))).verdict) × (words.new ≡ words_in words.old (over (with_group s.now start) no_positions (rows_at s.now start)) (last_of (with_group s.now start) no_positions (rows_at s.now start))) }
 {
@@ -46,18 +46,12 @@ pub fn read_groups(s: &[u8], start: usize, words: &mut [u64]) -> Verdict
                 if !known(s, words, POSITIONS, POSITION_WORDS, n, name) {
                     // A ninth is read for its faults alone.
                     let mut item: [u64; 29] = [0; 29];
-                    match read_group(s, start, name, &mut item) {
-                        Verdict::Accepted => {
-                            if n < 8 {
-                                put_all(words, POSITIONS + POSITION_WORDS * n, &item);
-                                n = n + 1;
-                            } else {
-                                n = 9;
-                            }
-                        }
-                        Verdict::Refused(refusal) => {
-                            return Verdict::Refused(refusal);
-                        }
+                    read_group(s, start, name, &mut item)?;
+                    if n < 8 {
+                        put_all(words, POSITIONS + POSITION_WORDS * n, &item);
+                        n = n + 1;
+                    } else {
+                        n = 9;
                     }
                 }
             }

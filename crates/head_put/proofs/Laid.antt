@@ -1,43 +1,14 @@
--- Words copied one by one are stored as a whole; parts of a record laid one behind another are its words.
-use mathlib.Core.Path.{◌≡◌, refl, sym, ap, ap₂, ◌∙◌}
+-- Parts of a record laid one behind another are its words.
+use mathlib.Core.Path.{◌≡◌, ◌∙◌}
 use mathlib.Core.List.{List, [], ◌∷◌, ◌++◌}
-use Prim.Native.Nat.{ℕ, suc, ◌+◌, ◌≤◌, ◌<◌}
-use native.Mathlib.Numerals.{add-one}
+use Prim.Native.Nat.{ℕ, ◌+◌}
 use native.Mathlib.Omega.{arith}
-use lib.ListN.{length, get_or, set, drop, length-set, drop_of_length-le}
-use lib.Seq.{sets, drop-cons}
+use lib.ListN.{length}
+use lib.Seq.{sets}
 use Rattle.head_record.specs.declared.Header.{Header}
 use Rattle.head_words.specs.Words.{global_words, streams_words, positions_words, header_words}
 use Rattle.head_words.proofs.Items.{laid_before}
 use Rattle.head_words.proofs.Lengths.{length_global, length_streams, length_positions}
-
--- ---- words that are copied
-
--- the first k words of a list stand from i on, and the others stored behind them give the whole
-pub record Copying (xs : List ℕ) (i : ℕ) (t₀ t : List ℕ) (k : ℕ) : Type 0 where
-  pub long : length t ≡ length t₀
-  pub whole : sets t (i + k) (drop k xs) ≡ sets t₀ i xs
-
-module _ (xs : List ℕ) (i : ℕ) (t₀ : List ℕ) where
-  pub copying_none : Copying xs i t₀ t₀ 0
-  copying_none = record { long = refl; whole = ap (λ (j : ℕ). sets t₀ j xs) (omega arith) }
-
-  module _ (t : List ℕ) (k : ℕ) (c : Copying xs i t₀ t k) where
-    pub copying_more : k < length xs → Copying xs i t₀ (set t (i + k) (get_or xs k 0)) (k + 1)
-    copying_more h =
-        record {
-          long = length-set t (i + k) (get_or xs k 0) ∙ c.long;
-          whole =
-              ap₂ (λ (j m : ℕ). sets (set t (i + k) (get_or xs k 0)) j (drop m xs)) the_place (add-one k)
-              ∙ sym (ap (λ (l : List ℕ). sets t (i + k) l) (drop-cons xs k 0 h))
-              ∙ c.whole;
-        }
-      where
-        the_place : i + (k + 1) ≡ suc (i + k)
-        the_place = omega arith
-
-    pub copying_done : length xs ≤ k → t ≡ sets t₀ i xs
-    copying_done h = sym (ap (λ (l : List ℕ). sets t (i + k) l) (drop_of_length-le xs {i = k} h)) ∙ c.whole
 
 -- ---- the parts of a record; the law takes the words after each store
 

@@ -38,24 +38,20 @@ pub fn put_spans(words: &mut [u64], at: usize, items: [Span; 32], n: usize)
     requires { (n ≤ 32) × (at + 2 * n ≤ length words.old) }
     ensures { words.new ≡ sets words.old at (spans_words n items) }
 {
-    let mut k = 0;
-    while k < n {
+    for k in 0..n {
         let x = items[k];
         put2(words, at + 2 * k, x.start as u64, x.len as u64);
-        k = k + 1;
     }
 }
 
-// The ranges of STREAM_WIN.
+// The ranges of STREAM_WIN. Apart from `put_spans`: a trait for what takes two words, with its law and two impls, is longer than the loop.
 pub fn put_ranges(words: &mut [u64], at: usize, items: [Range; 8])
     requires { at + 16 ≤ length words.old }
     ensures { words.new ≡ sets words.old at (ranges_words 8 items) }
 {
-    let mut k = 0;
-    while k < 8 {
+    for k in 0..8 {
         let x = items[k];
         put2(words, at + 2 * k, x.from, x.to);
-        k = k + 1;
     }
 }
 
@@ -64,10 +60,5 @@ pub fn put_all(words: &mut [u64], at: usize, from: &[u64])
     requires { at + length from.now ≤ length words.old }
     ensures { words.new ≡ sets words.old at from.now }
 {
-    let n = from.len();
-    let mut k = 0;
-    while k < n {
-        words[at + k] = from[k];
-        k = k + 1;
-    }
+    words[at..at + from.len()].copy_from_slice(from);
 }

@@ -10,13 +10,14 @@ use borrow.Author.Tests.{ltb-true}
 use lib.Dec.{eqb, ltb}
 use lib.ListN.{length, get_or, drop, length-drop, drop_of_length-le}
 use lib.Seq.{drop-cons, get_or-drop}
+use Rattle.std.specs.Prelude.{None}
 use Rattle.written.specs.Bytes.{newline, bracket, byte_at, part}
 use Rattle.laws.proofs.Runs.{byte_is, byte_out}
 use Rattle.text_parts.proofs.Parts.{part_in}
 use Rattle.written_total.proofs.Total.{same_true}
 use Rattle.head_lines.proofs.Moves.{no as never}
-use Rattle.head_sections.specs.Split.{starts_at, break_in, break_here, break_at, text_to, section_at}
-use Rattle.head_sections.specs.declared.Section.TheVariants as section
+use Rattle.head_sections.specs.Split.{starts_at, break_in, break_here, break_at, text, text_to, section_at}
+use Rattle.head_sections.specs.declared.Section.{Section}
 
 -- the byte at a place, seen from a place before it
 pub byte_from : (s : List ℕ) (i k : ℕ) → byte_at (drop i s) k ≡ byte_at s (i + k)
@@ -55,14 +56,14 @@ starts_in s i w h e =
     omega (arith, part_in s i (length w) (omega arith))
 
 -- a section's text stands inside, before the "\n[" that ends it
-pub section_in : (s : List ℕ) (i : ℕ) (w : List ℕ) {a e : ℕ} → section_at s i w ≡ section.Text a e → (a ≤ e) × (e < length s)
+pub section_in : (s : List ℕ) (i : ℕ) (w : List ℕ) {a e : ℕ} → section_at s i w ≡ text a e → (a ≤ e) × (e < length s)
 unfolding section_at
 section_in s i w {a} {e} f = go (starts_at s i w) f
   where
-    to : (k b : ℕ) → k ≤ b → (t : Bool) → ltb b (length s) ≡ t → cond t (section.Text k b) section.NoSection ≡ section.Text a e → (a ≤ e) × (e < length s)
-    to k b h true g q = let x : k ≡ a = cc in let y : b ≡ e = cc in (omega arith, omega (arith, ltb-true b (length s) g))
+    to : (k b : ℕ) → k ≤ b → (t : Bool) → ltb b (length s) ≡ t → cond t (text k b) None ≡ text a e → (a ≤ e) × (e < length s)
+    to k b h true g q = let z : ◌≡◌ {A = Section} (record { start = k; end = b }) (record { start = a; end = e }) = cc in let x : k ≡ a = ap (λ (v : Section). v.start) z in let y : b ≡ e = ap (λ (v : Section). v.end) z in (omega arith, omega (arith, ltb-true b (length s) g))
     to k b h false g q = never cc
 
-    go : (t : Bool) → cond t (text_to s (i + length w) (break_at s (i + length w))) section.NoSection ≡ section.Text a e → (a ≤ e) × (e < length s)
+    go : (t : Bool) → cond t (text_to s (i + length w) (break_at s (i + length w))) None ≡ text a e → (a ≤ e) × (e < length s)
     go true q = to (i + length w) (break_at s (i + length w)) (break_from s (i + length w)) (ltb (break_at s (i + length w)) (length s)) refl q
     go false q = never cc

@@ -8,6 +8,7 @@ use borrow.Author.Tests.{eqb-true, lt-ltb, ltb-true}
 use lib.Dec.{eqb, ltb}
 use lib.ListN.{length, take, drop, length-append, length-drop, take-append-drop}
 use lib.Seq.{take-append_seam, drop-append_seam, drop-drop, length-take-le}
+use Rattle.std.specs.Prelude.{Option, Some, None}
 use Rattle.written.specs.Bytes.{bytes, newline, bracket, is_newline, same, byte_at, part}
 use Rattle.written.specs.Bytes as written
 use Rattle.written.specs.Sections.{UpToNext, newlines, Sections}
@@ -21,12 +22,9 @@ use Rattle.laws.proofs.Runs.{byte_is}
 use Rattle.head_record.specs.Empty.{span}
 use Rattle.text_parts.specs.declared.Span.{Span}
 use Rattle.head_lines.proofs.Moves.{no as never}
-use Rattle.head_sections.specs.Split.{starts_at, break_in, break_at, text_to, section_at, data_of, position_of, stream_of, split_of}
+use Rattle.head_sections.specs.Split.{starts_at, break_in, break_at, text, text_to, section_at, data_of, position_of, stream_of, split_of}
 use Rattle.head_sections.specs.declared.Parts.{Parts}
-use Rattle.head_sections.specs.declared.Sections as answer
-use Rattle.head_sections.specs.declared.Sections.TheVariants as sections
 use Rattle.head_sections.specs.declared.Section as found
-use Rattle.head_sections.specs.declared.Section.TheVariants as section
 
 -- ---- the next "\n["
 
@@ -105,7 +103,7 @@ pub record Found (s : List ℕ) (i : ℕ) (w : List ℕ) (a e : ℕ) : Type 0 wh
   pub up_to : UpToNext (take (e - a) (drop a s)) (drop e s)
   pub len : length (take (e - a) (drop a s)) ≡ e - a
 
-section_found : (s : List ℕ) (i : ℕ) (w : List ℕ) {a e : ℕ} → section_at s i w ≡ section.Text a e → Found s i w a e
+section_found : (s : List ℕ) (i : ℕ) (w : List ℕ) {a e : ℕ} → section_at s i w ≡ text a e → Found s i w a e
 unfolding section_at break_at
 section_found s i w {a} {e} f = go (starts_at s i w) refl f
   where
@@ -115,10 +113,11 @@ section_found s i w {a} {e} f = go (starts_at s i w) refl f
     k : ℕ
     k = break_in (drop b s)
 
-    at : starts_at s i w ≡ true → (t : Bool) → ltb (b + k) (length s) ≡ t → cond t (section.Text b (b + k)) section.NoSection ≡ section.Text a e → Found s i w a e
+    at : starts_at s i w ≡ true → (t : Bool) → ltb (b + k) (length s) ≡ t → cond t (text b (b + k)) None ≡ text a e → Found s i w a e
     at g true q h =
-        let x : b ≡ a = cc in
-        let y : b + k ≡ e = cc in
+        let r : ◌≡◌ {A = found.Section} (record { start = b; end = b + k }) (record { start = a; end = e }) = cc in
+        let x : b ≡ a = ap (λ (v : found.Section). v.start) r in
+        let y : b + k ≡ e = ap (λ (v : found.Section). v.end) r in
         let l = ltb-true (b + k) (length s) q in
         let n : break_in (drop b s) < length (drop b s) = omega (arith, length-drop b s) in
         let d : drop k (drop b s) ≡ drop (b + k) s = drop-drop k b s in
@@ -135,12 +134,12 @@ section_found s i w {a} {e} f = go (starts_at s i w) refl f
         }))
     at g false q h = never cc
 
-    go : (t : Bool) → starts_at s i w ≡ t → cond t (text_to s b (b + k)) section.NoSection ≡ section.Text a e → Found s i w a e
+    go : (t : Bool) → starts_at s i w ≡ t → cond t (text_to s b (b + k)) None ≡ text a e → Found s i w a e
     go true g h = at g (ltb (b + k) (length s)) refl h
     go false g h = never cc
 
 -- a section that is written is found
-section_is : (s : List ℕ) (i : ℕ) (w t f : List ℕ) → drop i s ≡ w ++ (t ++ f) → UpToNext t f → section_at s i w ≡ section.Text (i + length w) (i + length w + length t)
+section_is : (s : List ℕ) (i : ℕ) (w t f : List ℕ) → drop i s ≡ w ++ (t ++ f) → UpToNext t f → section_at s i w ≡ text (i + length w) (i + length w + length t)
 unfolding section_at break_at
 section_is s i w t f e u =
     let d : drop (i + length w) s ≡ t ++ f = sym (drop-drop (length w) i s) ∙ ap (drop (length w)) e ∙ drop-append_seam w (t ++ f) in
@@ -202,12 +201,12 @@ span_in x = record { start = x.start; len = x.len }
 abbrev pub said : Parts → says.Parts
 said p = record { global = span_in p.global; stream = span_in p.stream; position = span_in p.position; rest = span_in p.rest }
 
-abbrev of_parts : Parts → answer.Sections → Parts
-of_parts d (sections.Split p) = p
-of_parts d sections.Unsplit = d
+abbrev of_parts : Parts → Option Parts → Parts
+of_parts d (Some p) = p
+of_parts d None = d
 
 -- a file that the answer splits is split so
-pub split_sound : (s : List ℕ) (p : Parts) → split_of s ≡ sections.Split p → Sections s (said p)
+pub split_sound : (s : List ℕ) (p : Parts) → split_of s ≡ Some p → Sections s (said p)
 unfolding split_of bytes
 split_sound s p e = global (section_at s n (bytes "[GLOBAL]\n")) refl e
   where
@@ -235,26 +234,26 @@ split_sound s p e = global (section_at s n (bytes "[GLOBAL]\n")) refl e
         }
 
     dat : (g h a b q f : ℕ) → Found s n (bytes "[GLOBAL]\n") g h → Found s (h + 1) (bytes "[STREAM]\n") a b → Found s (b + 1) (bytes "[POSITION]\n") q f → (t : Bool) → starts_at s (f + 1) (bytes "[DATA]\n") ≡ t
-        → cond t (sections.Split (record { global = span g (h - g); stream = span a (b - a); position = span q (f - q); rest = span (f + 8) (length s - (f + 8)) })) sections.Unsplit ≡ sections.Split p
+        → cond t (Some (record { global = span g (h - g); stream = span a (b - a); position = span q (f - q); rest = span (f + 8) (length s - (f + 8)) })) None ≡ Some p
         → Sections s (said p)
     dat g h a b q f x y z true d w =
         subst (λ (r : Parts). Sections s (said r)) (ap (of_parts p) w) (made g h a b q f x y z d)
     dat g h a b q f x y z false d w = never cc
 
-    position : (g h a b : ℕ) → Found s n (bytes "[GLOBAL]\n") g h → Found s (h + 1) (bytes "[STREAM]\n") a b → (d : found.Section) → section_at s (b + 1) (bytes "[POSITION]\n") ≡ d → data_of s g h a b d ≡ sections.Split p → Sections s (said p)
-    position g h a b x y section.NoSection f w = never cc
-    position g h a b x y (section.Text q k) f w = dat g h a b q k x y (section_found s (b + 1) (bytes "[POSITION]\n") f) (starts_at s (k + 1) (bytes "[DATA]\n")) refl w
+    position : (g h a b : ℕ) → Found s n (bytes "[GLOBAL]\n") g h → Found s (h + 1) (bytes "[STREAM]\n") a b → (d : Option found.Section) → section_at s (b + 1) (bytes "[POSITION]\n") ≡ d → data_of s g h a b d ≡ Some p → Sections s (said p)
+    position g h a b x y None f w = never cc
+    position g h a b x y (Some z) f w = dat g h a b z.start z.end x y (section_found s (b + 1) (bytes "[POSITION]\n") f) (starts_at s (z.end + 1) (bytes "[DATA]\n")) refl w
 
-    stream : (g h : ℕ) → Found s n (bytes "[GLOBAL]\n") g h → (d : found.Section) → section_at s (h + 1) (bytes "[STREAM]\n") ≡ d → position_of s g h d ≡ sections.Split p → Sections s (said p)
-    stream g h x section.NoSection f w = never cc
-    stream g h x (section.Text a b) f w = position g h a b x (section_found s (h + 1) (bytes "[STREAM]\n") f) (section_at s (b + 1) (bytes "[POSITION]\n")) refl w
+    stream : (g h : ℕ) → Found s n (bytes "[GLOBAL]\n") g h → (d : Option found.Section) → section_at s (h + 1) (bytes "[STREAM]\n") ≡ d → position_of s g h d ≡ Some p → Sections s (said p)
+    stream g h x None f w = never cc
+    stream g h x (Some y) f w = position g h y.start y.end x (section_found s (h + 1) (bytes "[STREAM]\n") f) (section_at s (y.end + 1) (bytes "[POSITION]\n")) refl w
 
-    global : (d : found.Section) → section_at s n (bytes "[GLOBAL]\n") ≡ d → stream_of s d ≡ sections.Split p → Sections s (said p)
-    global section.NoSection f w = never cc
-    global (section.Text g h) f w = stream g h (section_found s n (bytes "[GLOBAL]\n") f) (section_at s (h + 1) (bytes "[STREAM]\n")) refl w
+    global : (d : Option found.Section) → section_at s n (bytes "[GLOBAL]\n") ≡ d → stream_of s d ≡ Some p → Sections s (said p)
+    global None f w = never cc
+    global (Some x) f w = stream x.start x.end (section_found s n (bytes "[GLOBAL]\n") f) (section_at s (x.end + 1) (bytes "[STREAM]\n")) refl w
 
 -- a file that splits in some way is split by the answer
-pub split_complete : (s : List ℕ) (q : says.Parts) → Sections s q → (p : Parts) × (split_of s ≡ sections.Split p)
+pub split_complete : (s : List ℕ) (q : says.Parts) → Sections s q → (p : Parts) × (split_of s ≡ Some p)
 unfolding split_of bytes
 split_complete s q x =
     let n = x.n_global in
@@ -285,5 +284,5 @@ split_complete s q x =
     (record { global = span g (h - g); stream = span a (b - a); position = span c (f - c); rest = span (f + 8) (length s - (f + 8)) }, rw (e0, e1, e2, e3, e4))
 
 -- 1 exactly where no split exists
-pub unsplit_sound : (s : List ℕ) → split_of s ≡ sections.Unsplit → (q : says.Parts) → ¬ Sections s q
-unsplit_sound s e q x = let c = split_complete s q x in let f : sections.Unsplit ≡ sections.Split c.0 = sym e ∙ c.1 in never {A = ⊥} cc
+pub unsplit_sound : (s : List ℕ) → split_of s ≡ None → (q : says.Parts) → ¬ Sections s q
+unsplit_sound s e q x = let c = split_complete s q x in let f : ◌≡◌ {A = Option Parts} None (Some c.0) = sym e ∙ c.1 in never {A = ⊥} cc

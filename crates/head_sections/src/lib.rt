@@ -16,18 +16,11 @@ pub struct Parts {
     pub rest: Span,
 }
 
-#[derive(Clone, Copy)]
-pub enum Sections {
-    Split(Parts),
-    // the file doesn't split
-    Unsplit,
-}
-
 // The text of a section: from `start` up to the next "\n[".
 #[derive(Clone, Copy)]
-pub enum Section {
-    Text { start: usize, end: usize },
-    NoSection,
+pub struct Section {
+    pub start: usize,
+    pub end: usize,
 }
 
 // Whether w stands at a place.
@@ -47,7 +40,7 @@ fn is_break(s: &[u8], at: usize) -> bool
     byte_at(s, at + 1) == 91
 }
 
-// The first place from `at` on where "\n[" stands; the end if it stands nowhere.
+// The first place from `at` on where "\n[" stands; the end if it stands nowhere. A `while`: the place where the loop stops is the answer.
 fn next_break(s: &[u8], at: usize) -> usize
     ensures { result ≡ break_at s.now at }
 {
@@ -61,68 +54,52 @@ fn next_break(s: &[u8], at: usize) -> usize
     i
 }
 
-// The section whose heading stands at a place.
-fn section_at(s: &[u8], at: usize, heading: &[u8]) -> Section
+// The section whose heading stands at a place, if one does.
+fn section_at(s: &[u8], at: usize, heading: &[u8]) -> Option<Section>
     requires { 0 < length heading.now }
     ensures { result ≡ section_at s.now at heading.now }
 {
     if !starts_with(s, at, heading) {
-        return Section::NoSection;
+        return None;
     }
     let start = at + heading.len();
     let end = next_break(s, start);
     if end < s.len() {
-        return Section::Text { start, end };
+        return Some(Section { start, end });
     }
-    Section::NoSection
+    None
 }
 
-// Any newlines, "[GLOBAL]\n", text up to the next "\n["; then [STREAM], [POSITION] likewise, and [DATA], which has the rest.
-pub fn split_sections(file: &[u8]) -> Sections
+// Any newlines, "[GLOBAL]\n", text up to the next "\n["; then [STREAM], [POSITION] likewise, and [DATA], which has the rest. None
+// where the file does not split so.
+pub fn split_sections(file: &[u8]) -> Option<Parts>
     ensures { result ≡ split_of file.now }
 {
     let first = newline_end(file, 0);
-    match section_at(file, first, b"[GLOBAL]\n") {
-        Section::NoSection => Sections::Unsplit,
-        Section::Text {
-            start: global,
-            end: behind_global,
-        } => match section_at(file, behind_global + 1, b"[STREAM]\n") {
-            Section::NoSection => Sections::Unsplit,
-            Section::Text {
-                start: stream,
-                end: behind_stream,
-            } => match section_at(file, behind_stream + 1, b"[POSITION]\n") {
-                Section::NoSection => Sections::Unsplit,
-                Section::Text {
-                    start: position,
-                    end: behind_position,
-                } => {
-                    if !starts_with(file, behind_position + 1, b"[DATA]\n") {
-                        return Sections::Unsplit;
-                    }
-                    let rest = behind_position + 8;
-                    let parts = Parts {
-                        global: Span {
-                            start: global,
-                            len: behind_global - global,
-                        },
-                        stream: Span {
-                            start: stream,
-                            len: behind_stream - stream,
-                        },
-                        position: Span {
-                            start: position,
-                            len: behind_position - position,
-                        },
-                        rest: Span {
-                            start: rest,
-                            len: file.len() - rest,
-                        },
-                    };
-                    Sections::Split(parts)
-                }
-            },
-        },
+    let global = section_at(file, first, b"[GLOBAL]\n")?;
+    let stream = section_at(file, global.end + 1, b"[STREAM]\n")?;
+    let position = section_at(file, stream.end + 1, b"[POSITION]\n")?;
+    if !starts_with(file, position.end + 1, b"[DATA]\n") {
+        return None;
     }
+    let rest = position.end + 8;
+    let parts = Parts {
+        global: Span {
+            start: global.start,
+            len: global.end - global.start,
+        },
+        stream: Span {
+            start: stream.start,
+            len: stream.end - stream.start,
+        },
+        position: Span {
+            start: position.start,
+            len: position.end - position.start,
+        },
+        rest: Span {
+            start: rest,
+            len: file.len() - rest,
+        },
+    };
+    Some(parts)
 }

@@ -2,49 +2,32 @@
 use mathlib.Core.Path.{◌≡◌, refl, sym, ap, ap₂, ◌∙◌}
 use mathlib.Core.Bool.{Bool, true, false}
 use mathlib.Core.List.{List}
-use mathlib.Core.Option.{some, none}
 use Prim.Native.Nat.{ℕ, zero, suc}
 use native.Mathlib.Omega.{arith}
 use borrow.Author.Tests.{ne_eqb}
+use Rattle.std.specs.Prelude.{Result, Ok, Err}
 use Rattle.written.specs.Bytes.{same}
-use Rattle.written.specs.HeaderText as says
-use Rattle.written.specs.HeaderText.{Entry, text, number, flag, texts, range, ranges, perhaps, unread}
+use Rattle.written.specs.HeaderText.{Entry}
 use Rattle.written.specs.Record.{stream_group}
 use Rattle.error.specs.declared.Refusal.{Refusal}
 use Rattle.head_record.specs.declared.StreamData.{StreamData}
 use Rattle.head_words.specs.Words.{flat, stream_words}
-use Rattle.head_de.specs.declared.Cursor.{Cursor}
 use Rattle.head_de_lists.specs.Lists.{firsts}
-use Rattle.head_de_lists.specs.declared.Outcome.{Outcome}
-use Rattle.head_de_lists.specs.declared.Outcome.TheVariants as outcome
 use Rattle.head_de_values.specs.Values.{value_of}
 use Rattle.head_de_values.specs.declared.Value.{Value}
 use Rattle.head_fields.specs.Fields.{field_index}
-use Rattle.head_lines.specs.Lines.{Next, entry, line_in, marked}
+use Rattle.head_lines.specs.Lines.{Next, some_of, line_in, marked}
 use Rattle.head_lines.specs.declared.Line.{Line}
-use Rattle.head_lines.specs.declared.Step.TheVariants as step
-use Rattle.head_lines.proofs.Going.{entry_of, end_of, wrong_of}
+use Rattle.head_lines.proofs.Going.{entry_of, wrong_of}
 use Rattle.head_brackets.specs.Rows.{row_line_at, on, stop_with}
 use Rattle.text_parts.specs.Parts.{bytes_of}
 use Rattle.head_brackets.specs.declared.Row.{Row}
 use Rattle.head_stream.specs.Group.{stored, stored_in, with_line, after_line, with_row}
 use Rattle.head_stream.specs.declared.Group.{Group}
 
-any : (d : StreamData) (k : ℕ) (o p : Outcome) (v : says.Value) → stored d k (value_of o v) ≡ stored d k (value_of p v)
-unfolding stored value_of
-any d k o p (text x) = refl
-any d k o p (number n) = refl
-any d k o p (flag b) = refl
-any d k o p (texts l) = refl
-any d k o p (range r) = refl
-any d k o p (ranges l) = refl
-any d k o p (perhaps none) = refl
-any d k o p (perhaps (some r)) = refl
-any d k o p (unread x) = refl
-
-pub stored_line : (d : StreamData) (x : Entry) (o : Outcome) {k : ℕ} {u : Value} → k ≡ field_index stream_group x.name → u ≡ value_of o x.value → stored d k u ≡ with_line d x
+pub stored_line : (d : StreamData) (x : Entry) {k : ℕ} {u : Value} → k ≡ field_index stream_group x.name → u ≡ value_of x.value → stored d k u ≡ with_line d x
 unfolding with_line
-stored_line d x o e f = rw (e, f) (any d _ _ _ x.value)
+stored_line d x e f = rw (e, f)
 
 -- the words of a group with a value are the group's words with it
 pub stored_words : (d : StreamData) (k : ℕ) (v : Value) → stored_in (stream_words d) k v ≡ stream_words (stored d k v)
@@ -70,24 +53,17 @@ module _ (s w : List ℕ) (g : Group) (r : Row) where
   unfolding with_row
   of_other e = rw e
 
--- ---- a row of the group that is read, none, or refused
+-- ---- a row of the group that is read, or refused
 
 abbrev pub group : List Bool → StreamData → Group
 group m d = record { seen = m; item = d }
 
-module _ (g : Group) (n : Next) (l : Line) (e : l ≡ line_in stream_group n) where
-  pub line_taken : {c : Cursor} → l.step ≡ step.Read c → {m : List Bool} {d : StreamData} → m ≡ marked 5 g.seen l.field → d ≡ stored g.item l.field l.value
+module _ (g : Group) (n : Next) {x : Result Line Refusal} (e : some_of x ≡ line_in stream_group n) where
+  pub line_taken : {l : Line} → x ≡ Ok l → {m : List Bool} {d : StreamData} → m ≡ marked 5 g.seen l.field → d ≡ stored g.item l.field l.value
       → after_line g n ≡ on (group m d)
-  line_taken {c} f p q =
-      let i = entry_of stream_group n (ap (λ (x : Line). x.step) (sym e) ∙ f) in
-      let h : l ≡ line_in stream_group (entry i.line c.at) = e ∙ ap (line_in stream_group) i.same in
-      let k : l.field ≡ field_index stream_group i.line.name = ap (λ (x : Line). x.field) h in
-      rw i.same
-      (ap on
-      (sym (ap₂ group (p ∙ ap (marked 5 g.seen) k) (q ∙ stored_line g.item i.line (outcome.Read c) k (ap (λ (x : Line). x.value) h)))))
+  line_taken f p q =
+      let i = entry_of stream_group n (sym e ∙ ap some_of f) in
+      rw i.same (ap on (sym (ap₂ group (p ∙ ap (marked 5 g.seen) i.field) (q ∙ stored_line g.item i.line i.field i.value))))
 
-  pub line_none : l.step ≡ step.End → after_line g n ≡ on g
-  line_none f = rw (end_of stream_group n (ap (λ (x : Line). x.step) (sym e) ∙ f))
-
-  pub line_refused : {r : Refusal} → l.step ≡ step.Refused r → after_line g n ≡ stop_with r
-  line_refused f = rw (wrong_of stream_group n (ap (λ (x : Line). x.step) (sym e) ∙ f))
+  pub line_refused : {r : Refusal} → x ≡ Err r → after_line g n ≡ stop_with r
+  line_refused f = rw (wrong_of stream_group n (sym e ∙ ap some_of f))

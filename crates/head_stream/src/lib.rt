@@ -13,7 +13,7 @@ use head_brackets::{RowAt, row_at, row_line};
 use head_de::Cursor;
 use head_de_values::Value;
 use head_fields::{Table, missing};
-use head_lines::{Step, Verdict, mark};
+use head_lines::mark;
 use head_put::{put_span, put_spans, put1};
 use head_record::StreamData;
 use head_words::{IS_MSD, NUM_WINDOWS, OPTION, OPTION_COUNT, USE_GV, VECTOR_LENGTH};
@@ -26,10 +26,10 @@ pub struct Group {
     pub item: StreamData,
 }
 
-// What a group says, as contracts speak of it; where it is refused, the empty struct.
+// What a group says, as contracts speak of it; where it is refused, the empty struct. No Result: `with_group` names the parts, whatever the verdict.
 #[derive(Clone, Copy)]
 pub struct GroupRead {
-    pub verdict: Verdict,
+    pub verdict: Result<(), Refusal>,
     pub item: StreamData,
 }
 
@@ -39,30 +39,20 @@ fn store(item: &mut [u64], field: usize, v: Value)
     ensures { item.new ≡ stored_in item.old field v }
 {
     match field {
-        0 => {
-            put1(item, VECTOR_LENGTH, v.number);
-        }
-        1 => {
-            put1(item, NUM_WINDOWS, v.number);
-        }
-        2 => {
-            put1(item, IS_MSD, v.flag as u64);
-        }
-        3 => {
-            put1(item, USE_GV, v.flag as u64);
-        }
+        0 => put1(item, VECTOR_LENGTH, v.number),
+        1 => put1(item, NUM_WINDOWS, v.number),
+        2 => put1(item, IS_MSD, v.flag as u64),
+        3 => put1(item, USE_GV, v.flag as u64),
         4 => {
-            let l = v.spans;
-            let x = l.items;
-            put_spans(item, OPTION, x, 16);
-            put1(item, OPTION_COUNT, l.count as u64);
+            put_spans(item, OPTION, v.spans.items, 16);
+            put1(item, OPTION_COUNT, v.spans.count as u64);
         }
         _ => {}
     }
 }
 
 // The group of that name into its words, out of the rows of the section that starts at `start`; where it is refused, what stood before the fault.
-pub fn read_group(s: &[u8], start: usize, name: Span, item: &mut [u64]) -> Verdict
+pub fn read_group(s: &[u8], start: usize, name: Span, item: &mut [u64]) -> Result<(), Refusal>
     requires { item.old ≡ replicate 39 0 }
     ensures { (result ≡ (group_in (over (with_row s.now (bytes_of s.now name)) (named name) (rows_at s.now start))).verdict) × (item.new ≡ stream_words (last_of (with_row s.now (bytes_of s.now name)) (named name) (rows_at s.now start)).item) }
 {
@@ -73,23 +63,11 @@ pub fn read_group(s: &[u8], start: usize, name: Span, item: &mut [u64]) -> Verdi
         match row_at(at, s) {
             RowAt::Found(row) => {
                 at = Cursor { at: row.end };
-                let of = row.name;
-                if same_part(s, of, name) {
-                    let l = row_line(s, row, Table::StreamGroup, seen);
-                    let step = l.step;
-                    match step {
-                        Step::Read(_) => {
-                            let field = l.field;
-                            let value = l.value;
-                            let with_field = mark(seen, field, 5);
-                            seen = with_field;
-                            store(item, field, value);
-                        }
-                        Step::End => {}
-                        Step::Refused(refusal) => {
-                            return Verdict::Refused(refusal);
-                        }
-                    }
+                if same_part(s, row.name, name) {
+                    let line = row_line(s, row, Table::StreamGroup, seen)?;
+                    let with_field = mark(seen, line.field, 5);
+                    seen = with_field;
+                    store(item, line.field, line.value);
                 }
             }
             RowAt::Other(next) => {
@@ -97,9 +75,9 @@ pub fn read_group(s: &[u8], start: usize, name: Span, item: &mut [u64]) -> Verdi
             }
             RowAt::End => {
                 if missing(seen, 3) {
-                    return Verdict::Refused(Refusal::Field);
+                    return Err(Refusal::Field);
                 }
-                return Verdict::Accepted;
+                return Ok(());
             }
         }
     }

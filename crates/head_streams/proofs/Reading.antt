@@ -9,6 +9,7 @@ use borrow.Author.Tests.{lt-ltb}
 use lib.Dec.{ltb}
 use lib.ListN.{length, get_or, replicate}
 use lib.Seq.{sets}
+use Rattle.std.specs.Prelude.{Result, Ok, Err, ⊤}
 use Rattle.error.specs.declared.Refusal.{Refusal}
 use Rattle.error.specs.declared.Refusal.TheVariants as refusal
 use Rattle.head_record.specs.Empty.{empty_stream}
@@ -18,8 +19,6 @@ use Rattle.head_words.specs.Words.{flat, Zeros, span_at, stream_words, streams_w
 use Rattle.head_words.proofs.Lengths.{length_stream}
 use Rattle.head_de.specs.declared.Cursor.{Cursor}
 use Rattle.head_fields.specs.Fields.{any_missing}
-use Rattle.head_lines.specs.declared.Verdict.{Verdict}
-use Rattle.head_lines.specs.declared.Verdict.TheVariants as verdict
 use Rattle.head_lines.proofs.Moves.{no}
 use Rattle.head_brackets.specs.Rows.{row_at, rows_at, Going, on, stop_with, over, last_of, known_in}
 use Rattle.text_parts.specs.Parts.{bytes_of}
@@ -68,11 +67,11 @@ unfolding many_over
 none_counted l = refl
 
 -- the limits say the verdict
-judged_verdict : (x : Streams) → cond (ltb 8 x.names.count) (verdict.Refused refusal.Limit) (cond (many_over x.items 8) (verdict.Refused refusal.Limit) verdict.Accepted) ≡ (judged x).verdict
+judged_verdict : (x : Streams) → cond (ltb 8 x.names.count) (Err refusal.Limit) (cond (many_over x.items 8) (Err refusal.Limit) (Ok tt)) ≡ (judged x).verdict
 unfolding judged
 judged_verdict x = go (ltb 8 x.names.count) (many_over x.items 8)
   where
-    go : (a b : Bool) → cond a (verdict.Refused refusal.Limit) (cond b (verdict.Refused refusal.Limit) verdict.Accepted) ≡ (cond a (made (verdict.Refused refusal.Limit) no_streams) (cond b (made (verdict.Refused refusal.Limit) no_streams) (made verdict.Accepted x))).verdict
+    go : (a b : Bool) → cond a (Err refusal.Limit) (cond b (Err refusal.Limit) (Ok tt)) ≡ (cond a (made (Err refusal.Limit) no_streams) (cond b (made (Err refusal.Limit) no_streams) (made (Ok tt) x))).verdict
     go true b = refl
     go false true = refl
     go false false = refl
@@ -80,12 +79,12 @@ judged_verdict x = go (ltb 8 x.names.count) (many_over x.items 8)
 -- ---- the group of a row
 
 -- one that is accepted is what its rows made last
-group_item : (y : Going Group) (z : Group) → (one.group_in y).verdict ≡ verdict.Accepted → ((h : Group) → y ≡ on h → z ≡ h) → z.item ≡ (one.group_in y).item
+group_item : (y : Going Group) (z : Group) → (one.group_in y).verdict ≡ Ok tt → ((h : Group) → y ≡ on h → z ≡ h) → z.item ≡ (one.group_in y).item
 unfolding one.judged
 group_item (on h) z e f = go (any_missing h.seen 3) e
   where
-    go : (b : Bool) → (cond b (one.made (verdict.Refused refusal.Field) empty_stream) (one.made verdict.Accepted h.item)).verdict ≡ verdict.Accepted
-        → z.item ≡ (cond b (one.made (verdict.Refused refusal.Field) empty_stream) (one.made verdict.Accepted h.item)).item
+    go : (b : Bool) → (cond b (one.made (Err refusal.Field) empty_stream) (one.made (Ok tt) h.item)).verdict ≡ Ok tt
+        → z.item ≡ (cond b (one.made (Err refusal.Field) empty_stream) (one.made (Ok tt) h.item)).item
     go true q = no cc
     go false q = ap (λ (g : Group). g.item) (f h refl)
 group_item (stop_with r) z e f = no cc
@@ -96,11 +95,11 @@ module _ (s : List ℕ) (start : ℕ) (x : Streams) (r : Row) where
   known k = rw k
 
   module _ (k : known_in s x.names.items x.names.count (bytes_of s r.name) ≡ false) where
-    accepted : (group_of s start r.name).verdict ≡ verdict.Accepted → with_group s start x r ≡ on (with_streams x (group_of s start r.name).item)
+    accepted : (group_of s start r.name).verdict ≡ Ok tt → with_group s start x r ≡ on (with_streams x (group_of s start r.name).item)
     unfolding with_group
     accepted e = rw (k, e)
 
-    refused : {q : Refusal} → (group_of s start r.name).verdict ≡ verdict.Refused q → with_group s start x r ≡ stop_with q
+    refused : {q : Refusal} → (group_of s start r.name).verdict ≡ Err q → with_group s start x r ≡ stop_with q
     unfolding with_group
     refused e = rw (k, e)
 
@@ -117,7 +116,7 @@ module _ (s : List ℕ) (start : ℕ) (w₀ : List ℕ) where
   reached_none h z = record { groups = no_streams; through = through_none s start (with_group s start) no_streams; kept = kept_none streams w₀ empty_stream blank z h }
 
   -- how it ends
-  pub record Answered (w : List ℕ) (v : Verdict) : Type 0 where
+  pub record Answered (w : List ℕ) (v : Result ⊤ Refusal) : Type 0 where
     pub answer : v ≡ (groups_in (over (with_group s start) no_streams (rows_at s start))).verdict
     pub words : w ≡ words_in w₀ (over (with_group s start) no_streams (rows_at s start)) (last_of (with_group s start) no_streams (rows_at s start))
 
@@ -140,8 +139,8 @@ module _ (s : List ℕ) (start : ℕ) (w₀ : List ℕ) where
         new : known_in s g.groups.names.items g.groups.names.count (bytes_of s r.name) ≡ false
         new = sym (kept_known streams g.kept s (bytes_of s r.name)) ∙ k
 
-        module _ {v : Verdict} (p : v ≡ (group_of s start r.name).verdict) where
-          pub refused_group : {x : Refusal} → v ≡ verdict.Refused x → Answered w (verdict.Refused x)
+        module _ {v : Result ⊤ Refusal} (p : v ≡ (group_of s start r.name).verdict) where
+          pub refused_group : {x : Refusal} → v ≡ Err x → Answered w (Err x)
           refused_group q =
               let h = through_stop s start (with_group s start) no_streams g.through e (refused s start g.groups r new (sym p ∙ q)) in
               record {
@@ -149,7 +148,7 @@ module _ (s : List ℕ) (start : ℕ) (w₀ : List ℕ) where
                 words = g.kept.words ∙ sym (ap₂ (words_in w₀) h.answer h.last);
               }
 
-          module _ (q : v ≡ verdict.Accepted) where
+          module _ (q : v ≡ Ok tt) where
             on_with : Through s start (with_group s start) no_streams r.end (with_streams g.groups (group_of s start r.name).item)
             on_with = through_row s start (with_group s start) no_streams g.through e (accepted s start g.groups r new (sym p ∙ q))
 
@@ -180,7 +179,7 @@ module _ (s : List ℕ) (start : ℕ) (w₀ : List ℕ) where
                 }
 
     -- the rows end
-    pub ended : row_at s at ≡ found.End → {t : List ℕ} → t ≡ sets w 407 (n ∷ []) → {v : Verdict} → v ≡ judged_in t (95 + 38) 39 16 n → Answered t v
+    pub ended : row_at s at ≡ found.End → {t : List ℕ} → t ≡ sets w 407 (n ∷ []) → {v : Result ⊤ Refusal} → v ≡ judged_in t (95 + 38) 39 16 n → Answered t v
     ended e {t} a b =
         let h = through_end s start (with_group s start) no_streams g.through e in
         record {

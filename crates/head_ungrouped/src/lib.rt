@@ -4,14 +4,14 @@
 
 ghost use Rattle.std.specs.Prelude.{◌≡◌};
 ghost use Rattle.written.specs.Record.{stream_fields, position_fields};
-ghost use Rattle.head_lines.specs.Lines.{faulty, lines_at};
+ghost use Rattle.head_lines.specs.Lines.{lines_at};
 ghost use Rattle.head_ungrouped.specs.Ungrouped.{no_durations, stored, judged, durations_in, verdict_in};
 
 use error::Refusal;
 use head_de::Cursor;
 use head_de_values::Value;
 use head_fields::{Table, missing};
-use head_lines::{Step, Verdict, mark, next_line};
+use head_lines::{mark, next_line};
 use head_record::Range;
 
 // The two ranges of [POSITION] that stand in no group.
@@ -19,13 +19,6 @@ use head_record::Range;
 pub struct Durations {
     pub pdf: Range,
     pub tree: Range,
-}
-
-// Where they are refused, both are zero.
-#[derive(Clone, Copy)]
-pub struct DurationsRead {
-    pub verdict: Verdict,
-    pub durations: Durations,
 }
 
 impl Durations {
@@ -45,88 +38,49 @@ pub fn store(durations: Durations, field: usize, v: Value) -> Durations
     let mut d = durations;
     match field {
         0 => {
-            let x = v.range;
-            d.pdf = x;
-            d
+            d.pdf = v.range;
         }
         1 => {
-            let x = v.range;
-            d.tree = x;
-            d
+            d.tree = v.range;
         }
-        _ => d,
+        _ => {}
     }
+    d
 }
 
-fn refused(refusal: Refusal) -> DurationsRead
-    ensures { result ≡ durations_in (faulty refusal) }
-{
-    DurationsRead {
-        verdict: Verdict::Refused(refusal),
-        durations: Durations::none(),
-    }
-}
-
-fn judge(seen: [bool; 10], durations: Durations) -> DurationsRead
+fn judge(seen: [bool; 10], durations: Durations) -> Result<Durations, Refusal>
     ensures { result ≡ judged seen durations }
 {
     if missing(seen, 2) {
-        return refused(Refusal::Field);
+        return Err(Refusal::Field);
     }
-    DurationsRead {
-        verdict: Verdict::Accepted,
-        durations,
-    }
+    Ok(durations)
 }
 
 // The lines of [POSITION], from its start to the end of s.
-pub fn read_durations(s: &[u8], start: usize) -> DurationsRead
+pub fn read_durations(s: &[u8], start: usize) -> Result<Durations, Refusal>
     ensures { result ≡ durations_in (lines_at position_fields s.now start) }
 {
     let mut at = Cursor { at: start };
     let mut seen = [false; 10];
     let mut durations = Durations::none();
-    loop {
-        let l = next_line(at, s, Table::Position, seen);
-        let step = l.step;
-        match step {
-            Step::Read(next) => {
-                let field = l.field;
-                let value = l.value;
-                durations = store(durations, field, value);
-                let with_field = mark(seen, field, 2);
-                seen = with_field;
-                at = next;
-            }
-            Step::End => {
-                return judge(seen, durations);
-            }
-            Step::Refused(refusal) => {
-                return refused(refusal);
-            }
-        }
+    while let Some(line) = next_line(at, s, Table::Position, seen)? {
+        durations = store(durations, line.field, line.value);
+        let with_field = mark(seen, line.field, 2);
+        seen = with_field;
+        at = line.next;
     }
+    judge(seen, durations)
 }
 
 // The lines of [STREAM], which has no field of its own.
-pub fn check_lines(s: &[u8], start: usize) -> Verdict
+pub fn check_lines(s: &[u8], start: usize) -> Result<(), Refusal>
     ensures { result ≡ verdict_in (lines_at stream_fields s.now start) }
 {
     let mut at = Cursor { at: start };
     let seen = [false; 10];
-    loop {
-        let l = next_line(at, s, Table::Stream, seen);
-        let step = l.step;
-        match step {
-            Step::Read(next) => {
-                at = next;
-            }
-            Step::End => {
-                return Verdict::Accepted;
-            }
-            Step::Refused(refusal) => {
-                return Verdict::Refused(refusal);
-            }
-        }
+    while let Some(line) = next_line(at, s, Table::Stream, seen)? {
+        at = line.next;
     }
+    Ok(())
 }

@@ -125,12 +125,10 @@ pub fn flags_fit(words: &[u64]) -> bool
     if !is_flag(words[HAS_COMMENT]) {
         return false;
     }
-    let mut i = 0;
-    while i < 8 {
+    for i in 0..8 {
         if !group_flags(words, i) {
             return false;
         }
-        i = i + 1;
     }
     true
 }

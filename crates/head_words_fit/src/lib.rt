@@ -34,9 +34,7 @@ fn spans_fit(n: usize, words: &[u64], at: usize, count: usize, limit: usize) -> 
     if limit < count {
         return false;
     }
-    let mut k = count;
-    while 0 < k {
-        k = k - 1;
+    for k in (0..count).rev() {
         if !span_fits(n, words, at + 2 * k) {
             return false;
         }
@@ -90,12 +88,11 @@ fn streams_fit(n: usize, words: &[u64]) -> bool
     requires { 647 ≤ length words.now }
     ensures { result ≡ counted 8 (stream_fits n) (word_at words.now 407) (streams_at words.now 95) }
 {
-    let mut k = words[STREAM_COUNT] as usize;
-    if 8 < k {
+    let count = words[STREAM_COUNT] as usize;
+    if 8 < count {
         return false;
     }
-    while 0 < k {
-        k = k - 1;
+    for k in (0..count).rev() {
         if !stream_fits(n, words, STREAMS + STREAM_WORDS * k) {
             return false;
         }
@@ -118,12 +115,11 @@ fn positions_fit(n: usize, words: &[u64]) -> bool
     requires { 647 ≤ length words.now }
     ensures { result ≡ counted 8 (position_fits n) (word_at words.now 644) (positions_at words.now 412) }
 {
-    let mut k = words[POSITION_COUNT] as usize;
-    if 8 < k {
+    let count = words[POSITION_COUNT] as usize;
+    if 8 < count {
         return false;
     }
-    while 0 < k {
-        k = k - 1;
+    for k in (0..count).rev() {
         if !position_fits(n, words, POSITIONS + POSITION_WORDS * k) {
             return false;
         }

@@ -1,19 +1,18 @@
 -- Question names by computation: each row is the last of its name. And the room that is asked for.
-use Rattle.std.specs.Prelude.{◌≡◌, Bool, false, List, ℕ, ◌*◌, ◌≤◌, eqb, length}
+use Rattle.std.specs.declared.option.Option.{Option}
+use Rattle.std.specs.Prelude.{◌≡◌, Bool, false, List, ℕ, ◌*◌, ◌≤◌, eqb, length, Some, None}
 use Rattle.written.specs.Bytes.{same}
 use Rattle.laws.specs.Every.{all}
 use Rattle.laws.specs.Totals.{total}
 use Rattle.link_order.specs.Keys.{name_at}
 use Rattle.link_search.specs.Found.{last_below}
-use Rattle.link_search.specs.declared.Found.{Found}
-use Rattle.link_search.specs.declared.Found.TheVariants.{At, Nothing}
 use Rattle.tree_question.specs.Questions.{questions_at}
 use Rattle.tree_survey_questions.specs.Counts.{pattern_count}
 use Rattle.load_questions.specs.Words.{Done}
 
-abbrev pub last_is : Found → ℕ → Bool
-last_is (At row) k = eqb row k
-last_is Nothing k = false
+abbrev pub last_is : Option ℕ → ℕ → Bool
+last_is (Some row) k = eqb row k
+last_is None k = false
 
 -- row k of n is the last of its name
 abbrev pub is_last : List ℕ → List ℕ → ℕ → ℕ → Bool

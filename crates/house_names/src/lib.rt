@@ -11,7 +11,7 @@ ghost use Rattle.load_questions.specs.Words.{pattern_words};
 ghost use Rattle.house_names.specs.Names.{is_last, all_last, Room};
 
 use link_order::name_of;
-use link_search::{Found, last_question};
+use link_search::last_question;
 use load_questions::fill_all_patterns;
 use load_text::index_names;
 
@@ -21,8 +21,8 @@ fn is_last(s: &[u8], questions: &[u64], index: &[u64], k: u64) -> bool
     ensures { result ≡ is_last s.now questions.now (length index.now) k }
 {
     match last_question(s, questions, index, name_of(s, questions, k)) {
-        Found::At(row) => row == k,
-        Found::Nothing => false,
+        Some(row) => row == k,
+        None => false,
     }
 }
 
@@ -32,14 +32,7 @@ fn all_last(s: &[u8], questions: &[u64], index: &[u64]) -> bool
     ensures { result ≡ all_last s.now questions.now (length index.now) }
 {
     let n = index.len() as u64;
-    let mut k = 0;
-    while k < n {
-        if !is_last(s, questions, index, k) {
-            return false;
-        }
-        k = k + 1;
-    }
-    true
+    (0..n).all(|k| is_last(s, questions, index, k))
 }
 
 // Whether no name of the n questions from `at` on stands twice. The pattern rows stand in front of the table in the end.

@@ -17,16 +17,11 @@ use Rattle.tree_question.specs.Questions.{questions_at}
 use Rattle.load_choose.specs.declared.Which.{Which}
 use Rattle.load_questions.specs.Words.{pattern_words}
 use Rattle.load_questions.proofs.Rows.{patterns_length}
-use Rattle.load_trees.specs.declared.Linked.{Linked}
-use Rattle.load_trees.specs.declared.Linked.TheVariants as linked
 use Rattle.load_text.specs.Text.{end_at, kept}
 use Rattle.load_plan.specs.Plans.{Sound, data_of, planned}
 use Rattle.load_plan.specs.declared.Plan.{Plan}
-use Rattle.load_plan.specs.declared.Planned.{Planned}
-use Rattle.load_plan.specs.declared.Planned.TheVariants as plan
 use Rattle.load_plan.proofs.Laws.{was}
-use Rattle.load_model.specs.Load.{Tables as Lent, lent, After, answer_for, filled, untouched}
-use Rattle.load_model.specs.declared.Loaded.TheVariants as loaded
+use Rattle.load_model.specs.Load.{loaded, Tables as Lent, lent, After, answer_for, filled, untouched}
 use Rattle.load_model.proofs.Laws.{same_lent}
 use Rattle.load_apart.specs.Loads.{unload_of}
 use Rattle.load_apart.proofs.Rows.{length_own, own_put}
@@ -35,9 +30,10 @@ use Rattle.load_shared.specs.Beside.{rows_of, with_work, placed_in, room_by, bes
 use Rattle.load_bounds.specs.Bounds.{need_of}
 use Rattle.load_unload.specs.Unloads.{Tabled}
 use Rattle.house_own.specs.Own.{rule_in, LoadedIn}
-use Rattle.house_step.specs.Steps.{bounds_of, ruled_as, step_for, emptied, step_of, Is, StepsPlanned, Steps}
-use Rattle.house_step.specs.declared.Step.{Step}
-use Rattle.house_step.specs.declared.Step.TheVariants.{Judged, Refused}
+use Rattle.house_step.specs.Steps.{judged_as, bounds_of, ruled_as, step_for, emptied, step_of, Is, StepsPlanned, Steps}
+use Rattle.house_step.specs.declared.Judged.{Judged}
+use Rattle.load_trees.specs.declared.TreeFault.{TreeFault}
+use Rattle.std.specs.Prelude.{Err, Ok, Result, ⊤}
 
 -- words that fill a table are the table
 sets_all : (t words : List ℕ) → length words ≡ length t → sets t 0 words ≡ words
@@ -74,13 +70,13 @@ module _ (x : Side) (d : List ℕ) (p : Plan) (other : Held) (T : Lent) where
           }
 
       -- the pattern rows of a plan that is linked
-      linked_there : (o : Linked) {q a t c v : ℕ} → loaded.Done q a t c v ≡ answer_for p o
+      linked_there : (o : Result ⊤ TreeFault) {q a t c v : ℕ} → loaded q a t c v ≡ answer_for p o
           → kept o (own x 2 T.patterns p.patterns) (pattern_words (questions_at (take p.text_end d) p.text).items) ≡ pattern_words (questions_at (take p.text_end d) p.text).items
-      linked_there linked.Done e =
+      linked_there (Ok _) e =
           sets_all (own x 2 T.patterns p.patterns) (pattern_words (questions_at (take p.text_end d) p.text).items) (words_length ∙ sym (length_own x 2 T.patterns p.patterns pattern_room))
-      linked_there (linked.Refused g i k) e = let u : ◌≡◌ {A = ℕ} 0 1 = cc in absurd (omega arith)
+      linked_there (Err l) e = let u : ◌≡◌ {A = ℕ} 0 1 = cc in absurd (omega arith)
 
-      placed_in_lem : {q a t c v : ℕ} {T₁ : Lent} → loaded.Done q a t c v ≡ (placed_in x d p T).answer → T₁ ≡ (placed_in x d p T).tables
+      placed_in_lem : {q a t c v : ℕ} {T₁ : Lent} → loaded q a t c v ≡ (placed_in x d p T).answer → T₁ ≡ (placed_in x d p T).tables
           → LoadedIn x d p (length T₁.questions) T₁.patterns (length T₁.trees) (length T₁.values)
       unfolding placed_in filled
       placed_in_lem e y =
@@ -91,25 +87,25 @@ module _ (x : Side) (d : List ℕ) (p : Plan) (other : Held) (T : Lent) where
           after = filled d p (with_work (seen x (need_of p) (rows_of T)) T.work)
 
     -- a load that is done leaves what judging asks for
-    pub loaded_in : {q a t c v : ℕ} {T₁ : Lent} → loaded.Done q a t c v ≡ (beside_for x other d (plan.Model p) T).answer → T₁ ≡ (beside_for x other d (plan.Model p) T).tables
+    pub loaded_in : {q a t c v : ℕ} {T₁ : Lent} → loaded q a t c v ≡ (beside_for x other d (Ok p) T).answer → T₁ ≡ (beside_for x other d (Ok p) T).tables
         → LoadedIn x d p (length T₁.questions) T₁.patterns (length T₁.trees) (length T₁.values)
     loaded_in {q} {a} {t} {c} {v} {T₁} e y = go (room_by p other T) refl e y
       where
-        go : (b : Bool) → room_by p other T ≡ b → loaded.Done q a t c v ≡ (cond b (placed_in x d p T) (untouched refusal.Room T)).answer
+        go : (b : Bool) → room_by p other T ≡ b → loaded q a t c v ≡ (cond b (placed_in x d p T) (untouched refusal.Room T)).answer
             → T₁ ≡ (cond b (placed_in x d p T) (untouched refusal.Room T)).tables → LoadedIn x d p (length T₁.questions) T₁.patterns (length T₁.trees) (length T₁.values)
         go true r e y = placed_in_lem (stands_is (rows_of T) (need_of p) other (first_of (stands (rows_of T) (need_of p) other) (leb p.lines (length T.work / 6)) r)) e y
         go false r e y = let u : ◌≡◌ {A = ℕ} 0 1 = cc in absurd (omega arith)
 
-  pub step_refused : {z : Refusal} {T₁ : Lent} → loaded.Refused z ≡ (beside_for x other d (plan.Model p) T).answer → T₁ ≡ (beside_for x other d (plan.Model p) T).tables
-      → StepsPlanned x d p other T (Refused z) T₁
-  step_refused e y = (ap (ruled_as x d p (beside_for x other d (plan.Model p) T).tables) e, y)
+  pub step_refused : {z : Refusal} {T₁ : Lent} → Err z ≡ (beside_for x other d (Ok p) T).answer → T₁ ≡ (beside_for x other d (Ok p) T).tables
+      → StepsPlanned x d p other T (Err z) T₁
+  step_refused e y = (ap (ruled_as x d p (beside_for x other d (Ok p) T).tables) e, y)
 
-  pub step_judged : {q a t c v n : ℕ} {T₁ : Lent} → loaded.Done q a t c v ≡ (beside_for x other d (plan.Model p) T).answer → T₁ ≡ (beside_for x other d (plan.Model p) T).tables
+  pub step_judged : {q a t c v n : ℕ} {T₁ : Lent} → loaded q a t c v ≡ (beside_for x other d (Ok p) T).answer → T₁ ≡ (beside_for x other d (Ok p) T).tables
       → n ≡ rule_in x d p T₁.questions T₁.trees T₁.values → {r : List ℕ} → r ≡ T₁.patterns
-      → StepsPlanned x d p other T (Judged n (bounds_of q a t c v)) (lent T₁.questions r T₁.trees T₁.records T₁.values T₁.work)
+      → StepsPlanned x d p other T (judged_as n (bounds_of q a t c v)) (lent T₁.questions r T₁.trees T₁.records T₁.values T₁.work)
   step_judged {q} {a} {t} {c} {v} {n} {T₁} e y i j = (
-    ap (λ (m : ℕ). Judged m (bounds_of q a t c v)) (i ∙ ap (λ (U : Lent). rule_in x d p U.questions U.trees U.values) y)
-        ∙ ap (ruled_as x d p (beside_for x other d (plan.Model p) T).tables) e,
+    ap (λ (m : ℕ). judged_as m (bounds_of q a t c v)) (i ∙ ap (λ (U : Lent). rule_in x d p U.questions U.trees U.values) y)
+        ∙ ap (ruled_as x d p (beside_for x other d (Ok p) T).tables) e,
     same_lent refl j refl refl refl refl ∙ y,
   )
 
@@ -120,14 +116,14 @@ module _ (x : Side) (s : List ℕ) (h : Header) (which : Which) (mine other : He
   emptied_is : lent q a t c v T.work ≡ emptied x mine other T
   emptied_is = same_lent u.questions u.patterns u.trees u.records u.values refl
 
-  pub next_refused : {z : Refusal} → plan.Refused z ≡ planned s h which → Steps x s h which mine other T (Refused z) (lent q a t c v T.work)
+  pub next_refused : {z : Refusal} → Err z ≡ planned s h which → Steps x s h which mine other T (Err z) (lent q a t c v T.work)
   unfolding step_of
   next_refused {z} e =
-      subst (λ (o : Planned). Is (step_for x other (data_of s h) o (emptied x mine other T)) (Refused z) (lent q a t c v T.work)) e (refl, emptied_is)
+      subst (λ (o : Result Plan Refusal). Is (step_for x other (data_of s h) o (emptied x mine other T)) (Err z) (lent q a t c v T.work)) e (refl, emptied_is)
 
-  pub next_planned : {p : Plan} → plan.Model p ≡ planned s h which → {d : List ℕ} {l : Step} {T₁ : Lent} → d ≡ data_of s h → StepsPlanned x d p other (lent q a t c v T.work) l T₁
+  pub next_planned : {p : Plan} → Ok p ≡ planned s h which → {d : List ℕ} {l : Result Judged Refusal} {T₁ : Lent} → d ≡ data_of s h → StepsPlanned x d p other (lent q a t c v T.work) l T₁
       → Steps x s h which mine other T l T₁
   unfolding step_of
   next_planned {p} e {d} {l} {T₁} y z =
-      subst (λ (o : Planned). Is (step_for x other (data_of s h) o (emptied x mine other T)) l T₁) e
-      (subst (λ (U : Lent). Is (step_for x other (data_of s h) (plan.Model p) U) l T₁) emptied_is (subst (λ (d : List ℕ). StepsPlanned x d p other (lent q a t c v T.work) l T₁) y z))
+      subst (λ (o : Result Plan Refusal). Is (step_for x other (data_of s h) o (emptied x mine other T)) l T₁) e
+      (subst (λ (U : Lent). Is (step_for x other (data_of s h) (Ok p) U) l T₁) emptied_is (subst (λ (d : List ℕ). StepsPlanned x d p other (lent q a t c v T.work) l T₁) y z))

@@ -13,16 +13,15 @@ use error::Refusal;
 use house_own::judge_own;
 use load_bounds::Held;
 use load_choose::Which;
-use load_model::Loaded;
-use load_plan::{Plan, Planned, data_of, needs};
+use load_plan::{Plan, data_of, needs};
 use load_shared::load_planned;
 use load_unload::unload;
 
-// The rule that a loaded model breaks, 0 for none, and the bounds that it stands in; or why it isn't loaded.
+// The rule that a loaded model breaks, 0 for none, and the bounds that it stands in.
 #[derive(Clone, Copy)]
-pub enum Step {
-    Judged { rule: u64, held: Held },
-    Refused(Refusal),
+pub struct Judged {
+    pub rule: u64,
+    pub held: Held,
 }
 
 // A plan into the task's rows, which hold nothing, and judged there.
@@ -37,32 +36,22 @@ fn judge_planned(
     records: &mut [u64],
     values: &mut [u64],
     work: &mut [i64],
-) -> Step
+) -> Result<Judged, Refusal>
     requires { Sound d.now p }
     ensures { StepsPlanned (side_of top) d.now p (held_of other) (lent questions.old patterns.old trees.old records.old values.old work.old) result (lent questions.new patterns.new trees.new records.new values.new work.new) }
 {
-    match load_planned(
+    let loaded = load_planned(
         d, p, top, other, questions, patterns, trees, records, values, work,
-    ) {
-        Loaded::Refused(refusal) => Step::Refused(refusal),
-        Loaded::Done {
-            questions: q,
-            patterns: a,
-            trees: t,
-            records: c,
-            values: v,
-        } => {
-            let rule = judge_own(d, p, top, questions, patterns, trees, values);
-            let held = Held {
-                questions: q,
-                patterns: a,
-                trees: t,
-                records: c,
-                values: v as usize,
-            };
-            Step::Judged { rule, held }
-        }
-    }
+    )?;
+    let rule = judge_own(d, p, top, questions, patterns, trees, values);
+    let held = Held {
+        questions: loaded.questions,
+        patterns: loaded.patterns,
+        trees: loaded.trees,
+        records: loaded.records,
+        values: loaded.values as usize,
+    };
+    Ok(Judged { rule, held })
 }
 
 // The model asked for in place of what the task holds, and judged.
@@ -79,26 +68,24 @@ pub fn judge_next(
     records: &mut [u64],
     values: &mut [u64],
     work: &mut [i64],
-) -> Step
+) -> Result<Judged, Refusal>
     requires { 647 ≤ length words.now }
     ensures { Steps (side_of top) file.now (header_at words.now) which (held_of mine) (held_of other) (lent questions.old patterns.old trees.old records.old values.old work.old) result (lent questions.new patterns.new trees.new records.new values.new work.new) }
 {
     unload(
         top, mine, other, questions, patterns, trees, records, values,
     );
-    match needs(file, words, which) {
-        Planned::Refused(refusal) => Step::Refused(refusal),
-        Planned::Model(p) => judge_planned(
-            data_of(file, words),
-            p,
-            top,
-            other,
-            questions,
-            patterns,
-            trees,
-            records,
-            values,
-            work,
-        ),
-    }
+    let p = needs(file, words, which)?;
+    judge_planned(
+        data_of(file, words),
+        p,
+        top,
+        other,
+        questions,
+        patterns,
+        trees,
+        records,
+        values,
+        work,
+    )
 }

@@ -39,6 +39,7 @@ pub fn ids_run(s: &[u8], at: usize) -> bool
     ensures { result ≡ trees_ids (trees_at s.now at).items }
 {
     let mut i = at;
+    // No `for`: where the next tree stands is what the reader of this one answers.
     loop {
         match survey_tree(s, i) {
             TreeSurvey::Next {
@@ -93,6 +94,7 @@ fn lines_fit(s: &[u8], first: usize, entries: u64) -> bool
     ensures { result ≡ lines_fit entries (lines_at s.now first).items }
 {
     let mut i = first;
+    // No `for`: where the next line stands is what the reader of this one answers.
     loop {
         match next_line(s, i) {
             LineStep::Next { line, next } => {
@@ -134,6 +136,7 @@ pub fn leaves_run(s: &[u8], at: usize, trees: &[u64]) -> bool
 {
     let mut i = at;
     let mut k: u64 = 0;
+    // No `for`: where the next tree stands is what the reader of this one answers.
     loop {
         match survey_tree(s, i) {
             TreeSurvey::Next {

@@ -41,17 +41,6 @@ module _ (s w : List ℕ) where
   unfolding new_name
   name_new {i} {k} l p = passing_end (other i) i k p l
 
-  -- ---- all of them
-
-  module _ {i : ℕ} (p : Passing (new_name s (header_at w)) (word_at w 22) i) where
-    pub types_twice : i < word_at w 22 → new_name s (header_at w) i ≡ false → false ≡ types_once s (header_at w)
-    unfolding types_once header_at global_at
-    types_twice l e = passing_off (new_name s (header_at w)) (word_at w 22) i p l e
-
-    pub types_all : word_at w 22 ≤ i → true ≡ types_once s (header_at w)
-    unfolding types_once header_at global_at
-    types_all l = passing_end (new_name s (header_at w)) (word_at w 22) i p l
-
   -- ---- the rules
 
   pub number_broken : eqb (word_at w 5) (word_at w 22) ≡ false → 30 ≡ types_rule s (header_at w)

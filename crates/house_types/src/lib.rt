@@ -31,12 +31,10 @@ fn new_name(file: &[u8], words: &[u64], i: usize) -> bool
     ensures { result ≡ new_name file.now (header_at words.now) i }
 {
     let name = type_at(words, i);
-    let mut k = 0;
-    while k < i {
+    for k in 0..i {
         if same_part(file, type_at(words, k), name) {
             return false;
         }
-        k = k + 1;
     }
     true
 }
@@ -47,14 +45,7 @@ fn types_once(file: &[u8], words: &[u64]) -> bool
     ensures { result ≡ types_once file.now (header_at words.now) }
 {
     let n = words[STREAM_TYPE_COUNT] as usize;
-    let mut i = 0;
-    while i < n {
-        if !new_name(file, words, i) {
-            return false;
-        }
-        i = i + 1;
-    }
-    true
+    (0..n).all(|i| new_name(file, words, i))
 }
 
 // The rule that is broken, or 0. There are at most 8 names.

@@ -37,17 +37,11 @@ fn pairs_good(values: &[u64], at: usize, pairs: usize, variance: bool) -> bool
     requires { at + 2 * pairs ≤ length values.now + 1 }
     ensures { result ≡ pairs_good variance values.now at pairs }
 {
-    let mut k = 0;
-    while k < pairs {
-        if !good_value(variance, values[at + 2 * k]) {
-            return false;
-        }
-        k = k + 1;
-    }
-    true
+    (0..pairs).all(|k| good_value(variance, values[at + 2 * k]))
 }
 
 // The means, or the variances, of all entries of a width.
+#[tactic(auto, using(laws::proofs::Every::passing), unfolding(crate::specs::Values::values_good))]
 pub fn values_good(values: &[u64], width: usize, variance: bool) -> bool
     ensures { result ≡ values_good variance width values.now }
 {
@@ -56,12 +50,10 @@ pub fn values_good(values: &[u64], width: usize, variance: bool) -> bool
     }
     let pairs = width / 2;
     let entries = values.len() / width;
-    let mut i = 0;
-    while i < entries {
+    for i in 0..entries {
         if !pairs_good(values, i * width + variance as usize, pairs, variance) {
             return false;
         }
-        i = i + 1;
     }
     true
 }

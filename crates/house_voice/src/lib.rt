@@ -9,24 +9,31 @@ ghost use Rattle.load_bounds.specs.Bounds.{side_of, held_of};
 ghost use Rattle.house_voice.specs.Voice.{first_of, JudgesVoice};
 
 use error::Refusal;
-use house_step::{Step, judge_next};
+use house_step::judge_next;
 use load_bounds::{Held, nobody};
 use load_choose::Which;
-use load_voice::{NextModel, next_model};
+use load_voice::next_model;
 use trail_voice::number_of;
 
-// A rule that is broken, and the number of the model that breaks it; both 0 for none.
+// A rule that is broken, and the number of the model that breaks it; both 0 for none. No Option: the exported call answers these numbers.
 #[derive(Clone, Copy)]
 pub struct Broken {
     pub rule: u64,
     pub model: u64,
 }
 
-// The first broken rule, and the bounds of the last model; or the load that is refused, and its model's number.
+// The first broken rule, and the bounds of the last model.
 #[derive(Clone, Copy)]
-pub enum VoiceJudged {
-    Judged { first: Broken, held: Held },
-    Refused { refusal: Refusal, model: u64 },
+pub struct VoiceJudged {
+    pub first: Broken,
+    pub held: Held,
+}
+
+// A load that is refused, and its model's number.
+#[derive(Clone, Copy)]
+pub struct ModelRefused {
+    pub refusal: Refusal,
+    pub model: u64,
 }
 
 // The first broken rule, of what is known and a model behind that.
@@ -54,34 +61,35 @@ pub fn judge_voice(
     records: &mut [u64],
     values: &mut [u64],
     work: &mut [i64],
-) -> VoiceJudged
+) -> Result<VoiceJudged, ModelRefused>
     requires { 647 ≤ length words.now }
     ensures { JudgesVoice (side_of top) file.now (header_at words.now) (held_of other) (lent questions.old patterns.old trees.old records.old values.old work.old) result (lent questions.new patterns.new trees.new records.new values.new work.new) }
 {
     let mut which = Which::Duration;
     let mut held = nobody();
     let mut first = Broken { rule: 0, model: 0 };
+    // No `for`: the models of a record follow one another by `next_model`.
     loop {
         match judge_next(
             file, words, which, top, held, other, questions, patterns, trees, records, values, work,
         ) {
-            Step::Refused(refusal) => {
-                return VoiceJudged::Refused {
+            Err(refusal) => {
+                return Err(ModelRefused {
                     refusal,
                     model: number_of(which),
-                };
+                });
             }
-            Step::Judged { rule, held: rows } => {
-                first = first_of(first, rule, number_of(which));
-                held = rows;
+            Ok(judged) => {
+                first = first_of(first, judged.rule, number_of(which));
+                held = judged.held;
             }
         }
         match next_model(file, words, which) {
-            NextModel::Model(next) => {
+            Some(next) => {
                 which = next;
             }
-            NextModel::End => {
-                return VoiceJudged::Judged { first, held };
+            None => {
+                return Ok(VoiceJudged { first, held });
             }
         }
     }

@@ -51,14 +51,7 @@ fn row_fits(questions: &[u64], patterns: &[u64], data: &[u8], q: u64) -> bool
 {
     let first = question_first(questions, q);
     let count = question_patterns(questions, q);
-    let mut k = 0;
-    while k < count {
-        if !pattern_fits(patterns, data, first, k) {
-            return false;
-        }
-        k = k + 1;
-    }
-    true
+    (0..count).all(|k| pattern_fits(patterns, data, first, k))
 }
 
 // Whether all rows fit.
@@ -66,14 +59,7 @@ fn rows_fit(questions: &[u64], patterns: &[u64], data: &[u8]) -> bool
     ensures { result ≡ rows_fit questions.now patterns.now «data».now }
 {
     let rows = question_rows(questions);
-    let mut q = 0;
-    while q < rows {
-        if !row_fits(questions, patterns, data, q) {
-            return false;
-        }
-        q = q + 1;
-    }
-    true
+    (0..rows).all(|q| row_fits(questions, patterns, data, q))
 }
 
 // Whether pattern p matches the label. An empty one matches the empty label, wherever it starts.
@@ -91,18 +77,17 @@ fn pattern_matches(label: &[u8], patterns: &[u64], data: &[u8], p: u64) -> bool
 }
 
 // Whether any pattern of question q matches the label.
+#[tactic(auto, using(laws::proofs::Every::seeking))]
 fn any_matches(label: &[u8], questions: &[u64], patterns: &[u64], data: &[u8], q: u64) -> bool
     requires { (q < question_rows questions.now) × (row_fits questions.now patterns.now «data».now q ≡ true) }
     ensures { result ≡ row_matches label.now questions.now patterns.now «data».now q }
 {
     let first = question_first(questions, q);
     let count = question_patterns(questions, q);
-    let mut k = 0;
-    while k < count {
+    for k in 0..count {
         if pattern_matches(label, patterns, data, first + k) {
             return true;
         }
-        k = k + 1;
     }
     false
 }
@@ -113,10 +98,8 @@ fn fill_answers(label: &[u8], questions: &[u64], patterns: &[u64], data: &[u8], 
     ensures { answers.new ≡ sets answers.old 0 (answer_bytes label.now questions.now patterns.now «data».now) }
 {
     let rows = question_rows(questions);
-    let mut q = 0;
-    while q < rows {
+    for q in 0..rows {
         answers[q as usize] = any_matches(label, questions, patterns, data, q) as u8;
-        q = q + 1;
     }
 }
 

@@ -1,5 +1,5 @@
 -- Each way through the functions of the matcher, by the laws of Matched.
-use mathlib.Core.Path.{◌≡◌, refl, sym, ap, ap₂, ◌∙◌, subst}
+use mathlib.Core.Path.{◌≡◌, refl, sym, ap, ap₂, ◌∙◌}
 use mathlib.Core.Bool.{Bool, true, false, not, ◌&&◌}
 use mathlib.Core.List.{List, [], ◌∷◌, ◌++◌}
 use Prim.Native.Nat.{ℕ, zero, suc, ◌+◌, ◌-◌, ◌≤◌, ◌<◌}
@@ -10,10 +10,10 @@ use borrow.Author.Tests.{ne_eqb}
 use lib.Dec.{eqb}
 use lib.ListN.{length, get_or, take, drop, length-drop, take-append-drop, drop_of_length-le}
 use lib.Seq.{drop-drop, drop-cons, take_all, length-take-le, get_or-drop}
+use Rattle.std.specs.declared.option.Option.{Option}
+use Rattle.std.specs.Prelude.{Some, None}
 use Rattle.label_match.specs.Matched.{passes, some_end, match_of, plain, front}
 use Rattle.label_match.specs.Parts.{PartEnd, Finds}
-use Rattle.label_match.specs.declared.Found.{Found}
-use Rattle.label_match.specs.declared.Found.TheVariants.{At, Nowhere}
 use Rattle.label_match.proofs.Matched.{match_star, plain_match, plain_whole, front_long, star-front, star_skip, star_last, star_short}
 
 -- ---- where a part ends
@@ -26,24 +26,6 @@ pub record Starless (p : List ℕ) (from end : ℕ) : Type 0 where
   pub order : from ≤ end
   pub inside : end ≤ length p
   pub starless : (k : ℕ) → from ≤ k → k < end → ¬ (get_or p k 0 ≡ 42)
-
-module _ (p : List ℕ) (from : ℕ) where
-  pub starless_none : from ≤ length p → Starless p from from
-  starless_none h = record { order = omega arith; inside = h; starless = λ k a b e. omega arith }
-
-  module _ (end : ℕ) (s : Starless p from end) where
-    pub starless_more : end < length p → ¬ (get_or p end 0 ≡ 42) → Starless p from (end + 1)
-    starless_more h d = record { order = omega (arith, s.order); inside = omega arith; starless = λ k a b. go k a b (dec_lt k end) }
-      where
-        go : (k : ℕ) → from ≤ k → k < end + 1 → Dec (k < end) → ¬ (get_or p k 0 ≡ 42)
-        go k a b (yes l) = s.starless k a l
-        go k a b (no l) = let q : end ≡ k = omega arith in subst (λ (n : ℕ). ¬ (get_or p n 0 ≡ 42)) q d
-
-    pub part-star : end < length p → get_or p end 0 ≡ 42 → PartEnd p from end
-    part-star h e = record { order = s.order; inside = s.inside; starless = s.starless; star = λ l. e }
-
-    pub part_whole : length p ≤ end → PartEnd p from end
-    part_whole h = record { order = s.order; inside = s.inside; starless = s.starless; star = λ l. absurd (omega arith) }
 
 plain-front : (n : ℕ) (s : List ℕ) → ((k : ℕ) → k < n → ¬ (get_or s k 0 ≡ 42)) → plain (take n s) ≡ true
 unfolding plain
@@ -78,9 +60,6 @@ pub record Standing (u l : List ℕ) (at k : ℕ) : Type 0 where
   pub rest : front (drop k u) (drop (at + k) l) ≡ front u (drop at l)
 
 module _ (u l : List ℕ) (at : ℕ) where
-  pub standing_none : Standing u l at 0
-  standing_none = let e : at + 0 ≡ at = omega arith in record { within = omega arith; rest = ap (λ (n : ℕ). front u (drop n l)) e }
-
   module _ (k : ℕ) (s : Standing u l at k) (h : k < length u) (room : at + length u ≤ length l) where
     both : front (drop k u) (drop (at + k) l) ≡ (passes (get_or u k 0) (get_or l (at + k) 0) && front (drop (k + 1) u) (drop (at + (k + 1)) l))
     unfolding front
@@ -121,7 +100,7 @@ pub record Seeking (u l : List ℕ) (at i : ℕ) : Type 0 where
   pub before : (j : ℕ) → at ≤ j → j < i → front u (drop j l) ≡ false
 
 module _ (u l : List ℕ) (at : ℕ) where
-  pub find_short : at ≤ length l → length l - at < length u → Finds u l at Nowhere
+  pub find_short : at ≤ length l → length l - at < length u → Finds u l at None
   find_short a h = Finds.none (λ i b. front_short u (drop i l) (omega (arith, length-drop i l)))
 
   pub seeking_none : Seeking u l at at
@@ -135,10 +114,10 @@ module _ (u l : List ℕ) (at : ℕ) where
         go j a (yes h) b = s.before j a h
         go j a (no h) b = let q : j ≡ i = omega arith in ap (λ (n : ℕ). front u (drop n l)) q ∙ e
 
-    pub seeking_here : i + length u ≤ length l → true ≡ front u (drop i l) → Finds u l at (At i)
+    pub seeking_here : i + length u ≤ length l → true ≡ front u (drop i l) → Finds u l at (Some i)
     seeking_here h e = Finds.first s.from h (sym e) s.before
 
-    pub seeking_end : at + length u ≤ length l → length l < i + length u → Finds u l at Nowhere
+    pub seeking_end : at + length u ≤ length l → length l < i + length u → Finds u l at None
     seeking_end r h = Finds.none (λ j a. go j a (dec_lt j i))
       where
         some : 0 < length u
@@ -179,12 +158,12 @@ module _ (p l : List ℕ) (from at : ℕ) where
       parted : some_end (match_of (part_of p j end ++ (42 ∷ drop (end + 1) p))) (drop i l) ≡ some_end (match_of (drop from p)) (drop at l)
       parted = ap (λ (u : List ℕ). some_end (match_of u) (drop i l)) (sym (part_parted e h)) ∙ s.same
 
-      pub behind_nowhere : {f : Found} → Finds (part_of p j end) l i f → f ≡ Nowhere → false ≡ some_end (match_of (drop from p)) (drop at l)
+      pub behind_nowhere : {f : Option ℕ} → Finds (part_of p j end) l i f → f ≡ None → false ≡ some_end (match_of (drop from p)) (drop at l)
       behind_nowhere (Finds.first a b c d) q = let z : ◌≡◌ {A = ℕ} 0 1 = cc in absurd (omega arith)
       behind_nowhere (Finds.none f) q =
           sym (never (part_of p j end) (42 ∷ drop (end + 1) p) (drop i l) (part-plain e) (λ k. ap (front (part_of p j end)) (drop-drop k i l) ∙ f (i + k) (omega arith))) ∙ parted
 
-      pub behind_more : {f : Found} {k : ℕ} → Finds (part_of p j end) l i f → f ≡ At k → Behind p l from at (end + 1) (k + (end - j))
+      pub behind_more : {f : Option ℕ} {k : ℕ} → Finds (part_of p j end) l i f → f ≡ Some k → Behind p l from at (end + 1) (k + (end - j))
       behind_more {k = k} (Finds.first {k = m} a b c d) q =
           let z : m ≡ k = cc in
           let w : i + (m - i) ≡ m = omega arith in

@@ -11,13 +11,6 @@ const ANY_RUN: u8 = b'*';
 
 const ANY_ONE: u8 = b'?';
 
-// Where a part of a pattern stands in a label.
-#[derive(Clone, Copy)]
-enum Found {
-    At(usize),
-    Nowhere,
-}
-
 // A byte of a pattern that is no star, and a byte of the label.
 fn passes(c: u8, b: u8) -> bool
     ensures { result ≡ passes c b }
@@ -30,14 +23,12 @@ fn part_end(pattern: &[u8], from: usize) -> usize
     requires { from ≤ length pattern.now }
     ensures { PartEnd pattern.now from result }
 {
-    let mut end = from;
-    while end < pattern.len() {
+    for end in from..pattern.len() {
         if pattern[end] == ANY_RUN {
             return end;
         }
-        end = end + 1;
     }
-    end
+    pattern.len()
 }
 
 // Whether a part without a star stands in the label at a place from which as many bytes are left.
@@ -45,33 +36,29 @@ fn stands(part: &[u8], label: &[u8], at: usize) -> bool
     requires { at + length part.now ≤ length label.now }
     ensures { result ≡ front part.now (drop at label.now) }
 {
-    let mut k = 0;
-    while k < part.len() {
+    for k in 0..part.len() {
         if !passes(part[k], label[at + k]) {
             return false;
         }
-        k = k + 1;
     }
     true
 }
 
 // The first place from `at` on where the part stands.
-fn find(part: &[u8], label: &[u8], at: usize) -> Found
+fn find(part: &[u8], label: &[u8], at: usize) -> Option<usize>
     requires { at ≤ length label.now }
     ensures { Finds part.now label.now at result }
 {
     if label.len() - at < part.len() {
-        return Found::Nowhere;
+        return None;
     }
     let last = label.len() - part.len();
-    let mut i = at;
-    while i <= last {
+    for i in at..=last {
         if stands(part, label, i) {
-            return Found::At(i);
+            return Some(i);
         }
-        i = i + 1;
     }
-    Found::Nowhere
+    None
 }
 
 // Whether the part behind the last star stands at the label's very end.
@@ -93,17 +80,18 @@ fn after_star(pattern: &[u8], from: usize, label: &[u8], at: usize) -> bool
 {
     let mut j = from;
     let mut i = at;
+    // No `for`: where the next part stands is what the search for this one answers.
     loop {
         let end = part_end(pattern, j);
         if end == pattern.len() {
             return stands_last(&pattern[j..end], label, i);
         }
         match find(&pattern[j..end], label, i) {
-            Found::At(k) => {
+            Some(k) => {
                 i = k + (end - j);
                 j = end + 1;
             }
-            Found::Nowhere => {
+            None => {
                 return false;
             }
         }

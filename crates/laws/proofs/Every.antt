@@ -64,6 +64,9 @@ module _ (p : ℕ → Bool) (n : ℕ) where
     pub passing_end : n ≤ k → true ≡ all p 0 n
     passing_end h = sym (all_none p k (n - k) (omega arith)) ∙ s.rest
 
+-- for the functions with such a loop
+pub ruleset passing = (passing_on, passing_off, passing_end)
+
 -- the same from a on
 pub record Going (p : ℕ → Bool) (a n k : ℕ) : Type 0 where
   pub rest : all p k (n - k) ≡ all p a (n - a)
@@ -81,6 +84,8 @@ module _ (p : ℕ → Bool) (a n : ℕ) where
 
     pub going_end : n ≤ k → true ≡ all p a (n - a)
     going_end h = sym (all_none p k (n - k) (omega arith)) ∙ s.rest
+
+pub ruleset going = (going_on, going_off, going_end)
 
 -- ---- what it says
 
@@ -136,6 +141,8 @@ module _ (p : ℕ → Bool) (n : ℕ) where
 
     pub seeking_end : n ≤ k → false ≡ some p 0 n
     seeking_end h = sym (some_none p k (n - k) (omega arith)) ∙ s.rest
+
+pub ruleset seeking = (seeking_on, seeking_here, seeking_end)
 
 -- ---- what it says
 

@@ -9,3 +9,4 @@ pub mod Wholes
 pub mod Parted
 pub mod Nth
 pub mod Every
+pub mod Ranged

@@ -1,14 +1,14 @@
 -- The laws of runs, over any test p: at a place the run goes on, or it stops there. Each loop that scans has `stop p s i ≡ stop p s at`
--- as its invariant, and cites `stop-on` for a turn and `stop-here` or `stop-end` for its exit.
+-- as its invariant, and cites `stop_on` for a turn and `stop_here` or `stop_past` for its exit.
 --
-use Prim.Native.Nat.{ℕ, ◌+◌, ◌≤◌, ◌<◌}
+use Prim.Native.Nat.{ℕ, ◌+◌, ◌≤◌, ◌<◌, max}
 use mathlib.Core.Path.{◌≡◌, sym, ap, ◌∙◌}
 use mathlib.Core.Bool.{Bool, true, false}
 use mathlib.Core.List.{List, [], ◌∷◌}
 use native.Mathlib.Numerals.{add-one}
 use native.Mathlib.Omega.{arith}
-use native.Mathlib.Decide.{dec_lt}
-use borrow.Author.Tests.{lt-ltb, le-ltb}
+use native.Mathlib.Decide.{dec_lt, dec_le}
+use borrow.Author.Tests.{lt-ltb, le-ltb, eq-eqb, ne_eqb}
 use lib.ListN.{length, get_or, drop, drop_of_length-le}
 use lib.Seq.{drop-cons}
 use Rattle.written.specs.Bytes.{byte_at}
@@ -42,6 +42,14 @@ module _ (p : ℕ → Bool) (s : List ℕ) (i : ℕ) where
   pub stop_from : i ≤ stop p s i
   unfolding stop
   stop_from = omega arith
+
+-- where a loop from `at` on has passed the end
+pub stop_past : (p : ℕ → Bool) (s : List ℕ) (at i : ℕ) → stop p s i ≡ stop p s at → length s ≤ i → (at ≤ length s → i ≤ length s) → max at (length s) ≡ stop p s at
+stop_past p s at i e h l =
+    elim (dec_le at (length s)) [ yes u ↦ omega (arith, e, stop_end p s i h, l u) | no n ↦ omega (arith, stop_end p s at (omega arith)) ]
+
+-- for the functions with such a loop
+pub ruleset scanning = (stop_on, stop_here, stop_past, eq-eqb, ne_eqb)
 
 -- past the end there is no byte, so a byte that is read stands inside
 pub byte_out : (s : List ℕ) (i : ℕ) → length s ≤ i → byte_at s i ≡ 256

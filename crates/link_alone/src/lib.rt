@@ -10,34 +10,23 @@ ghost use Rattle.tree_body.specs.Trees.{head_at};
 ghost use Rattle.link_find.specs.Find.{Lines};
 ghost use Rattle.link_alone.specs.Alone.{target_in, link_in, judged_line, judged_lines, ended, judged_alone, single_in, judged_braces, judged_head};
 
-use error::LinkFault;
+use error::{LineFault, LinkFault};
 use link_find::{ids_in_order, last_question, line_of};
 use link_fits::{Target, is_leaf_of, is_nowhere, leaves_from, row_fits};
 use link_order::id_key;
-use link_search::Found;
 use table_rows::record_rows;
 use text_parts::{natural, part_inside};
 use tree_body::{TreeHead, tree_head};
 use tree_line::{Line, LineStep, next_line};
 use tree_reference::{TreeIndex, same_index};
-use tree_survey_lines::{LineCount, count_lines};
+use tree_survey_lines::count_lines;
 
 // A line's question and where its references lead; or what is wrong with it.
 #[derive(Clone, Copy)]
-pub enum LineLink {
-    Goes {
-        question: u64,
-        yes: Target,
-        no: Target,
-    },
-    Fails(LinkFault),
-}
-
-// A tree that links, and whether the rows are its own; or at which line it doesn't.
-#[derive(Clone, Copy)]
-pub enum Judged {
-    Told(bool),
-    Refused { fault: LinkFault, line: usize },
+pub struct LineLink {
+    pub question: u64,
+    pub yes: Target,
+    pub no: Target,
 }
 
 // Where a reference of one of the n lines from `first` on leads.
@@ -47,15 +36,22 @@ pub fn target_of(s: &[u8], first: usize, n: u64, in_order: bool, index: TreeInde
 {
     match index {
         TreeIndex::Node(id) => match line_of(s, first, n, in_order, id_key(id)) {
-            Found::At(line) => Target::Line(line),
-            Found::Nothing => Target::Nowhere,
+            Some(line) => Target::Line(line),
+            None => Target::Nowhere,
         },
         TreeIndex::Pdf(number) => Target::Leaf(natural(number)),
     }
 }
 
 // A line's question and targets, tested in the order yes, no, question.
-pub fn link_line(s: &[u8], at: usize, first: usize, n: u64, in_order: bool, line: Line) -> LineLink
+pub fn link_line(
+    s: &[u8],
+    at: usize,
+    first: usize,
+    n: u64,
+    in_order: bool,
+    line: Line,
+) -> Result<LineLink, LinkFault>
     requires { Lines s.now first n in_order }
     ensures { result ≡ link_in s.now (questions_at s.now at).items (lines_at s.now first).items line }
 {
@@ -63,15 +59,15 @@ pub fn link_line(s: &[u8], at: usize, first: usize, n: u64, in_order: bool, line
     let to_no = line.no;
     let yes = target_of(s, first, n, in_order, to_yes);
     if is_nowhere(yes) {
-        return LineLink::Fails(LinkFault::NodeRef);
+        return Err(LinkFault::NodeRef);
     }
     let no = target_of(s, first, n, in_order, to_no);
     if is_nowhere(no) {
-        return LineLink::Fails(LinkFault::NodeRef);
+        return Err(LinkFault::NodeRef);
     }
     match last_question(s, at, part_inside(s, line.start as u64, line.len as u64)) {
-        Found::At(question) => LineLink::Goes { question, yes, no },
-        Found::Nothing => LineLink::Fails(LinkFault::QuestionRef),
+        Some(question) => Ok(LineLink { question, yes, no }),
+        None => Err(LinkFault::QuestionRef),
     }
 }
 
@@ -85,18 +81,16 @@ fn judge_line(
     records: &[u64],
     line: Line,
     k: u64,
-) -> Judged
+) -> Result<bool, LineFault>
     requires { Lines s.now first n in_order }
     ensures { result ≡ judged_line records.now k (link_in s.now (questions_at s.now at).items (lines_at s.now first).items line) }
 {
     match link_line(s, at, first, n, in_order, line) {
-        LineLink::Goes { question, yes, no } => {
-            Judged::Told(row_fits(records, k, question, yes, no))
-        }
-        LineLink::Fails(fault) => Judged::Refused {
+        Ok(link) => Ok(row_fits(records, k, link.question, link.yes, link.no)),
+        Err(fault) => Err(LineFault {
             fault,
             line: k as usize,
-        },
+        }),
     }
 }
 
@@ -107,24 +101,32 @@ fn both(a: bool, b: bool) -> bool
 }
 
 // All lines: the first that has a fault; else whether every row fits.
-fn judge_lines(s: &[u8], at: usize, first: usize, n: u64, in_order: bool, records: &[u64]) -> Judged
+fn judge_lines(
+    s: &[u8],
+    at: usize,
+    first: usize,
+    n: u64,
+    in_order: bool,
+    records: &[u64],
+) -> Result<bool, LineFault>
     requires { Lines s.now first n in_order }
     ensures { result ≡ judged_lines s.now (questions_at s.now at).items (lines_at s.now first).items records.now 0 true (lines_at s.now first).items }
 {
     let mut i = first;
     let mut k: u64 = 0;
     let mut fits = true;
+    // No `for`: where the next line stands is what the reader of this one answers.
     loop {
         match next_line(s, i) {
             LineStep::Next { line, next } => {
                 match judge_line(s, at, first, n, in_order, records, line, k) {
-                    Judged::Told(fit) => {
+                    Ok(fit) => {
                         fits = both(fits, fit);
                         k = k + 1;
                         i = next;
                     }
-                    Judged::Refused { fault, line } => {
-                        return Judged::Refused { fault, line };
+                    Err(LineFault { fault, line }) => {
+                        return Err(LineFault { fault, line });
                     }
                 }
             }
@@ -135,96 +137,81 @@ fn judge_lines(s: &[u8], at: usize, first: usize, n: u64, in_order: bool, record
                 );
             }
             LineStep::Broken => {
-                return Judged::Told(fits);
+                return Ok(fits);
             }
         }
     }
 }
 
 // The last line, after the others fitted or not.
-fn last_judged(judged: Judged, fits: bool) -> Judged
+fn last_judged(judged: Result<bool, LineFault>, fits: bool) -> Result<bool, LineFault>
     ensures { result ≡ ended fits judged }
 {
     match judged {
-        Judged::Told(fit) => Judged::Told(both(fits, fit)),
-        Judged::Refused { fault, line } => Judged::Refused { fault, line },
+        Ok(fit) => Ok(both(fits, fit)),
+        Err(LineFault { fault, line }) => Err(LineFault { fault, line }),
     }
 }
 
 // A tree that is one reference: with a PDF one leaf, with a node refused.
-fn judge_alone(records: &[u64], index: TreeIndex) -> Judged
+fn judge_alone(records: &[u64], index: TreeIndex) -> Result<bool, LineFault>
     ensures { result ≡ judged_alone records.now index }
 {
     match index {
         TreeIndex::Pdf(number) => {
             let one = record_rows(records) == 1;
-            Judged::Told(both(one, is_leaf_of(records, 0, natural(number))))
+            Ok(both(one, is_leaf_of(records, 0, natural(number))))
         }
-        TreeIndex::Node(_) => Judged::Refused {
+        TreeIndex::Node(_) => Err(LineFault {
             fault: LinkFault::LoneNode,
             line: 0,
-        },
+        }),
     }
 }
 
-// Whether lines are one reference.
-#[derive(Clone, Copy)]
-pub enum Single {
-    One(TreeIndex),
-    Several,
-}
-
-fn one_of(line: Line) -> Single
+fn one_of(line: Line) -> Option<TreeIndex>
     ensures { result ≡ single_in (line ∷ []) }
 {
     let no = line.no;
     let yes = line.yes;
-    if same_index(no, yes) {
-        Single::One(yes)
-    } else {
-        Single::Several
-    }
+    if same_index(no, yes) { Some(yes) } else { None }
 }
 
 // Whether the so many lines from `first` on are one reference.
-pub fn single_of(s: &[u8], first: usize, lines: usize) -> Single
+pub fn single_of(s: &[u8], first: usize, lines: usize) -> Option<TreeIndex>
     requires { lines ≡ length (lines_at s.now first).items }
     ensures { result ≡ single_in (lines_at s.now first).items }
 {
     if lines != 1 {
-        return Single::Several;
+        return None;
     }
     match next_line(s, first) {
         LineStep::Next { line, next: _ } => one_of(line),
         LineStep::Last { line, next: _ } => one_of(line),
-        LineStep::Broken => Single::Several,
+        LineStep::Broken => None,
     }
 }
 
 // The tree in braces whose first line stands at `first`.
-pub fn judge_braces(s: &[u8], at: usize, first: usize, records: &[u64]) -> Judged
+pub fn judge_braces(s: &[u8], at: usize, first: usize, records: &[u64]) -> Result<bool, LineFault>
     ensures { result ≡ judged_braces s.now (questions_at s.now at).items records.now (lines_at s.now first) }
 {
     match count_lines(s, first) {
-        LineCount::Counted {
-            lines,
-            pdfs: _,
-            next: _,
-        } => match single_of(s, first, lines) {
-            Single::One(index) => judge_alone(records, index),
-            Single::Several => {
-                let n = lines as u64;
+        Some(count) => match single_of(s, first, count.value.lines) {
+            Some(index) => judge_alone(records, index),
+            None => {
+                let n = count.value.lines as u64;
                 let judged = judge_lines(s, at, first, n, ids_in_order(s, first), records);
                 last_judged(judged, leaves_from(records, n))
             }
         },
         // never, of a tree that can be read
-        LineCount::Broken => Judged::Told(false),
+        None => Ok(false),
     }
 }
 
 // The tree that stands at `star`.
-pub fn judge_tree(s: &[u8], at: usize, star: usize, records: &[u64]) -> Judged
+pub fn judge_tree(s: &[u8], at: usize, star: usize, records: &[u64]) -> Result<bool, LineFault>
     ensures { result ≡ judged_head s.now (questions_at s.now at).items records.now (head_at s.now star) }
 {
     match tree_head(s, star) {
@@ -233,9 +220,9 @@ pub fn judge_tree(s: &[u8], at: usize, star: usize, records: &[u64]) -> Judged
             index,
             next: _,
         } => judge_alone(records, index),
-        TreeHead::Empty { state: _, next: _ } => Judged::Told(record_rows(records) == 0),
+        TreeHead::Empty { state: _, next: _ } => Ok(record_rows(records) == 0),
         TreeHead::Lines { state: _, first } => judge_braces(s, at, first, records),
         // never, of a tree that can be read
-        TreeHead::NoTree => Judged::Told(false),
+        TreeHead::NoTree => Ok(false),
     }
 }

@@ -7,14 +7,14 @@ use native.Mathlib.Numerals.{add-one}
 use native.Mathlib.Omega.{arith}
 use borrow.Author.Tests.{eq-eqb, ne_eqb, eqb-true}
 use lib.ListN.{length}
+use Rattle.std.specs.declared.option.Option.{Option}
+use Rattle.std.specs.Prelude.{Some, None}
 use Rattle.written.specs.Said.{QuestionPlace}
 use Rattle.written.specs.Linking.{Nth, here, there}
 use Rattle.laws.proofs.Nth.{nth_inside, nth_of}
 use Rattle.laws.specs.Steps.{Ending, done_at, broken_at, Step, next, last, broken, Reading, read_of}
 use Rattle.laws.proofs.Parted.{onward}
-use Rattle.text_spaces.specs.declared.Place.TheVariants as place
 use Rattle.tree_question.specs.Questions.{head_at, after_question, patterns_at, question_followed, question_read, question_headed, question_step_at}
-use Rattle.tree_question.specs.declared.QuestionHead.TheVariants as head
 use Rattle.tree_question.specs.declared.Item.TheVariants as item
 use Rattle.tree_question.proofs.Filling.{headed, questions_from_here, questions_are}
 use Rattle.tree_question.proofs.Joined.{question_reads}
@@ -26,19 +26,14 @@ use Rattle.tree_body.specs.declared.TreeStep.{TreeStep}
 use Rattle.tree_body.specs.declared.TreeStep.TheVariants as after
 use Rattle.tree_body.proofs.Filling.{trees_are}
 use Rattle.tree_survey_questions.specs.Counts.{patterns_counted, patterns_ended}
-use Rattle.tree_survey_questions.specs.declared.Patterns.TheVariants as patterns
 use Rattle.tree_survey_questions.proofs.Counting.{counted_done}
 use Rattle.tree_survey.specs.Survey.{tree_surveyed}
 use Rattle.tree_survey.specs.declared.TreeSurvey.TheVariants as surveyed
 use Rattle.tree_survey.proofs.Counting.{seen_next, seen_last, seen_broken}
 use Rattle.written.specs.Bytes.{same}
 use Rattle.link_order.specs.Keys.{id_key}
-use Rattle.text_parts.specs.Parts.{part_inside}
-use Rattle.link_search.specs.declared.Found.{Found}
-use Rattle.link_search.specs.declared.Found.TheVariants.{At, Nothing}
+use Rattle.text_parts.specs.Parts.{part_inside, read_to, cut}
 use Rattle.link_find.specs.Find.{star_of, last_from, name_step, named, bears, bearer, bearing_from, bearing, placed, ordered}
-use Rattle.link_find.specs.declared.Borne.{Borne}
-use Rattle.link_find.specs.declared.Borne.TheVariants as borne
 use Rattle.link_find.specs.declared.NameStep.TheVariants as name
 
 module _ (s : List ℕ) where
@@ -95,11 +90,11 @@ module _ (s : List ℕ) where
   trees_broken : (i j : ℕ) → tree_step_at s i ≡ broken j → (trees_at s i).items ≡ []
   trees_broken i j e = ap (λ (r : Reading Tree). r.items) (trees_are s i ∙ ap (read_of (trees_at s)) e)
 
-  pub seek_here : {first n i left : ℕ} {b : Bool} {m k j : ℕ} → Seeking first n i left → surveyed.Next b m k j ≡ tree_surveyed (tree_step_at s i) → left ≡ 0 → place.At i ≡ star_of (trees_at s first).items n
+  pub seek_here : {first n i left : ℕ} {b : Bool} {m k j : ℕ} → Seeking first n i left → surveyed.Next b m k j ≡ tree_surveyed (tree_step_at s i) → left ≡ 0 → Some i ≡ star_of (trees_at s first).items n
   unfolding star_of
   seek_here {first} {n} {i} {left} {b} {m} {k} {j} c h e =
       let t = seen_next s i b m k j h in
-      ap place.At (sym (star_next i j t.it t.steps)) ∙ sym (ap₂ star_of (trees_next i j t.it t.steps) e) ∙ c.same
+      ap Some (sym (star_next i j t.it t.steps)) ∙ sym (ap₂ star_of (trees_next i j t.it t.steps) e) ∙ c.same
 
   pub seek_on : {first n i left : ℕ} {b : Bool} {m k j : ℕ} → Seeking first n i left → surveyed.Next b m k j ≡ tree_surveyed (tree_step_at s i) → ¬ (left ≡ 0) → Seeking first n j (left - 1)
   unfolding star_of
@@ -109,27 +104,27 @@ module _ (s : List ℕ) where
       let z : suc left - 1 ≡ left = omega arith in
       record { same = ap (star_of (trees_at s j).items) z ∙ sym (ap (λ (l : List Tree). star_of l (suc left)) (trees_next i j t.it t.steps)) ∙ c.same }
 
-  pub seek_end : {first n i left : ℕ} {b : Bool} {m k : ℕ} → Seeking first n i left → surveyed.Last b m k ≡ tree_surveyed (tree_step_at s i) → left ≡ 0 → place.At i ≡ star_of (trees_at s first).items n
+  pub seek_end : {first n i left : ℕ} {b : Bool} {m k : ℕ} → Seeking first n i left → surveyed.Last b m k ≡ tree_surveyed (tree_step_at s i) → left ≡ 0 → Some i ≡ star_of (trees_at s first).items n
   unfolding star_of
   seek_end {first} {n} {i} {left} {b} {m} {k} c h e =
       let t = seen_last s i b m k h in
-      ap place.At (sym (star_last i t.steps.0 t.it t.steps.1)) ∙ sym (ap₂ star_of (trees_last i t.steps.0 t.it t.steps.1) e) ∙ c.same
+      ap Some (sym (star_last i t.steps.0 t.it t.steps.1)) ∙ sym (ap₂ star_of (trees_last i t.steps.0 t.it t.steps.1) e) ∙ c.same
 
-  pub seek_past : {first n i left : ℕ} {b : Bool} {m k : ℕ} → Seeking first n i left → surveyed.Last b m k ≡ tree_surveyed (tree_step_at s i) → ¬ (left ≡ 0) → place.Nowhere ≡ star_of (trees_at s first).items n
+  pub seek_past : {first n i left : ℕ} {b : Bool} {m k : ℕ} → Seeking first n i left → surveyed.Last b m k ≡ tree_surveyed (tree_step_at s i) → ¬ (left ≡ 0) → None ≡ star_of (trees_at s first).items n
   unfolding star_of
   seek_past {left = zero} c h e = absurd (e refl)
   seek_past {i = i} {left = suc left} {b = b} {m = m} {k = k} c h e =
       let t = seen_last s i b m k h in
       sym (ap (λ (l : List Tree). star_of l (suc left)) (trees_last i t.steps.0 t.it t.steps.1)) ∙ c.same
 
-  pub seek_none : {first n i left j : ℕ} → Seeking first n i left → surveyed.Broken j ≡ tree_surveyed (tree_step_at s i) → place.Nowhere ≡ star_of (trees_at s first).items n
+  pub seek_none : {first n i left j : ℕ} → Seeking first n i left → surveyed.Broken j ≡ tree_surveyed (tree_step_at s i) → None ≡ star_of (trees_at s first).items n
   unfolding star_of
   seek_none {first} {n} {i} {left} {j} c h = sym (ap (λ (l : List Tree). star_of l left) (trees_broken i j (seen_broken s i j h))) ∙ c.same
 
   -- ---- the name of a question
 
-  module _ (i : ℕ) {b n f : ℕ} (h : head.Named b n f ≡ head_at s i) where
-    module _ {k e : ℕ} (d : patterns.Counted k e ≡ patterns_counted 0 (patterns_at s f)) where
+  module _ (i : ℕ) {b n f : ℕ} (h : Some (read_to (cut b n) f) ≡ head_at s i) where
+    module _ {k e : ℕ} (d : Some (read_to k e) ≡ patterns_counted 0 (patterns_at s f)) where
       followed : question_step_at s i ≡ question_followed (record { name = record { start = b; len = n }; patterns = (patterns_at s f).items }) (after_question s e)
       followed = headed s i h ∙ ap (question_read s i (record { start = b; len = n }) (patterns_at s f).items) (counted_done s (patterns_at s f) k e d).0
 
@@ -139,15 +134,15 @@ module _ (s : List ℕ) where
       pub name_last : {j : ℕ} → item.Tree j ≡ after_question s e → name.Last b n ≡ name_step (question_step_at s i)
       name_last {j} a = sym (ap name_step (followed ∙ ap (question_followed (record { name = record { start = b; len = n }; patterns = (patterns_at s f).items })) (sym a)))
 
-    pub name_broken : patterns.Broken ≡ patterns_counted 0 (patterns_at s f) → name.Broken ≡ name_step (question_step_at s i)
+    pub name_broken : None ≡ patterns_counted 0 (patterns_at s f) → name.Broken ≡ name_step (question_step_at s i)
     unfolding patterns_counted
     name_broken d = go (patterns_at s f).ending refl d
       where
-        go : (x : Ending) → (patterns_at s f).ending ≡ x → patterns.Broken ≡ patterns_ended (0 + length (patterns_at s f).items) x → name.Broken ≡ name_step (question_step_at s i)
+        go : (x : Ending) → (patterns_at s f).ending ≡ x → None ≡ patterns_ended (0 + length (patterns_at s f).items) x → name.Broken ≡ name_step (question_step_at s i)
         go (done_at e) q d = let u : ◌≡◌ {A = ℕ} 0 1 = cc in absurd (omega arith)
         go (broken_at e) q d = sym (ap name_step (headed s i h ∙ ap (question_read s i (record { start = b; len = n }) (patterns_at s f).items) q))
 
-  pub name_none : (i : ℕ) → head.NoQuestion ≡ head_at s i → name.Broken ≡ name_step (question_step_at s i)
+  pub name_none : (i : ℕ) → None ≡ head_at s i → name.Broken ≡ name_step (question_step_at s i)
   unfolding question_step_at
   name_none i h = ap (λ t. name_step (question_headed s i t)) h
 
@@ -201,14 +196,14 @@ module _ (s : List ℕ) where
 
 -- ---- the last of a list
 
-module _ {A : Type 0} (p : A → Bool) (k : ℕ) (f : Found) where
-  pub last_on : {x : A} {xs ys : List A} {b : Bool} {g : Found} → ys ≡ x ∷ xs → b ≡ p x → g ≡ cond b (At k) f → last_from p (k + 1) g xs ≡ last_from p k f ys
+module _ {A : Type 0} (p : A → Bool) (k : ℕ) (f : Option ℕ) where
+  pub last_on : {x : A} {xs ys : List A} {b : Bool} {g : Option ℕ} → ys ≡ x ∷ xs → b ≡ p x → g ≡ cond b (Some k) f → last_from p (k + 1) g xs ≡ last_from p k f ys
   unfolding last_from
-  last_on {x} {xs} {ys} {b} {g} e h q = ap₂ (λ i g. last_from p i g xs) (add-one k) (q ∙ ap (λ (b : Bool). cond b (At k) f) h) ∙ sym (ap (last_from p k f) e)
+  last_on {x} {xs} {ys} {b} {g} e h q = ap₂ (λ i g. last_from p i g xs) (add-one k) (q ∙ ap (λ (b : Bool). cond b (Some k) f) h) ∙ sym (ap (last_from p k f) e)
 
-  pub last_end : {x : A} {ys : List A} {b : Bool} {g : Found} → ys ≡ x ∷ [] → b ≡ p x → g ≡ cond b (At k) f → g ≡ last_from p k f ys
+  pub last_end : {x : A} {ys : List A} {b : Bool} {g : Option ℕ} → ys ≡ x ∷ [] → b ≡ p x → g ≡ cond b (Some k) f → g ≡ last_from p k f ys
   unfolding last_from
-  last_end e h q = q ∙ ap (λ (b : Bool). cond b (At k) f) h ∙ sym (ap (last_from p k f) e)
+  last_end e h q = q ∙ ap (λ (b : Bool). cond b (Some k) f) h ∙ sym (ap (last_from p k f) e)
 
   pub last_over : {ys : List A} → ys ≡ [] → f ≡ last_from p k f ys
   unfolding last_from
@@ -216,33 +211,33 @@ module _ {A : Type 0} (p : A → Bool) (k : ℕ) (f : Found) where
 
 -- ---- the last line of an id, itself
 
-module _ (x : ℕ) (f : Borne) where
-  pub bearing_on : {l : Line} {ls ks : List Line} {b : Bool} {g : Borne} → ks ≡ l ∷ ls → b ≡ bears x l → g ≡ cond b (borne.Line l) f → bearing_from x g ls ≡ bearing_from x f ks
+module _ (x : ℕ) (f : Option Line) where
+  pub bearing_on : {l : Line} {ls ks : List Line} {b : Bool} {g : Option Line} → ks ≡ l ∷ ls → b ≡ bears x l → g ≡ cond b (Some l) f → bearing_from x g ls ≡ bearing_from x f ks
   unfolding bearing_from
-  bearing_on {l} {ls} e h q = ap (λ (g : Borne). bearing_from x g ls) (q ∙ ap (λ (b : Bool). cond b (borne.Line l) f) h) ∙ sym (ap (bearing_from x f) e)
+  bearing_on {l} {ls} e h q = ap (λ (g : Option Line). bearing_from x g ls) (q ∙ ap (λ (b : Bool). cond b (Some l) f) h) ∙ sym (ap (bearing_from x f) e)
 
-  pub bearing_end : {l : Line} {ks : List Line} {b : Bool} {g : Borne} → ks ≡ l ∷ [] → b ≡ bears x l → g ≡ cond b (borne.Line l) f → g ≡ bearing_from x f ks
+  pub bearing_end : {l : Line} {ks : List Line} {b : Bool} {g : Option Line} → ks ≡ l ∷ [] → b ≡ bears x l → g ≡ cond b (Some l) f → g ≡ bearing_from x f ks
   unfolding bearing_from
-  bearing_end {l} e h q = q ∙ ap (λ (b : Bool). cond b (borne.Line l) f) h ∙ sym (ap (bearing_from x f) e)
+  bearing_end {l} e h q = q ∙ ap (λ (b : Bool). cond b (Some l) f) h ∙ sym (ap (bearing_from x f) e)
 
   pub bearing_over : {ks : List Line} → ks ≡ [] → f ≡ bearing_from x f ks
   unfolding bearing_from
   bearing_over e = sym (ap (bearing_from x f) e)
 
 -- kept where it bears the id
-pub hit_kept : {b : Bool} (x y : Borne) → b ≡ true → x ≡ cond b x y
+pub hit_kept : {b : Bool} (x y : Option Line) → b ≡ true → x ≡ cond b x y
 hit_kept x y e = sym (ap (λ (b : Bool). cond b x y) e)
 
-pub miss_kept : {b : Bool} (x y : Borne) → b ≡ false → y ≡ cond b x y
+pub miss_kept : {b : Bool} (x y : Option Line) → b ≡ false → y ≡ cond b x y
 miss_kept x y e = sym (ap (λ (b : Bool). cond b x y) e)
 
 -- the line that is kept is the one whose number is found
-pub data Stands (all : List Line) : Found → Borne → Type 0 where
-  nowhere : Stands all Nothing borne.Nothing
-  stands : {k : ℕ} {l : Line} → Nth all k l → Stands all (At k) (borne.Line l)
+pub data Stands (all : List Line) : Option ℕ → Option Line → Type 0 where
+  nowhere : Stands all None None
+  stands : {k : ℕ} {l : Line} → Nth all k l → Stands all (Some k) (Some l)
 
 module _ (x : ℕ) (all : List Line) where
-  kept_from : (k : ℕ) (ls : List Line) → ((m : ℕ) (l : Line) → Nth ls m l → Nth all (k + m) l) → {f : Found} {g : Borne} → Stands all f g → Stands all (last_from (bears x) k f ls) (bearing_from x g ls)
+  kept_from : (k : ℕ) (ls : List Line) → ((m : ℕ) (l : Line) → Nth ls m l → Nth all (k + m) l) → {f : Option ℕ} {g : Option Line} → Stands all f g → Stands all (last_from (bears x) k f ls) (bearing_from x g ls)
   unfolding last_from bearing_from
   kept_from k [] h w = w
   kept_from k (l ∷ ls) h {f} {g} w = kept_from (suc k) ls (λ m e n. later m (h (suc m) e (there n))) (go (bears x l))
@@ -250,7 +245,7 @@ module _ (x : ℕ) (all : List Line) where
       later : (m : ℕ) {e : Line} → Nth all (k + suc m) e → Nth all (suc k + m) e
       later m {e} n = let z : k + suc m ≡ suc k + m = omega arith in subst (λ (i : ℕ). Nth all i e) z n
 
-      go : (b : Bool) → Stands all (cond b (At k) f) (cond b (borne.Line l) g)
+      go : (b : Bool) → Stands all (cond b (Some k) f) (cond b (Some l) g)
       go true = let z : k + 0 ≡ k = omega arith in stands (subst (λ (i : ℕ). Nth all i l) z (h 0 l here))
       go false = w
 
@@ -287,19 +282,19 @@ module _ (k : ℕ) where
 
 module _ {A : Type 0} (p : A → Bool) where
   -- where the test is true of one alone, that one is the last
-  pub last_off : (k : ℕ) (f : Found) (xs : List A) → ((m : ℕ) (x : A) → Nth xs m x → p x ≡ false) → last_from p k f xs ≡ f
+  pub last_off : (k : ℕ) (f : Option ℕ) (xs : List A) → ((m : ℕ) (x : A) → Nth xs m x → p x ≡ false) → last_from p k f xs ≡ f
   unfolding last_from
   last_off k f [] h = refl
-  last_off k f (x ∷ xs) h = last_off (suc k) (cond (p x) (At k) f) xs (λ m y n. h (suc m) y (there n)) ∙ ap (λ (b : Bool). cond b (At k) f) (h 0 x here)
+  last_off k f (x ∷ xs) h = last_off (suc k) (cond (p x) (Some k) f) xs (λ m y n. h (suc m) y (there n)) ∙ ap (λ (b : Bool). cond b (Some k) f) (h 0 x here)
 
-  pub last_is : (k : ℕ) (f : Found) {xs : List A} {m : ℕ} {x : A} → Nth xs m x → p x ≡ true → ((j : ℕ) (y : A) → m < j → Nth xs j y → p y ≡ false) → last_from p k f xs ≡ At (k + m)
+  pub last_is : (k : ℕ) (f : Option ℕ) {xs : List A} {m : ℕ} {x : A} → Nth xs m x → p x ≡ true → ((j : ℕ) (y : A) → m < j → Nth xs j y → p y ≡ false) → last_from p k f xs ≡ Some (k + m)
   unfolding last_from
   last_is k f (here {x = x} {xs = xs}) t h =
       let z : k ≡ k + 0 = omega arith in
-      last_off (suc k) (cond (p x) (At k) f) xs (λ m y n. h (suc m) y (omega arith) (there n)) ∙ ap (λ (b : Bool). cond b (At k) f) t ∙ ap At z
+      last_off (suc k) (cond (p x) (Some k) f) xs (λ m y n. h (suc m) y (omega arith) (there n)) ∙ ap (λ (b : Bool). cond b (Some k) f) t ∙ ap Some z
   last_is k f (there {y = y} {xs = xs} {k = m} n) t h =
       let z : suc k + m ≡ k + suc m = omega arith in
-      last_is (suc k) (cond (p y) (At k) f) n t (λ j w l o. h (suc j) w (omega arith) (there o)) ∙ ap At z
+      last_is (suc k) (cond (p y) (Some k) f) n t (λ j w l o. h (suc j) w (omega arith) (there o)) ∙ ap Some z
 
 -- ---- where ids are in order
 
@@ -318,19 +313,19 @@ module _ (x : ℕ) where
       go false q r = let u : ◌≡◌ {A = ℕ} 0 1 = cc in absurd (omega arith)
   order_key k {ls = []} o x8 = elim x8 [ ]
 
-  not_here : (ls : List Line) → ordered 0 ls ≡ true → ((m : ℕ) → m < length ls → ¬ (x + m ≡ 9223372036854775808)) → Nothing ≡ last_from (bears x) 0 Nothing ls
-  not_here ls o h = sym (last_off (bears x) 0 Nothing ls (λ m l n. ne_eqb (id_key l.id) x (λ e. h m (nth_inside n) (let r = order_key 0 o n in omega (arith, r)))))
+  not_here : (ls : List Line) → ordered 0 ls ≡ true → ((m : ℕ) → m < length ls → ¬ (x + m ≡ 9223372036854775808)) → None ≡ last_from (bears x) 0 None ls
+  not_here ls o h = sym (last_off (bears x) 0 None ls (λ m l n. ne_eqb (id_key l.id) x (λ e. h m (nth_inside n) (let r = order_key 0 o n in omega (arith, r)))))
 
-  pub order_above : (ls : List Line) → ordered 0 ls ≡ true → 9223372036854775808 < x → Nothing ≡ last_from (bears x) 0 Nothing ls
+  pub order_above : (ls : List Line) → ordered 0 ls ≡ true → 9223372036854775808 < x → None ≡ last_from (bears x) 0 None ls
   order_above ls o h = not_here ls o (λ m l e. omega arith)
 
-  pub order_past : (ls : List Line) (n : ℕ) → n ≡ length ls → ordered 0 ls ≡ true → x ≤ 9223372036854775808 → ¬ (9223372036854775808 - x < n) → Nothing ≡ last_from (bears x) 0 Nothing ls
+  pub order_past : (ls : List Line) (n : ℕ) → n ≡ length ls → ordered 0 ls ≡ true → x ≤ 9223372036854775808 → ¬ (9223372036854775808 - x < n) → None ≡ last_from (bears x) 0 None ls
   order_past ls n q o h g = not_here ls o (λ m l e. g (omega arith))
 
-  pub order_at : (ls : List Line) (n : ℕ) → n ≡ length ls → ordered 0 ls ≡ true → x ≤ 9223372036854775808 → 9223372036854775808 - x < n → At (9223372036854775808 - x) ≡ last_from (bears x) 0 Nothing ls
+  pub order_at : (ls : List Line) (n : ℕ) → n ≡ length ls → ordered 0 ls ≡ true → x ≤ 9223372036854775808 → 9223372036854775808 - x < n → Some (9223372036854775808 - x) ≡ last_from (bears x) 0 None ls
   order_at ls n q o h g =
       let r = nth_of ls (9223372036854775808 - x) (omega arith) in
       let e = order_key 0 o r.1 in
       let z : 9223372036854775808 - x ≡ 0 + (9223372036854775808 - x) = omega arith in
-      ap At z ∙ sym (last_is (bears x) 0 Nothing r.1 (eq-eqb (id_key r.0.id) x (omega (arith, e)))
+      ap Some z ∙ sym (last_is (bears x) 0 None r.1 (eq-eqb (id_key r.0.id) x (omega (arith, e)))
       (λ j y l n. ne_eqb (id_key y.id) x (λ w. let u = order_key 0 o n in omega (arith, u))))

@@ -3,23 +3,21 @@
 // Every function takes any bytes and any place, also one past the end. A place is an index into the slice.
 #![tactic(auto)]
 
-ghost use Rattle.std.specs.Prelude.{◌≡◌, cond, length};
+ghost use Rattle.std.specs.Prelude.{◌≡◌, cond, length, Some};
 ghost use Rattle.written.specs.Bytes.{same};
 ghost use Rattle.laws.specs.Steps.{read};
 ghost use Rattle.tree_line.specs.Lines.{lines_at};
 ghost use Rattle.tree_question.specs.Questions.{question_step_at, questions_at};
 ghost use Rattle.tree_body.specs.Trees.{trees_at};
-ghost use Rattle.link_search.specs.declared.Found.TheVariants.{At};
 ghost use Rattle.link_find.specs.Find.{star_of, name_step, asked, bears, bearer, bearing, placed, ordered, Lines};
 
-use link_order::{Side, compare_names, id_key};
-use link_search::Found;
+use link_order::{compare_names, id_key};
+use std::cmp::Ordering;
 use text_parts::part_inside;
-use text_spaces::Place;
 use tree_line::{Line, LineStep, next_line};
-use tree_question::{Item, QuestionHead, after_question, first_item, question_head};
+use tree_question::{Item, after_question, first_item, question_head};
 use tree_survey::{TreeSurvey, survey_tree};
-use tree_survey_questions::{Patterns, count_patterns};
+use tree_survey_questions::count_patterns;
 
 // A question's name, and where the next question stands; or the last one's; or no question.
 #[derive(Clone, Copy)]
@@ -37,11 +35,12 @@ pub enum NameStep {
 }
 
 // Where tree n of those from `first` on stands.
-pub fn find_tree(s: &[u8], first: usize, n: u64) -> Place
+pub fn find_tree(s: &[u8], first: usize, n: u64) -> Option<usize>
     ensures { result ≡ star_of (trees_at s.now first).items n }
 {
     let mut i = first;
     let mut left = n;
+    // No `for`: where the next tree stands is what the reader of this one answers.
     loop {
         match survey_tree(s, i) {
             TreeSurvey::Next {
@@ -51,7 +50,7 @@ pub fn find_tree(s: &[u8], first: usize, n: u64) -> Place
                 next,
             } => {
                 if left == 0 {
-                    return Place::At(i);
+                    return Some(i);
                 }
                 left = left - 1;
                 i = next;
@@ -62,12 +61,12 @@ pub fn find_tree(s: &[u8], first: usize, n: u64) -> Place
                 lines: _,
             } => {
                 if left == 0 {
-                    return Place::At(i);
+                    return Some(i);
                 }
-                return Place::Nowhere;
+                return None;
             }
             TreeSurvey::Broken(_) => {
-                return Place::Nowhere;
+                return None;
             }
         }
     }
@@ -78,9 +77,9 @@ pub fn same_name(a: &[u8], b: &[u8]) -> bool
     ensures { result ≡ same a.now b.now }
 {
     match compare_names(a, b) {
-        Side::Same => true,
-        Side::Below => false,
-        Side::Above => false,
+        Ordering::Equal => true,
+        Ordering::Less => false,
+        Ordering::Greater => false,
     }
 }
 
@@ -89,34 +88,39 @@ pub fn next_name(s: &[u8], at: usize) -> NameStep
     ensures { result ≡ name_step (question_step_at s.now at) }
 {
     match question_head(s, at) {
-        QuestionHead::Named { start, len, first } => match count_patterns(s, first) {
-            Patterns::Counted {
-                patterns: _,
-                next: end,
-            } => match after_question(s, end) {
-                Item::Question(next) => NameStep::Next { start, len, next },
-                Item::Tree(_) => NameStep::Last { start, len },
+        Some(head) => match count_patterns(s, head.next) {
+            Some(patterns) => match after_question(s, patterns.next) {
+                Item::Question(next) => NameStep::Next {
+                    start: head.value.start,
+                    len: head.value.len,
+                    next,
+                },
+                Item::Tree(_) => NameStep::Last {
+                    start: head.value.start,
+                    len: head.value.len,
+                },
             },
-            Patterns::Broken => NameStep::Broken,
+            None => NameStep::Broken,
         },
-        QuestionHead::NoQuestion => NameStep::Broken,
+        None => NameStep::Broken,
     }
 }
 
 // What is found once a row was looked at.
-fn found_after(before: Found, hit: bool, row: u64) -> Found
-    ensures { result ≡ cond hit (At row) before }
+fn found_after(before: Option<u64>, hit: bool, row: u64) -> Option<u64>
+    ensures { result ≡ cond hit (Some row) before }
 {
-    if hit { Found::At(row) } else { before }
+    if hit { Some(row) } else { before }
 }
 
 // The last of the questions from the first one's place on that has a name.
-fn last_named(s: &[u8], first: usize, name: &[u8]) -> Found
+fn last_named(s: &[u8], first: usize, name: &[u8]) -> Option<u64>
     ensures { result ≡ asked s.now name.now (read (question_step_at s.now) (length s.now) first).items }
 {
     let mut i = first;
     let mut row: u64 = 0;
-    let mut last = Found::Nothing;
+    let mut last = None;
+    // No `for`: where the next question stands is what the reader of this one answers.
     loop {
         match next_name(s, i) {
             NameStep::Next { start, len, next } => {
@@ -143,12 +147,12 @@ fn last_named(s: &[u8], first: usize, name: &[u8]) -> Found
 }
 
 // The last question of a name, in a text that begins at `at`.
-pub fn last_question(s: &[u8], at: usize, name: &[u8]) -> Found
+pub fn last_question(s: &[u8], at: usize, name: &[u8]) -> Option<u64>
     ensures { result ≡ asked s.now name.now (questions_at s.now at).items }
 {
     match first_item(s, at) {
         Item::Question(first) => last_named(s, first, name),
-        Item::Tree(_) => Found::Nothing,
+        Item::Tree(_) => None,
     }
 }
 
@@ -161,12 +165,13 @@ fn bears_id(line: Line, key: u64) -> bool
 }
 
 // The number of the last of a tree's lines, from the first one's place on, that bears the id of a key.
-pub fn last_line(s: &[u8], first: usize, key: u64) -> Found
+pub fn last_line(s: &[u8], first: usize, key: u64) -> Option<u64>
     ensures { result ≡ bearer key (lines_at s.now first).items }
 {
     let mut i = first;
     let mut number: u64 = 0;
-    let mut last = Found::Nothing;
+    let mut last = None;
+    // No `for`: where the next line stands is what the reader of this one answers.
     loop {
         match next_line(s, i) {
             LineStep::Next { line, next } => {
@@ -184,30 +189,24 @@ pub fn last_line(s: &[u8], first: usize, key: u64) -> Found
     }
 }
 
-// A line of a tree, or none.
-#[derive(Clone, Copy)]
-pub enum Borne {
-    Line(Line),
-    Nothing,
-}
-
 // The last of a tree's lines, from the first one's place on, that bears the id of a key: the line itself, so that none is read twice.
-pub fn last_bearing(s: &[u8], first: usize, key: u64) -> Borne
+pub fn last_bearing(s: &[u8], first: usize, key: u64) -> Option<Line>
     ensures { result ≡ bearing key (lines_at s.now first).items }
 {
     let mut i = first;
-    let mut last = Borne::Nothing;
+    let mut last = None;
+    // No `for`: where the next line stands is what the reader of this one answers.
     loop {
         match next_line(s, i) {
             LineStep::Next { line, next } => {
                 if bears_id(line, key) {
-                    last = Borne::Line(line);
+                    last = Some(line);
                 }
                 i = next;
             }
             LineStep::Last { line, next: _ } => {
                 if bears_id(line, key) {
-                    return Borne::Line(line);
+                    return Some(line);
                 }
                 return last;
             }
@@ -236,6 +235,7 @@ pub fn ids_in_order(s: &[u8], first: usize) -> bool
 {
     let mut i = first;
     let mut number: u64 = 0;
+    // No `for`: where the next line stands is what the reader of this one answers.
     loop {
         match next_line(s, i) {
             LineStep::Next { line, next } => {
@@ -256,19 +256,19 @@ pub fn ids_in_order(s: &[u8], first: usize) -> bool
 }
 
 // The number of the last of n lines that bears the id of a key: where the id says, or by reading them all.
-pub fn line_of(s: &[u8], first: usize, n: u64, in_order: bool, key: u64) -> Found
+pub fn line_of(s: &[u8], first: usize, n: u64, in_order: bool, key: u64) -> Option<u64>
     requires { Lines s.now first n in_order }
     ensures { result ≡ bearer key (lines_at s.now first).items }
 {
     if in_order {
         if 9223372036854775808 < key {
-            return Found::Nothing;
+            return None;
         }
         let line = 9223372036854775808 - key;
         if line < n {
-            return Found::At(line);
+            return Some(line);
         }
-        return Found::Nothing;
+        return None;
     }
     last_line(s, first, key)
 }

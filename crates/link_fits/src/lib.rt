@@ -85,12 +85,5 @@ pub fn leaves_from(records: &[u64], n: u64) -> bool
     ensures { result ≡ leaves_from records.now n }
 {
     let rows = record_rows(records);
-    let mut i = n;
-    while i < rows {
-        if !is_leaf(records, i) {
-            return false;
-        }
-        i = i + 1;
-    }
-    true
+    (n..rows).all(|i| is_leaf(records, i))
 }

@@ -3,19 +3,17 @@ use mathlib.Core.Path.{◌≡◌, refl, sym, ap, ◌∙◌, subst}
 use mathlib.Core.Bool.{Bool, true, false, cond, ◌||◌}
 use mathlib.Core.List.{List, []}
 use Prim.Native.Nat.{ℕ, zero, suc, ◌+◌, ◌-◌, ◌*◌, ◌%◌, ◌≤◌, ◌<◌}
-use native.Mathlib.Decide.{dec_lt}
 use native.Mathlib.Omega.{arith}
 use borrow.Author.Tests.{eq-eqb, ne_eqb}
 use lib.Dec.{eqb}
-use lib.ListN.{length, get_or, set, length-set}
-use lib.Seq.{get_or-set_same, get_or-set_other}
+use lib.ListN.{length, get_or}
+use Rattle.std.specs.declared.option.Option.{Option}
+use Rattle.std.specs.Prelude.{Some, None}
 use Rattle.written.specs.Bytes.{same}
 use Rattle.written.specs.Said.{QuestionPlace}
 use Rattle.tree_question.proofs.Filling.{questions_from_here}
 use Rattle.text_parts.specs.Parts.{part_inside}
-use Rattle.link_search.specs.declared.Found.{Found}
 use Rattle.link_search.proofs.Ids.{true_same}
-use Rattle.link_search.specs.declared.Found.TheVariants.{At, Nothing}
 use Rattle.link_find.proofs.Finding.{Named, hit}
 use Rattle.link_names.specs.Names.{FirstOf, off, none, name_from, name_in, key_of, Keys, KeyIn, gone, left, Keyed, Gone, is_gone, heard, Marked}
 
@@ -30,14 +28,7 @@ gone_or false b x = refl
 -- ---- the first number of which a test is false
 
 module _ {p : ℕ → Bool} where
-  pub first_more : {j : ℕ} → ((i : ℕ) → i < j → p i ≡ true) → p j ≡ true → (i : ℕ) → i < j + 1 → p i ≡ true
-  first_more {j} f e i h = go (dec_lt i j)
-    where
-      go : Dec (i < j) → p i ≡ true
-      go (yes l) = f i l
-      go (no l) = let z : i ≡ j = omega arith in ap p z ∙ e
-
-  pub first_as : {q : ℕ → Bool} {n : ℕ} {r : Found} → ((j : ℕ) → j < n → p j ≡ q j) → FirstOf p n r → FirstOf q n r
+  pub first_as : {q : ℕ → Bool} {n : ℕ} {r : Option ℕ} → ((j : ℕ) → j < n → p j ≡ q j) → FirstOf p n r → FirstOf q n r
   first_as f (off {j = j} h e g) = off h (sym (f j h) ∙ e) (λ i l. sym (f i (omega arith)) ∙ g i l)
   first_as f (none g) = none (λ i h. sym (f i h) ∙ g i h)
 
@@ -63,21 +54,6 @@ key_is w e = sym (ap (λ (b : Bool). cond b 1 (1 + length w % 16 * 15 + get_or w
 pub record Keying (s names m e : List ℕ) (j : ℕ) : Type 0 where
   pub long : length e ≡ length m
   pub done : (i : ℕ) → i < j → get_or e i 0 ≡ key_of (name_in s names i)
-
-pub keying_none : (s names m : List ℕ) → Keying s names m m 0
-keying_none s names m = record { long = refl; done = λ i h. absurd (omega arith) }
-
-pub keying_on : {s names m e : List ℕ} {j : ℕ} (v : ℕ) → Keying s names m e j → j < length e → v ≡ key_of (name_in s names j) → Keying s names m (set e j v) (j + 1)
-keying_on {s} {names} {m} {e} {j} v w h u = record { long = length-set e j v ∙ w.long; done = λ i l. go i l (dec_lt i j) }
-  where
-    go : (i : ℕ) → i < j + 1 → Dec (i < j) → get_or (set e j v) i 0 ≡ key_of (name_in s names i)
-    go i l (yes g) = get_or-set_other e j i v 0 (λ z. omega (arith, z)) ∙ w.done i g
-    go i l (no g) =
-        let z : j ≡ i = omega arith in
-        subst (λ (k : ℕ). get_or (set e j v) k 0 ≡ key_of (name_in s names k)) z (get_or-set_same e j v 0 h ∙ u)
-
-pub keying_end : {s names m e : List ℕ} {n j : ℕ} → Keying s names m e j → n ≤ j → Keys s names m n e
-keying_end w h = record { long = w.long; each = λ i l. w.done i (omega arith) }
 
 pub keys_keyed : {s names m e : List ℕ} {n : ℕ} → Keys s names m n e → Keyed s names n e
 keys_keyed w = record { each = λ j h. left (w.each j h) }
@@ -107,36 +83,9 @@ gone_stays : (b : Bool) (x : ℕ) → x ≡ 0 → cond b 0 x ≡ 0
 gone_stays true x e = refl
 gone_stays false x e = e
 
-pub marking_from : {m : List ℕ} (p : ℕ → Bool) {low : ℕ} → Gone low m → Marking m p m low
-marking_from {m} p g = record { long = refl; done = λ i h. g.each i h ∙ sym (gone_stays (p i) (get_or m i 0) (g.each i h)); left = λ i h. refl }
-
-pub marking_on : {m : List ℕ} {p : ℕ → Bool} {e : List ℕ} {j : ℕ} (v : ℕ) → Marking m p e j → j < length e → v ≡ cond (p j) 0 (get_or e j 0) → Marking m p (set e j v) (j + 1)
-marking_on {m} {p} {e} {j} v w h u =
-    record { long = length-set e j v ∙ w.long; done = λ i l. go i l (dec_lt i j); left = λ i l. get_or-set_other e j i v 0 (λ z. omega (arith, z)) ∙ w.left i (omega arith) }
-  where
-    go : (i : ℕ) → i < j + 1 → Dec (i < j) → get_or (set e j v) i 0 ≡ cond (p i) 0 (get_or m i 0)
-    go i l (yes g) = get_or-set_other e j i v 0 (λ z. omega (arith, z)) ∙ w.done i g
-    go i l (no g) =
-        let z : j ≡ i = omega arith in
-        subst (λ (k : ℕ). get_or (set e j v) k 0 ≡ cond (p k) 0 (get_or m k 0)) z
-        (get_or-set_same e j v 0 h ∙ u ∙ ap (λ (x : ℕ). cond (p j) 0 x) (w.left j (omega arith)))
-
-pub marking_end : {m : List ℕ} {p : ℕ → Bool} {e : List ℕ} {n j : ℕ} → Marking m p e j → n ≤ j → Marked m n p e
-marking_end w h = record { long = w.long; each = λ i l. w.done i (omega arith) }
-
-pub marking_key : {s names m : List ℕ} {n : ℕ} {p : ℕ → Bool} {e : List ℕ} {j : ℕ} → Keyed s names n m → Marking m p e j → j < n → KeyIn s (get_or names j 0) (get_or e j 0)
-marking_key {s} {names} {m} {j = j} k w h = subst (KeyIn s (get_or names j 0)) (sym (w.left j (omega arith))) (k.each j h)
-
 -- none is gone yet; one more is; those that are gone stay so
 pub gone_none : {m : List ℕ} → Gone 0 m
 gone_none = record { each = λ j h. absurd (omega arith) }
-
-pub gone_more : {low : ℕ} {m : List ℕ} → Gone low m → get_or m low 0 ≡ 0 → Gone (low + 1) m
-gone_more {low} {m} g e = record { each = λ j h. go j h (dec_lt j low) }
-  where
-    go : (j : ℕ) → j < low + 1 → Dec (j < low) → get_or m j 0 ≡ 0
-    go j h (yes l) = g.each j l
-    go j h (no l) = let z : j ≡ low = omega arith in ap (λ (i : ℕ). get_or m i 0) z ∙ e
 
 pub gone_fewer : {low n : ℕ} {m : List ℕ} → Gone low m → n ≤ low → Gone n m
 gone_fewer g h = record { each = λ j l. g.each j (omega arith) }
@@ -199,20 +148,20 @@ gone_not zero h = absurd (h refl)
 gone_not (suc n) h = refl
 
 -- from the keys on
-pub from_keys : {s names k m : List ℕ} {n : ℕ} {p : ℕ → Bool} {e : List ℕ} {r : Found} → Keys s names k n m → Marked m n p e → FirstOf (λ (j : ℕ). is_gone (get_or e j 0)) n r → FirstOf p n r
+pub from_keys : {s names k m : List ℕ} {n : ℕ} {p : ℕ → Bool} {e : List ℕ} {r : Option ℕ} → Keys s names k n m → Marked m n p e → FirstOf (λ (j : ℕ). is_gone (get_or e j 0)) n r → FirstOf p n r
 from_keys {s} {names} {k} {m} {n} {p} {e} q w f = first_as (λ j l. ap is_gone (w.each j l) ∙ go j l (p j)) f
   where
     go : (j : ℕ) → j < n → (b : Bool) → is_gone (cond b 0 (get_or m j 0)) ≡ b
     go j l true = refl
     go j l false = gone_not (get_or m j 0) (λ z. key_some (name_in s names j) (sym (q.each j l) ∙ z))
 
-pub heard_in : (s names : List ℕ) {n : ℕ} {qs ps : List QuestionPlace} {r : Found} → ps ≡ qs → FirstOf (λ (j : ℕ). heard s (name_in s names j) qs) n r → FirstOf (λ (j : ℕ). heard s (name_in s names j) ps) n r
+pub heard_in : (s names : List ℕ) {n : ℕ} {qs ps : List QuestionPlace} {r : Option ℕ} → ps ≡ qs → FirstOf (λ (j : ℕ). heard s (name_in s names j) qs) n r → FirstOf (λ (j : ℕ). heard s (name_in s names j) ps) n r
 heard_in s names {n} {r = r} e f = subst (λ (x : List QuestionPlace). FirstOf (λ (j : ℕ). heard s (name_in s names j) x) n r) (sym e) f
 
 -- where there is no question
-pub silent_none : (s names : List ℕ) {n : ℕ} {qs : List QuestionPlace} → qs ≡ [] → n ≡ 0 → FirstOf (λ (j : ℕ). heard s (name_in s names j) qs) n Nothing
+pub silent_none : (s names : List ℕ) {n : ℕ} {qs : List QuestionPlace} → qs ≡ [] → n ≡ 0 → FirstOf (λ (j : ℕ). heard s (name_in s names j) qs) n None
 silent_none s names e z = none (λ i h. absurd (omega arith))
 
-pub silent_some : (s names : List ℕ) {n : ℕ} {qs : List QuestionPlace} → qs ≡ [] → ¬ (n ≡ 0) → FirstOf (λ (j : ℕ). heard s (name_in s names j) qs) n (At 0)
+pub silent_some : (s names : List ℕ) {n : ℕ} {qs : List QuestionPlace} → qs ≡ [] → ¬ (n ≡ 0) → FirstOf (λ (j : ℕ). heard s (name_in s names j) qs) n (Some 0)
 unfolding heard
 silent_some s names e z = off {j = 0} (omega (arith, z)) (ap (heard s (name_in s names 0)) e) (λ i h. absurd (omega arith))

@@ -1,17 +1,16 @@
 -- What the functions of this crate answer: names in a slice, by their beginnings; their keys; which of them questions bear.
-use Rattle.std.specs.Prelude.{◌≡◌, Bool, true, false, cond, ◌||◌, List, [], ◌∷◌, ℕ, zero, suc, ◌+◌, ◌-◌, ◌*◌, ◌%◌, ◌<◌, eqb, length, get_or}
+use Rattle.std.specs.declared.option.Option.{Option}
+use Rattle.std.specs.Prelude.{◌≡◌, Bool, true, false, cond, ◌||◌, List, [], ◌∷◌, ℕ, zero, suc, ◌+◌, ◌-◌, ◌*◌, ◌%◌, ◌<◌, eqb, length, get_or, Some, None}
 use Rattle.written.specs.Bytes.{in_name}
 use Rattle.written.specs.Said.{QuestionPlace}
 use Rattle.laws.specs.Runs.{stop}
 use Rattle.text_parts.specs.Parts.{part_inside}
-use Rattle.link_search.specs.declared.Found.{Found}
-use Rattle.link_search.specs.declared.Found.TheVariants.{At, Nothing}
 use Rattle.link_find.specs.Find.{named}
 
 -- of the numbers below n, the first of which a test is false
-pub data FirstOf (p : ℕ → Bool) (n : ℕ) : Found → Type 0 where
-  off : {j : ℕ} → j < n → p j ≡ false → ((i : ℕ) → i < j → p i ≡ true) → FirstOf p n (At j)
-  none : ((i : ℕ) → i < n → p i ≡ true) → FirstOf p n Nothing
+pub data FirstOf (p : ℕ → Bool) (n : ℕ) : Option ℕ → Type 0 where
+  off : {j : ℕ} → j < n → p j ≡ false → ((i : ℕ) → i < j → p i ≡ true) → FirstOf p n (Some j)
+  none : ((i : ℕ) → i < n → p i ≡ true) → FirstOf p n None
 
 -- ---- names in a slice
 

@@ -2,14 +2,13 @@
 // A name's key, a byte on the stack, saves most comparisons; it is 0 once the name is met. Every function takes any bytes and any places; the questions are those of the text that begins at `at`.
 #![tactic(auto)]
 
-ghost use Rattle.std.specs.Prelude.{◌≡◌, cond, ℕ, ◌<◌, ◌≤◌, length, get_or};
+ghost use Rattle.std.specs.Prelude.{◌≡◌, cond, ℕ, ◌≤◌, length, get_or};
 ghost use Rattle.written.specs.Bytes.{same};
 ghost use Rattle.laws.specs.Steps.{read};
 ghost use Rattle.tree_question.specs.Questions.{question_step_at, questions_at};
 ghost use Rattle.link_names.specs.Names.{name_from, name_in, key_of, Keys, KeyIn, Keyed, Gone, is_gone, heard, Marked, FirstOf};
 
 use link_find::{NameStep, next_name, same_name};
-use link_search::Found;
 use text_base::name_end;
 use text_parts::part_inside;
 use tree_question::{Item, first_item};
@@ -41,10 +40,8 @@ fn set_keys(s: &[u8], names: &[u64], keys: &mut [u8], n: usize)
     requires { (n ≤ length keys.old) × (n ≤ length names.now) }
     ensures { Keys s.now names.now keys.old n keys.new }
 {
-    let mut j = 0;
-    while j < n {
+    for j in 0..n {
         keys[j] = key_of(name_at(s, names[j]));
-        j = j + 1;
     }
 }
 
@@ -71,10 +68,8 @@ fn mark(s: &[u8], names: &[u64], keys: &mut [u8], low: usize, n: usize, name: &[
     ensures { Marked keys.old n (λ (j : ℕ). same name.now (name_in s.now names.now j)) keys.new }
 {
     let key = key_of(name);
-    let mut j = low;
-    while j < n {
+    for j in low..n {
         keys[j] = key_after(s, names[j], keys[j], name, key);
-        j = j + 1;
     }
 }
 
@@ -83,14 +78,12 @@ fn gone_from(keys: &[u8], low: usize, n: usize) -> usize
     requires { (n ≤ length keys.now) × Gone low keys.now }
     ensures { Gone result keys.now }
 {
-    let mut j = low;
-    while j < n {
+    for j in low..n {
         if keys[j] != 0 {
             return j;
         }
-        j = j + 1;
     }
-    j
+    n
 }
 
 // Those that a question from `first` on bears. Where none is left, no question need be read.
@@ -100,6 +93,7 @@ fn mark_all(s: &[u8], first: usize, names: &[u64], keys: &mut [u8], n: usize)
 {
     let mut i = first;
     let mut low = 0;
+    // No `for`: where the next question stands is what the reader of this one answers.
     loop {
         match next_name(s, i) {
             NameStep::Next { start, len, next } => {
@@ -136,22 +130,20 @@ fn mark_all(s: &[u8], first: usize, names: &[u64], keys: &mut [u8], n: usize)
 }
 
 // The first of n whose key is left.
-fn first_left(keys: &[u8], n: usize) -> Found
+fn first_left(keys: &[u8], n: usize) -> Option<u64>
     requires { n ≤ length keys.now }
     ensures { FirstOf (λ (j : ℕ). is_gone (get_or keys.now j 0)) n result }
 {
-    let mut j = 0;
-    while j < n {
+    for j in 0..n {
         if keys[j] != 0 {
-            return Found::At(j as u64);
+            return Some(j as u64);
         }
-        j = j + 1;
     }
-    Found::Nothing
+    None
 }
 
 // The first of n names that no question bears, where the questions begin at `first`.
-fn first_unheard(s: &[u8], first: usize, names: &[u64], n: usize) -> Found
+fn first_unheard(s: &[u8], first: usize, names: &[u64], n: usize) -> Option<u64>
     requires { (n ≤ 40) × (n ≤ length names.now) }
     ensures { FirstOf (λ (j : ℕ). heard s.now (name_in s.now names.now j) (read (question_step_at s.now) (length s.now) first).items) n result }
 {
@@ -162,12 +154,12 @@ fn first_unheard(s: &[u8], first: usize, names: &[u64], n: usize) -> Found
 }
 
 // The first of n names that no question bears; where the text has no question, the first of them.
-pub fn look_up(s: &[u8], at: usize, names: &[u64], n: usize) -> Found
+pub fn look_up(s: &[u8], at: usize, names: &[u64], n: usize) -> Option<u64>
     requires { (n ≤ 40) × (n ≤ length names.now) }
     ensures { FirstOf (λ (j : ℕ). heard s.now (name_in s.now names.now j) (questions_at s.now at).items) n result }
 {
     match first_item(s, at) {
         Item::Question(first) => first_unheard(s, first, names, n),
-        Item::Tree(_) => { if n == 0 { Found::Nothing } else { Found::At(0) } }
+        Item::Tree(_) => { if n == 0 { None } else { Some(0) } }
     }
 }

@@ -67,11 +67,6 @@ module _ (w : List ℤ) (n : ℕ) (rows₀ : List ℕ) where
     pub same : (i : ℕ) → 4 * k ≤ i → get_or rows i 0 ≡ get_or rows₀ i 0
     pub stored : sets rows (4 * k) (line_rows w rows₀ (2 * n) k (n - k)) ≡ sets rows₀ 0 (line_rows w rows₀ (2 * n) 0 n)
 
-  pub write_none : Writing rows₀ 0
-  write_none =
-      let e : n - 0 ≡ n = omega arith in
-      record { within = omega arith; long = refl; same = λ i h. refl; stored = ap (λ (m : ℕ). sets rows₀ 0 (line_rows w rows₀ (2 * n) 0 m)) e }
-
   pub write_more : (rows : List ℕ) (k : ℕ) → Writing rows k → k < n → (q : ℕ) → q ≡ nat_of (get_or w (6 * k + 5) (pos 0)) - 1 → (rows₁ : List ℕ)
       → rows₁ ≡ sets rows (4 * k) (0 ∷ q ∷ get_or rows (2 * n + 2 * k) 0 ∷ get_or rows (2 * n + 2 * k + 1) 0 ∷ []) → Writing rows₁ (k + 1)
   unfolding line_rows

@@ -17,9 +17,7 @@ pub fn spread_leaves(rows: &mut [u64], first: usize, leaves: usize)
     requires { first + 4 * leaves ≤ length rows.old }
     ensures { rows.new ≡ sets rows.old first (leaf_rows (take leaves (drop first rows.old))) }
 {
-    let mut k = leaves;
-    while 0 < k {
-        k = k - 1;
+    for k in (0..leaves).rev() {
         let number = rows[first + k];
         put4(rows, first + RECORD_ROW * k, 1, number, 0, 0);
     }
@@ -40,11 +38,9 @@ pub fn write_lines(work: &[i64], n: usize, rows: &mut [u64])
     requires { (6 * n ≤ length work.now) × (4 * n ≤ length rows.old) }
     ensures { rows.new ≡ sets rows.old 0 (line_rows work.now rows.old (2 * n) 0 n) }
 {
-    let mut k = 0;
-    while k < n {
+    for k in 0..n {
         let yes = rows[2 * n + 2 * k];
         let no = rows[2 * n + 2 * k + 1];
         put4(rows, RECORD_ROW * k, 0, question_of(work, k), yes, no);
-        k = k + 1;
     }
 }

@@ -9,6 +9,7 @@ use native.Mathlib.Omega.{arith}
 use borrow.Author.Tests.{le-leb, leb-true, leb-false, eq-eqb, ne_eqb}
 use lib.Dec.{leb, eqb}
 use lib.ListN.{length, get_or}
+use Rattle.std.specs.Prelude.{Some, None}
 use Rattle.link_order.specs.Keys.{key_of}
 use Rattle.link_order.proofs.Keys.{first_le, then_le}
 use Rattle.link_sort.proofs.Order.{le_or_lt}
@@ -16,7 +17,6 @@ use Rattle.link_sort.proofs.Index.{sorted_has, sorted_from, sorted_rises}
 use Rattle.link_search.specs.Found.{last_below, count_from}
 use Rattle.link_search.specs.Index.{Index}
 use Rattle.link_search.specs.Parted.{Falls, Parted}
-use Rattle.link_search.specs.declared.Found.TheVariants.{At, Nothing}
 
 -- ---- 0, 1, ..
 
@@ -34,16 +34,16 @@ count_at k (suc n) (suc i) h = count_at (suc k) n i (omega arith) ∙ (let e : s
 -- ---- the last number of which a test is true
 
 module _ (p : ℕ → Bool) where
-  pub last_is_lem : (n e : ℕ) → e < n → p e ≡ true → ((m : ℕ) → e < m → m < n → p m ≡ false) → last_below p n ≡ At e
+  pub last_is_lem : (n e : ℕ) → e < n → p e ≡ true → ((m : ℕ) → e < m → m < n → p m ≡ false) → last_below p n ≡ Some e
   unfolding last_below
   last_is_lem zero e h t f = absurd (omega arith)
   last_is_lem (suc n) e h t f = go (dec_lt e n) (λ l. last_is_lem n e l t (λ m a b. f m a (omega arith)))
     where
-      go : Dec (e < n) → (e < n → last_below p n ≡ At e) → cond (p n) (At n) (last_below p n) ≡ At e
+      go : Dec (e < n) → (e < n → last_below p n ≡ Some e) → cond (p n) (Some n) (last_below p n) ≡ Some e
       go (yes l) r = rw (f n l (omega arith)) (r l)
-      go (no l) r = let q : e ≡ n = omega arith in subst (λ (k : ℕ). cond (p k) (At k) (last_below p k) ≡ At e) q (rw t)
+      go (no l) r = let q : e ≡ n = omega arith in subst (λ (k : ℕ). cond (p k) (Some k) (last_below p k) ≡ Some e) q (rw t)
 
-  pub last_none : (n : ℕ) → ((m : ℕ) → m < n → p m ≡ false) → last_below p n ≡ Nothing
+  pub last_none : (n : ℕ) → ((m : ℕ) → m < n → p m ≡ false) → last_below p n ≡ None
   unfolding last_below
   last_none zero f = refl
   last_none (suc n) f = rw (f n (omega arith)) (last_none n (λ m l. f m (omega arith)))
@@ -98,10 +98,10 @@ module _ (f : ℕ → ℕ) (t : List ℕ) (x : Index f t) (small : length t < 2 
             let u : leb (f (get_or t s.0 0)) T ≡ false = p.behind s.0 (omega arith) s.1 in
             absurd (omega (arith, leb-false (f (get_or t s.0 0)) T u, ap f s.2))
 
-    pub index_empty : r ≡ 0 → last_below (λ k. eqb (f k) T) (length t) ≡ Nothing
+    pub index_empty : r ≡ 0 → last_below (λ k. eqb (f k) T) (length t) ≡ None
     index_empty z = last_none (λ k. eqb (f k) T) (length t) (λ m h. ne_eqb (f m) T (λ e. omega (arith, (front m h e).1)))
 
-    pub index_found : 0 < r → f (get_or t (r - 1) 0) ≡ T → last_below (λ k. eqb (f k) T) (length t) ≡ At (get_or t (r - 1) 0)
+    pub index_found : 0 < r → f (get_or t (r - 1) 0) ≡ T → last_below (λ k. eqb (f k) T) (length t) ≡ Some (get_or t (r - 1) 0)
     index_found z e =
         last_is_lem (λ k. eqb (f k) T) (length t) (get_or t (r - 1) 0) (below (r - 1) (omega (arith, p.within))) (eq-eqb (f (get_or t (r - 1) 0)) T e)
         (λ m l h. ne_eqb (f m) T (λ q. later m l h q))
@@ -114,7 +114,7 @@ module _ (f : ℕ → ℕ) (t : List ℕ) (x : Index f t) (small : length t < 2 
             let k2 : key_of f m ≤ key_of f (get_or t (r - 1) 0) = subst (λ (y : ℕ). key_of f y ≤ key_of f (get_or t (r - 1) 0)) s.2 k in
             omega (arith, then_le f m (get_or t (r - 1) 0) (omega arith) (omega arith) k2 (q ∙ sym e))
 
-    pub index_other : 0 < r → (f (get_or t (r - 1) 0) ≡ T → ⊥) → last_below (λ k. eqb (f k) T) (length t) ≡ Nothing
+    pub index_other : 0 < r → (f (get_or t (r - 1) 0) ≡ T → ⊥) → last_below (λ k. eqb (f k) T) (length t) ≡ None
     index_other z d =
         last_none (λ k. eqb (f k) T) (length t)
         (λ m h. ne_eqb (f m) T
@@ -125,12 +125,12 @@ module _ (f : ℕ → ℕ) (t : List ℕ) (x : Index f t) (small : length t < 2 
         d (omega (arith, ap f s.2))))
 
 -- what is found is below n
-pub last_inside : (p : ℕ → Bool) (n e : ℕ) → last_below p n ≡ At e → e < n
+pub last_inside : (p : ℕ → Bool) (n e : ℕ) → last_below p n ≡ Some e → e < n
 unfolding last_below
 last_inside p zero e h = let u : ◌≡◌ {A = ℕ} 0 1 = cc in absurd (omega arith)
 last_inside p (suc n) e h = go (p n) h (last_inside p n e)
   where
-    go : (b : Bool) → cond b (At n) (last_below p n) ≡ At e → (last_below p n ≡ At e → e < n) → e < suc n
+    go : (b : Bool) → cond b (Some n) (last_below p n) ≡ Some e → (last_below p n ≡ Some e → e < n) → e < suc n
     go true q r = let s : n ≡ e = cc in omega arith
     go false q r = omega (arith, r q)
 
@@ -141,12 +141,12 @@ last_ext_below p q (suc n) e = rw (e n (omega arith), last_ext_below p q n (λ m
 
 -- ---- what a search has found, or not
 
-pub last_found : (p : ℕ → Bool) (n k : ℕ) → last_below p n ≡ At k → (k < n) × (p k ≡ true) × ((m : ℕ) → k < m → m < n → p m ≡ false)
+pub last_found : (p : ℕ → Bool) (n k : ℕ) → last_below p n ≡ Some k → (k < n) × (p k ≡ true) × ((m : ℕ) → k < m → m < n → p m ≡ false)
 unfolding last_below
 last_found p zero k e = let u : ◌≡◌ {A = ℕ} 0 1 = cc in absurd (omega arith)
 last_found p (suc n) k e = go (p n) refl e (last_found p n k)
   where
-    go : (b : Bool) → p n ≡ b → cond b (At n) (last_below p n) ≡ At k → (last_below p n ≡ At k → (k < n) × (p k ≡ true) × ((m : ℕ) → k < m → m < n → p m ≡ false))
+    go : (b : Bool) → p n ≡ b → cond b (Some n) (last_below p n) ≡ Some k → (last_below p n ≡ Some k → (k < n) × (p k ≡ true) × ((m : ℕ) → k < m → m < n → p m ≡ false))
         → (k < suc n) × (p k ≡ true) × ((m : ℕ) → k < m → m < suc n → p m ≡ false)
     go true q e r = let z : n ≡ k = cc in (omega arith, ap p (sym z) ∙ q, λ m a b. absurd (omega arith))
     go false q e r = (omega (arith, (r e).0), (r e).1, λ m a b. pick m (le_or_lt n m) a b)
@@ -155,12 +155,12 @@ last_found p (suc n) k e = go (p n) refl e (last_found p n k)
         pick m (inr l) a b = (r e).2 m a l
         pick m (inl l) a b = let z : m ≡ n = omega arith in ap p z ∙ q
 
-pub last_missing : (p : ℕ → Bool) (n : ℕ) → last_below p n ≡ Nothing → (m : ℕ) → m < n → p m ≡ false
+pub last_missing : (p : ℕ → Bool) (n : ℕ) → last_below p n ≡ None → (m : ℕ) → m < n → p m ≡ false
 unfolding last_below
 last_missing p zero e m h = absurd (omega arith)
 last_missing p (suc n) e m h = go (p n) refl e (λ q. last_missing p n q m)
   where
-    go : (b : Bool) → p n ≡ b → cond b (At n) (last_below p n) ≡ Nothing → (last_below p n ≡ Nothing → m < n → p m ≡ false) → p m ≡ false
+    go : (b : Bool) → p n ≡ b → cond b (Some n) (last_below p n) ≡ None → (last_below p n ≡ None → m < n → p m ≡ false) → p m ≡ false
     go true q e r = let u : ◌≡◌ {A = ℕ} 0 1 = cc in absurd (omega arith)
     go false q e r = pick (le_or_lt n m)
       where

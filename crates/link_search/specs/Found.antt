@@ -1,16 +1,15 @@
 -- The last number below n of which a test is true; the first place of a list of whose element it is.
-use Rattle.std.specs.Prelude.{Bool, cond, List, [], ◌∷◌, ℕ, zero, suc}
-use Rattle.link_search.specs.declared.Found.{Found}
-use Rattle.link_search.specs.declared.Found.TheVariants.{At, Nothing}
+use Rattle.std.specs.declared.option.Option.{Option}
+use Rattle.std.specs.Prelude.{Bool, cond, List, [], ◌∷◌, ℕ, zero, suc, Some, None}
 
-unfoldable pub last_below : (ℕ → Bool) → ℕ → Found
-last_below p zero = Nothing
-last_below p (suc n) = cond (p n) (At n) (last_below p n)
+unfoldable pub last_below : (ℕ → Bool) → ℕ → Option ℕ
+last_below p zero = None
+last_below p (suc n) = cond (p n) (Some n) (last_below p n)
 
 -- the first place from k on, where l starts at k
-unfoldable pub first_from : (ℕ → Bool) → ℕ → List ℕ → Found
-first_from p k [] = Nothing
-first_from p k (x ∷ l) = cond (p x) (At k) (first_from p (suc k) l)
+unfoldable pub first_from : (ℕ → Bool) → ℕ → List ℕ → Option ℕ
+first_from p k [] = None
+first_from p k (x ∷ l) = cond (p x) (Some k) (first_from p (suc k) l)
 
 -- 0, 1, .., n - 1, from k on
 unfoldable pub count_from : ℕ → ℕ → List ℕ

@@ -7,10 +7,10 @@ ghost use Rattle.tree_line.specs.Lines.{lines_at};
 ghost use Rattle.tree_body.specs.Trees.{head_at};
 ghost use Rattle.link_shape.specs.Shapes.{shape_braces, shape_head};
 
-use link_alone::{Single, single_of};
+use link_alone::single_of;
 use tree_body::{TreeHead, tree_head};
 use tree_reference::TreeIndex;
-use tree_survey_lines::{LineCount, count_lines};
+use tree_survey_lines::count_lines;
 
 #[derive(Clone, Copy)]
 pub enum Shape {
@@ -28,18 +28,14 @@ fn braces_shape(s: &[u8], first: usize) -> Shape
     ensures { result ≡ shape_braces first (lines_at s.now first) }
 {
     match count_lines(s, first) {
-        LineCount::Counted {
-            lines,
-            pdfs: _,
-            next: _,
-        } => match single_of(s, first, lines) {
-            Single::One(index) => Shape::One { index, lines: 1 },
-            Single::Several => Shape::Lines {
+        Some(count) => match single_of(s, first, count.value.lines) {
+            Some(index) => Shape::One { index, lines: 1 },
+            None => Shape::Lines {
                 first,
-                n: lines as u64,
+                n: count.value.lines as u64,
             },
         },
-        LineCount::Broken => Shape::Broken,
+        None => Shape::Broken,
     }
 }
 

@@ -6,12 +6,12 @@ use Prim.Native.Nat.{ℕ, suc, ◌+◌, ◌-◌, ◌≤◌, ◌<◌}
 use native.Mathlib.Numerals.{add-one}
 use native.Mathlib.Omega.{arith}
 use lib.ListN.{length}
+use Rattle.std.specs.Prelude.{Some, None}
 use Rattle.tree_line.specs.Lines.{line_step_at, lines_at}
 use Rattle.tree_line.specs.declared.Line.{Line}
 use Rattle.tree_line.specs.declared.LineStep.{LineStep}
 use Rattle.tree_line.specs.declared.LineStep.TheVariants as step
 use Rattle.tree_survey_lines.proofs.Counting.{items_next, items_last, items_broken, next_in}
-use Rattle.link_search.specs.declared.Found.TheVariants.{At, Nothing}
 use Rattle.link_stray.specs.Stray.{first_from, strays, stray_of}
 use Rattle.link_stray.specs.declared.Stray.{Stray}
 use Rattle.link_stray.specs.declared.Stray.TheVariants.{Astray, Next, Clean}
@@ -27,19 +27,19 @@ or_second {a} {b} e q = q ∙ sym (ap (λ (x : Bool). x || b) e)
 -- ---- the first of a list
 
 module _ {A : Type 0} (p : A → Bool) (k : ℕ) where
-  first_here : {x : A} {xs ys : List A} {b : Bool} → ys ≡ x ∷ xs → b ≡ p x → b ≡ true → At k ≡ first_from p k ys
+  first_here : {x : A} {xs ys : List A} {b : Bool} → ys ≡ x ∷ xs → b ≡ p x → b ≡ true → Some k ≡ first_from p k ys
   unfolding first_from
-  first_here {x} {xs} e h t = sym (ap (first_from p k) e ∙ ap (λ (b : Bool). cond b (At k) (first_from p (suc k) xs)) (sym h ∙ t))
+  first_here {x} {xs} e h t = sym (ap (first_from p k) e ∙ ap (λ (b : Bool). cond b (Some k) (first_from p (suc k) xs)) (sym h ∙ t))
 
   first_on : {x : A} {xs ys : List A} {b : Bool} → ys ≡ x ∷ xs → b ≡ p x → b ≡ false → first_from p (k + 1) xs ≡ first_from p k ys
   unfolding first_from
-  first_on {x} {xs} e h t = ap (λ (i : ℕ). first_from p i xs) (add-one k) ∙ sym (ap (first_from p k) e ∙ ap (λ (b : Bool). cond b (At k) (first_from p (suc k) xs)) (sym h ∙ t))
+  first_on {x} {xs} e h t = ap (λ (i : ℕ). first_from p i xs) (add-one k) ∙ sym (ap (first_from p k) e ∙ ap (λ (b : Bool). cond b (Some k) (first_from p (suc k) xs)) (sym h ∙ t))
 
-  first_end : {x : A} {ys : List A} {b : Bool} → ys ≡ x ∷ [] → b ≡ p x → b ≡ false → Nothing ≡ first_from p k ys
+  first_end : {x : A} {ys : List A} {b : Bool} → ys ≡ x ∷ [] → b ≡ p x → b ≡ false → None ≡ first_from p k ys
   unfolding first_from
-  first_end {x} e h t = sym (ap (first_from p k) e ∙ ap (λ (b : Bool). cond b (At k) Nothing) (sym h ∙ t))
+  first_end {x} e h t = sym (ap (first_from p k) e ∙ ap (λ (b : Bool). cond b (Some k) None) (sym h ∙ t))
 
-  first_none : {ys : List A} → ys ≡ [] → Nothing ≡ first_from p k ys
+  first_none : {ys : List A} → ys ≡ [] → None ≡ first_from p k ys
   unfolding first_from
   first_none e = sym (ap (first_from p k) e)
 
@@ -58,9 +58,9 @@ module _ (ls : List Line) where
 module _ (s : List ℕ) (ls : List Line) where
   -- what the line at i, the k-th, says of the first
   data Tells (i k : ℕ) : Stray → Type 0 where
-    astray : At k ≡ first_from (strays ls) k (lines_at s i).items → Tells i k Astray
+    astray : Some k ≡ first_from (strays ls) k (lines_at s i).items → Tells i k Astray
     on : {j : ℕ} → first_from (strays ls) (k + 1) (lines_at s j).items ≡ first_from (strays ls) k (lines_at s i).items → 3 + i ≤ j → j ≤ length s → Tells i k (Next j)
-    clean : Nothing ≡ first_from (strays ls) k (lines_at s i).items → Tells i k Clean
+    clean : None ≡ first_from (strays ls) k (lines_at s i).items → Tells i k Clean
 
   tells : (i k : ℕ) → Tells i k (stray_of ls (line_step_at s i))
   tells i k = go (line_step_at s i) refl
@@ -89,18 +89,18 @@ module _ (s : List ℕ) (ls : List Line) where
   going_none {first} h = record { i = first; same = refl; few = omega arith; judged = h }
 
   module _ {first k : ℕ} {w : Stray} (g : Going first k w) where
-    pub going_astray : w ≡ Astray → At k ≡ first_from (strays ls) 0 (lines_at s first).items
+    pub going_astray : w ≡ Astray → Some k ≡ first_from (strays ls) 0 (lines_at s first).items
     going_astray e = go (tells g.i k) (sym g.judged ∙ e)
       where
-        go : {x : Stray} → Tells g.i k x → x ≡ Astray → At k ≡ first_from (strays ls) 0 (lines_at s first).items
+        go : {x : Stray} → Tells g.i k x → x ≡ Astray → Some k ≡ first_from (strays ls) 0 (lines_at s first).items
         go (astray h) e = h ∙ g.same
         go (on h a b) e = let y : ◌≡◌ {A = ℕ} 0 1 = cc in absurd (omega arith)
         go (clean h) e = let y : ◌≡◌ {A = ℕ} 0 1 = cc in absurd (omega arith)
 
-    pub going_clean : w ≡ Clean → Nothing ≡ first_from (strays ls) 0 (lines_at s first).items
+    pub going_clean : w ≡ Clean → None ≡ first_from (strays ls) 0 (lines_at s first).items
     going_clean e = go (tells g.i k) (sym g.judged ∙ e)
       where
-        go : {x : Stray} → Tells g.i k x → x ≡ Clean → Nothing ≡ first_from (strays ls) 0 (lines_at s first).items
+        go : {x : Stray} → Tells g.i k x → x ≡ Clean → None ≡ first_from (strays ls) 0 (lines_at s first).items
         go (astray h) e = let y : ◌≡◌ {A = ℕ} 0 1 = cc in absurd (omega arith)
         go (on h a b) e = let y : ◌≡◌ {A = ℕ} 0 1 = cc in absurd (omega arith)
         go (clean h) e = h ∙ g.same

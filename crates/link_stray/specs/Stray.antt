@@ -1,10 +1,9 @@
 -- What the functions of this crate answer: of a tree's lines, those whose references lead nowhere, and the first of them.
-use Rattle.std.specs.Prelude.{Bool, cond, ◌||◌, List, [], ◌∷◌, ℕ, suc}
+use Rattle.std.specs.declared.option.Option.{Option}
+use Rattle.std.specs.Prelude.{Bool, cond, ◌||◌, List, [], ◌∷◌, ℕ, suc, Some, None}
 use Rattle.tree_line.specs.declared.Line.{Line}
 use Rattle.tree_line.specs.declared.LineStep.{LineStep}
 use Rattle.tree_line.specs.declared.LineStep.TheVariants as step
-use Rattle.link_search.specs.declared.Found.{Found}
-use Rattle.link_search.specs.declared.Found.TheVariants.{At, Nothing}
 use Rattle.link_alone.specs.Alone.{target_in}
 use Rattle.link_fits.specs.Fits.{nowhere}
 use Rattle.link_stray.specs.declared.Stray.{Stray}
@@ -12,9 +11,9 @@ use Rattle.link_stray.specs.declared.Stray.TheVariants.{Astray, Next, Clean}
 
 -- the first of a list of which a test is true, counted from k
 module _ {A : Type 0} (p : A → Bool) where
-  unfoldable pub first_from : ℕ → List A → Found
-  first_from k [] = Nothing
-  first_from k (x ∷ xs) = cond (p x) (At k) (first_from (suc k) xs)
+  unfoldable pub first_from : ℕ → List A → Option ℕ
+  first_from k [] = None
+  first_from k (x ∷ xs) = cond (p x) (Some k) (first_from (suc k) xs)
 
 -- its yes or its no leads nowhere
 abbrev pub strays : List Line → Line → Bool

@@ -9,7 +9,6 @@ ghost use Rattle.link_stray.specs.Stray.{first_from, strays, stray_of};
 
 use link_alone::target_of;
 use link_fits::is_nowhere;
-use link_search::Found;
 use tree_line::{Line, LineStep, next_line};
 
 // A line that leads nowhere; or one that doesn't, and where the next stands, or that there is none.
@@ -56,23 +55,24 @@ fn stray_at(s: &[u8], first: usize, n: u64, in_order: bool, place: usize) -> Str
 }
 
 // The first of the n lines from `first` on of which yes or no leads nowhere. A line is read in two places, so that it has a frame of its own, and nothing else stands on top of it.
-pub fn first_astray(s: &[u8], first: usize, n: u64, in_order: bool) -> Found
+pub fn first_astray(s: &[u8], first: usize, n: u64, in_order: bool) -> Option<u64>
     requires { Lines s.now first n in_order }
     ensures { result ≡ first_from (strays (lines_at s.now first).items) 0 (lines_at s.now first).items }
 {
     let mut k: u64 = 0;
     let mut stray = stray_at(s, first, n, in_order, first);
+    // No `for`: where the next line stands is what the reader of this one answers.
     loop {
         match stray {
             Stray::Astray => {
-                return Found::At(k);
+                return Some(k);
             }
             Stray::Next(next) => {
                 k = k + 1;
                 stray = stray_at(s, first, n, in_order, next);
             }
             Stray::Clean => {
-                return Found::Nothing;
+                return None;
             }
         }
     }

@@ -81,12 +81,6 @@ pub record Gathering (w : List ℤ) (n : ℕ) (rows₀ : List ℕ) (at : ℕ) (r
   pub ends : end + length (rest w n line) ≡ at + length (pdfs_of (lines_from w 0 n))
 
 module _ (w : List ℤ) (n : ℕ) (rows₀ : List ℕ) (at : ℕ) where
-  pub gather_none : Gathering w n rows₀ at rows₀ 0 at
-  gather_none =
-      let e : n - 0 ≡ n = omega arith in
-      let f : rest w n 0 ≡ pdfs_of (lines_from w 0 n) = ap (λ (m : ℕ). pdfs_of (lines_from w 0 m)) e in
-      record { within = omega arith; long = refl; stored = ap (sets rows₀ at) f; ends = ap (λ (l : List ℕ). at + length l) f }
-
   module _ (rows : List ℕ) (line end : ℕ) (g : Gathering w n rows₀ at rows line end) where
     pub gather_room : line < n → at + length (pdfs_of (lines_from w 0 n)) ≤ length rows₀ → end + length (pdfs_of (lines_from w line 1)) ≤ length rows
     gather_room h r = omega (arith, g.ends, g.long, ap length (rest_more w n line h), length-append (pdfs_of (lines_from w line 1)) (rest w n (line + 1)))
@@ -114,9 +108,6 @@ pub record Numbering (n : ℕ) (rows₀ rows : List ℕ) (k : ℕ) : Type 0 wher
   pub stored : sets rows k (count_from k (n - k)) ≡ sets rows₀ 0 (count_from 0 n)
 
 module _ (n : ℕ) (rows₀ : List ℕ) where
-  pub number_none : Numbering n rows₀ rows₀ 0
-  number_none = record { within = omega arith; long = refl; stored = let e : n - 0 ≡ n = omega arith in ap (λ (m : ℕ). sets rows₀ 0 (count_from 0 m)) e }
-
   pub number_more : (rows : List ℕ) (k : ℕ) → Numbering n rows₀ rows k → k < n → Numbering n rows₀ (set rows k k) (k + 1)
   unfolding count_from
   number_more rows k p h =
@@ -149,9 +140,6 @@ module _ (w : List ℤ) (n : ℕ) where
   pub order_end : (k : ℕ) → n ≤ k → order_from w k (n - k) ≡ true
   unfolding order_from
   order_end k h = let e : n - k ≡ 0 = omega arith in ap (order_from w k) e
-
-  pub order_start : order_from w 0 (n - 0) ≡ order_from w 0 n
-  order_start = let e : n - 0 ≡ n = omega arith in ap (order_from w 0) e
 
   -- where they are in order each is what its line says
   pub order_at : (k m : ℕ) → order_from w k m ≡ true → (j : ℕ) → k ≤ j → j < k + m → id_key (id_at w j) + j ≡ 9223372036854775808

@@ -1,19 +1,18 @@
 -- Where references lead, among n lines in the work and leaves that ascend.
-use Rattle.std.specs.Prelude.{◌≡◌, Bool, true, false, cond, List, ℕ, zero, suc, ◌+◌, ◌*◌, ◌≤◌, eqb, ℤ, length, take, drop}
+use Rattle.std.specs.declared.option.Option.{Option}
+use Rattle.std.specs.Prelude.{◌≡◌, Bool, true, false, cond, List, ℕ, zero, suc, ◌+◌, ◌*◌, ◌≤◌, eqb, ℤ, length, take, drop, Some, None}
 use Rattle.written.specs.Said.{Ref, node, pdf}
 use Rattle.link_order.specs.Keys.{id_key, id_at}
 use Rattle.link_search.specs.Found.{last_below, first_from}
 use Rattle.link_search.specs.Index.{Index, Ascends}
-use Rattle.link_search.specs.declared.Found.{Found}
-use Rattle.link_search.specs.declared.Found.TheVariants.{At, Nothing}
 
 -- n further
-abbrev pub moved : ℕ → Found → Found
-moved n (At k) = At (n + k)
-moved n Nothing = Nothing
+abbrev pub moved : ℕ → Option ℕ → Option ℕ
+moved n (Some k) = Some (n + k)
+moved n None = None
 
 -- an id leads to the last line that bears it, a PDF behind the lines to the first leaf of its number
-unfoldable pub target_of : List ℤ → ℕ → List ℕ → Ref → Found
+unfoldable pub target_of : List ℤ → ℕ → List ℕ → Ref → Option ℕ
 target_of w n leaves (node x) = last_below (λ e. eqb (id_key (id_at w e)) (id_key x)) n
 target_of w n leaves (pdf p) = moved n (first_from (λ e. eqb e p) 0 leaves)
 

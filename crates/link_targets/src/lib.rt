@@ -11,7 +11,7 @@ ghost use Rattle.link_targets.specs.Lines.{ref_at, pdfs_of, lines_from};
 ghost use Rattle.link_targets.specs.Targets.{target_of, order_from, Ready, Rows};
 
 use link_order::{id_key, id_of};
-use link_search::{Found, first_leaf, last_id};
+use link_search::{first_leaf, last_id};
 use table_rows::{LINE_NO, LINE_YES, RECORD_ROW, WORK_A_LINE};
 use text_parts::natural;
 
@@ -43,11 +43,9 @@ pub fn gather(work: &[i64], n: usize, rows: &mut [u64], at: usize) -> usize
     requires { (6 * n ≤ length work.now) × (at + length (pdfs_of (lines_from work.now 0 n)) ≤ length rows.old) }
     ensures { (rows.new ≡ sets rows.old at (pdfs_of (lines_from work.now 0 n))) × (result ≡ at + length (pdfs_of (lines_from work.now 0 n))) }
 {
-    let mut line = 0;
     let mut end = at;
-    while line < n {
+    for line in 0..n {
         end = push_line(work, line, rows, end);
-        line = line + 1;
     }
     end
 }
@@ -57,10 +55,8 @@ pub fn number_lines(rows: &mut [u64], n: usize)
     requires { n ≤ length rows.old }
     ensures { rows.new ≡ sets rows.old 0 (count_from 0 n) }
 {
-    let mut line = 0;
-    while line < n {
+    for line in 0..n {
         rows[line] = line as u64;
-        line = line + 1;
     }
 }
 
@@ -68,8 +64,7 @@ pub fn number_lines(rows: &mut [u64], n: usize)
 pub fn in_order(work: &[i64], n: usize) -> bool
     ensures { result ≡ order_from work.now 0 n }
 {
-    let mut line: u64 = 0;
-    while line < n as u64 {
+    for line in 0..(n as u64) {
         let key = id_key(id_of(work, line));
         if 9223372036854775808 < key {
             return false;
@@ -77,13 +72,12 @@ pub fn in_order(work: &[i64], n: usize) -> bool
         if 9223372036854775808 - key != line {
             return false;
         }
-        line = line + 1;
     }
     true
 }
 
 // The last line with an id: where the id says, or by the index in front of the rows.
-fn find_line(work: &[i64], rows: &[u64], n: usize, ordered: bool, id: i64) -> Found
+fn find_line(work: &[i64], rows: &[u64], n: usize, ordered: bool, id: i64) -> Option<u64>
     requires { (n ≤ length rows.now) × Ready work.now n (take n rows.now) ordered }
     ensures { result ≡ last_below (λ e. eqb (id_key (id_at work.now e)) (id_key id)) n }
 {
@@ -92,14 +86,10 @@ fn find_line(work: &[i64], rows: &[u64], n: usize, ordered: bool, id: i64) -> Fo
     }
     let key = id_key(id);
     if 9223372036854775808 < key {
-        return Found::Nothing;
+        return None;
     }
     let line = 9223372036854775808 - key;
-    if line < n as u64 {
-        Found::At(line)
-    } else {
-        Found::Nothing
-    }
+    if line < n as u64 { Some(line) } else { None }
 }
 
 // Where the reference leads whose kind stands at `kind`: to a line, or behind the n lines to a leaf.
@@ -110,7 +100,7 @@ pub fn target(
     n: usize,
     leaves: usize,
     ordered: bool,
-) -> Found
+) -> Option<u64>
     requires { (kind + 1 < length work.now) × Rows work.now n leaves ordered rows.now }
     ensures { result ≡ target_of work.now n (take leaves (drop (4 * n) rows.now)) (ref_at work.now kind) }
 {
@@ -121,8 +111,6 @@ pub fn target(
     }
     let first = RECORD_ROW * n;
     let end = first + leaves;
-    match first_leaf(&rows[first..end], natural(v)) {
-        Found::At(leaf) => Found::At(n as u64 + leaf),
-        Found::Nothing => Found::Nothing,
-    }
+    let leaf = first_leaf(&rows[first..end], natural(v))?;
+    Some(n as u64 + leaf)
 }

@@ -7,6 +7,9 @@ use borrow.Author.Tests.{lt-ltb}
 use lib.Dec.{eqb}
 use lib.IntN.{ℤ, pos}
 use lib.ListN.{length, get_or}
+use Rattle.error.specs.declared.LinkFault.{LinkFault}
+use Rattle.link_tree.specs.declared.Sides.{Sides}
+use Rattle.std.specs.declared.result.Result.{Result}
 use Rattle.written.specs.Said.{Ref, node, pdf}
 use Rattle.link_order.specs.Keys.{key_of, id_key, id_at}
 use Rattle.link_sort.specs.Sorted.{sorted}
@@ -16,16 +19,15 @@ use Rattle.link_targets.specs.Targets.{target_of}
 use Rattle.link_rows.specs.Rows.{leaf_rows}
 use Rattle.link_tree.specs.Steps.{step_yes, step_of, first, outcome, goals_of, goals}
 use Rattle.link_tree.specs.Linked.{leaves_of, step_in, record_rows, link_outcome, linked_rows}
-use Rattle.link_tree.specs.declared.Step.{Step}
 
 -- ---- what depends on a step depends on its values
 
-outcome_ext : (S R : WorkLine → Step) → ((l : WorkLine) → S l ≡ R l) → (k : ℕ) (ls : List WorkLine) → outcome S k ls ≡ outcome R k ls
+outcome_ext : (S R : WorkLine → Result Sides LinkFault) → ((l : WorkLine) → S l ≡ R l) → (k : ℕ) (ls : List WorkLine) → outcome S k ls ≡ outcome R k ls
 unfolding outcome
 outcome_ext S R e k [] = refl
 outcome_ext S R e k (l ∷ ls) = ap₂ (first k) (e l) (outcome_ext S R e (suc k) ls)
 
-goals_ext : (S R : WorkLine → Step) → ((l : WorkLine) → S l ≡ R l) → (ls : List WorkLine) → goals S ls ≡ goals R ls
+goals_ext : (S R : WorkLine → Result Sides LinkFault) → ((l : WorkLine) → S l ≡ R l) → (ls : List WorkLine) → goals S ls ≡ goals R ls
 unfolding goals
 goals_ext S R e [] = refl
 goals_ext S R e (l ∷ ls) = ap₂ goals_of (e l) (goals_ext S R e ls)

@@ -8,6 +8,11 @@ use borrow.Rule.Slice.PartMut.{put_mid}
 use lib.IntN.{ℤ}
 use lib.ListN.{length, get_or, take, drop, length-append}
 use lib.Seq.{sets, length-sets}
+use Rattle.error.specs.declared.LineFault.{LineFault}
+use Rattle.error.specs.declared.LinkFault.{LinkFault}
+use Rattle.link_tree.specs.declared.Sides.{Sides}
+use Rattle.std.specs.declared.result.Result.{Result}
+use Rattle.std.specs.Prelude.{Ok, Err}
 use Rattle.laws.proofs.Tables.{part-sets, part_back, sets_whole, sets_under, sets_at, drop-sets}
 use Rattle.link_order.specs.Keys.{key_of, id_key, id_at}
 use Rattle.link_sort.specs.Sorted.{sorted}
@@ -19,10 +24,6 @@ use Rattle.link_targets.specs.Targets.{target_of, order_from, Ready, in_order, b
 use Rattle.link_rows.specs.Rows.{leaf_rows, line_rows}
 use Rattle.link_tree.specs.Steps.{step_of, first, outcome, goals_of, goals}
 use Rattle.link_tree.specs.Linked.{leaves_of, step_in, record_rows, link_outcome, linked_rows}
-use Rattle.link_tree.specs.declared.Step.{Step}
-use Rattle.link_tree.specs.declared.Step.TheVariants.{Goes, Fails}
-use Rattle.link_tree.specs.declared.Link.{Link}
-use Rattle.link_tree.specs.declared.Link.TheVariants.{Done}
 
 -- ---- leaves and index
 
@@ -94,14 +95,14 @@ module _ (w : List ℤ) (n leaves : ℕ) (rows₀ : List ℕ) (m : leaves ≡ le
 
 -- ---- records
 
-goals-length : (S : WorkLine → Step) (k : ℕ) (ls : List WorkLine) → outcome S k ls ≡ Done → length (goals S ls) ≡ 2 * length ls
+goals-length : (S : WorkLine → Result Sides LinkFault) (k : ℕ) (ls : List WorkLine) → outcome S k ls ≡ (Ok tt) → length (goals S ls) ≡ 2 * length ls
 unfolding outcome goals
 goals-length S k [] e = refl
 goals-length S k (l ∷ ls) e = go (S l) e (goals-length S (suc k) ls)
   where
-    go : (s : Step) → first k s (outcome S (suc k) ls) ≡ Done → (outcome S (suc k) ls ≡ Done → length (goals S ls) ≡ 2 * length ls) → length (goals_of s (goals S ls)) ≡ 2 * suc (length ls)
-    go (Goes y n) e r = omega (arith, r e)
-    go (Fails f) e r = let u : ◌≡◌ {A = ℕ} 0 1 = cc in absurd (omega arith)
+    go : (s : Result Sides LinkFault) → first k s (outcome S (suc k) ls) ≡ (Ok tt) → (outcome S (suc k) ls ≡ (Ok tt) → length (goals S ls) ≡ 2 * length ls) → length (goals_of s (goals S ls)) ≡ 2 * suc (length ls)
+    go (Ok q) e r = omega (arith, r e)
+    go (Err f) e r = let u : ◌≡◌ {A = ℕ} 0 1 = cc in absurd (omega arith)
 
 pub length_lines : (w : List ℤ) (k n : ℕ) → length (lines_from w k n) ≡ n
 unfolding lines_from
@@ -137,7 +138,7 @@ length-leaf_rows [] = refl
 length-leaf_rows (p ∷ ps) = omega (arith, length-leaf_rows ps)
 
 -- a record has four words: one for each line and for each PDF reference
-pub length_linked : (w : List ℤ) (n : ℕ) → link_outcome w n ≡ Done → length (linked_rows w n) ≡ 4 * (n + length (pdfs_of (lines_from w 0 n)))
+pub length_linked : (w : List ℤ) (n : ℕ) → link_outcome w n ≡ (Ok tt) → length (linked_rows w n) ≡ 4 * (n + length (pdfs_of (lines_from w 0 n)))
 unfolding linked_rows link_outcome
 length_linked w n d =
     let ls = lines_from w 0 n in
@@ -147,11 +148,11 @@ length_linked w n d =
 
 module _ (w : List ℤ) (n leaves : ℕ) (rows₂ : List ℕ) (m : leaves ≡ length (pdfs_of (lines_from w 0 n))) (room : length rows₂ ≡ 4 * n + 4 * leaves) (there : take leaves (drop (4 * n) rows₂) ≡ leaves_of w n) where
   -- what was resolved by the leaves that stand there was resolved by the tree's own
-  pub outcome_is : {r : Link} → r ≡ outcome (step_of (target_of w n (take leaves (drop (4 * n) rows₂)))) 0 (lines_from w 0 n) → r ≡ link_outcome w n
+  pub outcome_is : {r : Result Unit LineFault} → r ≡ outcome (step_of (target_of w n (take leaves (drop (4 * n) rows₂)))) 0 (lines_from w 0 n) → r ≡ link_outcome w n
   unfolding link_outcome
   outcome_is e = e ∙ ap (λ (l : List ℕ). outcome (step_of (target_of w n l)) 0 (lines_from w 0 n)) there
 
-  pub rows_linked : link_outcome w n ≡ Done → {rows₃ rows₄ rows₅ : List ℕ} → rows₃ ≡ sets rows₂ (2 * n) (goals (step_of (target_of w n (take leaves (drop (4 * n) rows₂)))) (lines_from w 0 n))
+  pub rows_linked : link_outcome w n ≡ (Ok tt) → {rows₃ rows₄ rows₅ : List ℕ} → rows₃ ≡ sets rows₂ (2 * n) (goals (step_of (target_of w n (take leaves (drop (4 * n) rows₂)))) (lines_from w 0 n))
       → rows₄ ≡ sets rows₃ (4 * n) (leaf_rows (take leaves (drop (4 * n) rows₃))) → rows₅ ≡ sets rows₄ 0 (line_rows w rows₄ (2 * n) 0 n) → rows₅ ≡ linked_rows w n
   unfolding linked_rows link_outcome
   rows_linked d {rows₃} {rows₄} {rows₅} a b c =

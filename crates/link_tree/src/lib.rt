@@ -12,9 +12,8 @@ ghost use Rattle.link_targets.specs.Targets.{target_of, order_from, Rows};
 ghost use Rattle.link_tree.specs.Steps.{step_of, outcome, goals};
 ghost use Rattle.link_tree.specs.Linked.{leaves_of, Linking};
 
-use error::LinkFault;
+use error::{LineFault, LinkFault};
 use link_rows::{spread_leaves, write_lines};
-use link_search::Found;
 use link_sort::{sort_ids, sort_numbers};
 use link_targets::{gather, in_order, number_lines, target};
 use table_put::{put2, zero};
@@ -23,16 +22,9 @@ use text_parts::natural;
 
 // Where a line leads: both records, or what is wrong with it.
 #[derive(Clone, Copy)]
-pub enum Step {
-    Goes { yes: u64, no: u64 },
-    Fails(LinkFault),
-}
-
-// How linking a tree ends; a line is counted from 0.
-#[derive(Clone, Copy)]
-pub enum Link {
-    Done,
-    Refused { fault: LinkFault, line: usize },
+pub struct Sides {
+    pub yes: u64,
+    pub no: u64,
 }
 
 // Where a line leads, tested in 01's order: yes, no, question.
@@ -43,7 +35,7 @@ fn resolve_line(
     n: usize,
     leaves: usize,
     ordered: bool,
-) -> Step
+) -> Result<Sides, LinkFault>
     requires { (6 * line + 6 ≤ length work.now) × Rows work.now n leaves ordered rows.now }
     ensures { result ≡ step_of (target_of work.now n (take leaves (drop (4 * n) rows.now))) (line_in work.now line) }
 {
@@ -55,46 +47,43 @@ fn resolve_line(
         leaves,
         ordered,
     ) {
-        Found::At(yes) => match target(
-            work,
-            WORK_A_LINE * line + LINE_NO,
-            rows,
-            n,
-            leaves,
-            ordered,
-        ) {
-            Found::At(no) => {
+        Some(yes) => match target(work, WORK_A_LINE * line + LINE_NO, rows, n, leaves, ordered) {
+            Some(no) => {
                 let q = work[WORK_A_LINE * line + LINE_QUESTION];
                 if natural(q) == 0 {
-                    Step::Fails(LinkFault::QuestionRef)
+                    Err(LinkFault::QuestionRef)
                 } else {
-                    Step::Goes { yes, no }
+                    Ok(Sides { yes, no })
                 }
             }
-            Found::Nothing => Step::Fails(LinkFault::NodeRef),
+            None => Err(LinkFault::NodeRef),
         },
-        Found::Nothing => Step::Fails(LinkFault::NodeRef),
+        None => Err(LinkFault::NodeRef),
     }
 }
 
 // The yes and no of each line, from 2n on, up to a line that leads nowhere.
-fn resolve_lines(work: &[i64], n: usize, rows: &mut [u64], leaves: usize, ordered: bool) -> Link
+fn resolve_lines(
+    work: &[i64],
+    n: usize,
+    rows: &mut [u64],
+    leaves: usize,
+    ordered: bool,
+) -> Result<(), LineFault>
     requires { (6 * n ≤ length work.now) × Rows work.now n leaves ordered rows.old }
     ensures { (result ≡ outcome (step_of (target_of work.now n (take leaves (drop (4 * n) rows.old)))) 0 (lines_from work.now 0 n)) × (rows.new ≡ sets rows.old (2 * n) (goals (step_of (target_of work.now n (take leaves (drop (4 * n) rows.old)))) (lines_from work.now 0 n))) }
 {
-    let mut line = 0;
-    while line < n {
+    for line in 0..n {
         match resolve_line(work, line, rows, n, leaves, ordered) {
-            Step::Goes { yes, no } => {
-                put2(rows, 2 * n + 2 * line, yes, no);
+            Ok(sides) => {
+                put2(rows, 2 * n + 2 * line, sides.yes, sides.no);
             }
-            Step::Fails(fault) => {
-                return Link::Refused { fault, line };
+            Err(fault) => {
+                return Err(LineFault { fault, line });
             }
         }
-        line = line + 1;
     }
-    Link::Done
+    Ok(())
 }
 
 // The leaves, ascending, side by side from 4n on.
@@ -121,21 +110,21 @@ fn index_lines(work: &[i64], n: usize, rows: &mut [u64]) -> bool
 }
 
 // The records of a tree whose n lines, with so many PDF references, stand in the work; zeros where linking is refused.
-pub fn link_tree(work: &[i64], n: usize, leaves: usize, rows: &mut [u64]) -> Link
+pub fn link_tree(work: &[i64], n: usize, leaves: usize, rows: &mut [u64]) -> Result<(), LineFault>
     requires { (6 * n ≤ length work.now) × (leaves ≡ length (pdfs_of (lines_from work.now 0 n))) × (length rows.old ≡ 4 * n + 4 * leaves) }
     ensures { Linking work.now n rows.old rows.new result }
 {
     sort_leaves(work, n, rows, leaves);
     let ordered = index_lines(work, n, rows);
     match resolve_lines(work, n, rows, leaves, ordered) {
-        Link::Done => {
+        Ok(()) => {
             spread_leaves(rows, RECORD_ROW * n, leaves);
             write_lines(work, n, rows);
-            Link::Done
+            Ok(())
         }
-        Link::Refused { fault, line } => {
+        Err(LineFault { fault, line }) => {
             zero(rows);
-            Link::Refused { fault, line }
+            Err(LineFault { fault, line })
         }
     }
 }

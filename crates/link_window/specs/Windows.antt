@@ -1,5 +1,9 @@
 -- What the functions of this crate answer: names in a slice, by their beginnings; their keys; which of them questions bear; the first line with a fault.
-use Rattle.std.specs.Prelude.{◌≡◌, Bool, true, false, cond, List, ℕ, ◌+◌, ◌-◌, ◌≤◌, ◌<◌, ltb, length, get_or, drop}
+use Rattle.error.specs.declared.LineFault.{LineFault}
+use Rattle.error.specs.Numbers.{line_fault}
+use Rattle.std.specs.declared.result.Result.{Result}
+use Rattle.std.specs.declared.option.Option.{Option}
+use Rattle.std.specs.Prelude.{◌≡◌, Bool, true, false, cond, List, ℕ, ◌+◌, ◌-◌, ◌≤◌, ◌<◌, ltb, length, get_or, drop, Some, None, Ok, Err}
 use Rattle.written.specs.Bytes.{in_name}
 use Rattle.written.specs.Said.{QuestionPlace}
 use Rattle.written.specs.Linking.{Nth}
@@ -13,15 +17,9 @@ use Rattle.tree_line.specs.declared.Line.{Line}
 use Rattle.tree_body.specs.declared.TreeHead.{TreeHead}
 use Rattle.tree_body.specs.declared.TreeHead.TheVariants as head
 use Rattle.text_parts.specs.Parts.{part_inside}
-use Rattle.link_search.specs.declared.Found.{Found}
-use Rattle.link_search.specs.declared.Found.TheVariants.{At, Nothing}
 use Rattle.link_find.specs.Find.{asked}
 use Rattle.link_alone.specs.Alone.{single_in}
 use Rattle.link_stray.specs.Stray.{first_from, strays}
-use Rattle.link_alone.specs.declared.Single.{Single}
-use Rattle.link_alone.specs.declared.Single.TheVariants.{One, Several}
-use Rattle.link_window.specs.declared.Linking.{Linking}
-use Rattle.link_window.specs.declared.Linking.TheVariants.{Whole, Refused}
 use Rattle.link_window.specs.declared.Filled.{Filled}
 use Rattle.link_window.specs.declared.Filled.TheVariants.{More, All}
 use Rattle.link_window.specs.declared.Window.{Window}
@@ -54,9 +52,9 @@ behind_of (All n) = Clean
 
 -- ---- lines
 
-abbrev pub no_row : Found → Bool
-no_row (At k) = false
-no_row Nothing = true
+abbrev pub no_row : Option ℕ → Bool
+no_row (Some k) = false
+no_row None = true
 
 -- its question isn't there
 abbrev pub unheard : List ℕ → List QuestionPlace → Line → Bool
@@ -73,29 +71,29 @@ pub data Windowed (s : List ℕ) (qs : List QuestionPlace) (i : ℕ) : Window �
 -- ---- a tree
 
 -- the fault of the lower line; on one line a reference comes before the question
-abbrev pub fault_lines : Found → Found → Linking
-fault_lines (At a) (At b) = cond (ltb b a) (Refused QuestionRef b) (Refused NodeRef a)
-fault_lines (At a) Nothing = Refused NodeRef a
-fault_lines Nothing (At b) = Refused QuestionRef b
-fault_lines Nothing Nothing = Whole
+abbrev pub fault_lines : Option ℕ → Option ℕ → Result Unit LineFault
+fault_lines (Some a) (Some b) = cond (ltb b a) (Err (line_fault QuestionRef b)) (Err (line_fault NodeRef a))
+fault_lines (Some a) None = Err (line_fault NodeRef a)
+fault_lines None (Some b) = Err (line_fault QuestionRef b)
+fault_lines None None = (Ok tt)
 
-abbrev pub fault_alone : TreeIndex → Linking
-fault_alone (Pdf x) = Whole
-fault_alone (Node x) = Refused LoneNode 0
+abbrev pub fault_alone : TreeIndex → Result Unit LineFault
+fault_alone (Pdf x) = (Ok tt)
+fault_alone (Node x) = Err (line_fault LoneNode 0)
 
-abbrev pub fault_single : List ℕ → List QuestionPlace → List Line → Single → Linking
-fault_single s qs ls (One x) = fault_alone x
-fault_single s qs ls Several = fault_lines (first_from (strays ls) 0 ls) (first_from (unheard s qs) 0 ls)
+abbrev pub fault_single : List ℕ → List QuestionPlace → List Line → Option TreeIndex → Result Unit LineFault
+fault_single s qs ls (Some x) = fault_alone x
+fault_single s qs ls None = fault_lines (first_from (strays ls) 0 ls) (first_from (unheard s qs) 0 ls)
 
-abbrev pub fault_ending : List ℕ → List QuestionPlace → List Line → Ending → Linking
+abbrev pub fault_ending : List ℕ → List QuestionPlace → List Line → Ending → Result Unit LineFault
 fault_ending s qs ls (done_at e) = fault_single s qs ls (single_in ls)
-fault_ending s qs ls (broken_at e) = Whole
+fault_ending s qs ls (broken_at e) = (Ok tt)
 
-unfoldable pub fault_braces : List ℕ → List QuestionPlace → Reading Line → Linking
+unfoldable pub fault_braces : List ℕ → List QuestionPlace → Reading Line → Result Unit LineFault
 fault_braces s qs r = fault_ending s qs r.items r.ending
 
-abbrev pub fault_head : List ℕ → List QuestionPlace → TreeHead → Linking
+abbrev pub fault_head : List ℕ → List QuestionPlace → TreeHead → Result Unit LineFault
 fault_head s qs (head.Lone x r e) = fault_alone r
-fault_head s qs (head.Empty x e) = Whole
+fault_head s qs (head.Empty x e) = (Ok tt)
 fault_head s qs (head.Lines x f) = fault_braces s qs (lines_at s f)
-fault_head s qs head.NoTree = Whole
+fault_head s qs head.NoTree = (Ok tt)

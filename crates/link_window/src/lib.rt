@@ -3,18 +3,17 @@
 // would take lines times questions. Every function takes any bytes and any place, also one past the end. A place is an index into the slice; the questions are those of the text that begins at `at`.
 #![tactic(auto)]
 
-ghost use Rattle.std.specs.Prelude.{◌≡◌, ◌<◌, length, set};
+ghost use Rattle.std.specs.Prelude.{◌≡◌, ◌<◌, length, set, Err};
 ghost use Rattle.tree_line.specs.Lines.{lines_at};
 ghost use Rattle.tree_question.specs.Questions.{questions_at};
 ghost use Rattle.tree_body.specs.Trees.{head_at};
 ghost use Rattle.link_stray.specs.Stray.{first_from};
-ghost use Rattle.link_window.specs.declared.Linking.TheVariants.{Refused};
 ghost use Rattle.link_window.specs.Windows.{Filling, taken_of, behind_of, Windowed, unheard, fault_alone, fault_lines, fault_head};
+ghost use Rattle.error.specs.Numbers.{line_fault};
 
-use error::LinkFault;
+use error::{LineFault, LinkFault};
 use link_find::ids_in_order;
 use link_names::look_up;
-use link_search::Found;
 use link_shape::{Shape, shape_of};
 use link_stray::first_astray;
 use tree_line::{LineStep, next_line};
@@ -22,13 +21,6 @@ use tree_reference::TreeIndex;
 
 // How many lines are looked up at a time.
 const WINDOW: usize = 40;
-
-// Whether a tree links, or at which line it doesn't.
-#[derive(Clone, Copy)]
-pub enum Linking {
-    Whole,
-    Refused { fault: LinkFault, line: usize },
-}
 
 // Whether more lines follow those whose names were taken, or how many were taken in all.
 #[derive(Clone, Copy)]
@@ -61,12 +53,10 @@ fn fill(s: &[u8], first: usize, names: &mut [u64]) -> Filled
     ensures { Filling s.now first names.old result names.new }
 {
     let mut i = first;
-    let mut k = 0;
-    while k < WINDOW {
+    for k in 0..WINDOW {
         match next_line(s, i) {
             LineStep::Next { line, next } => {
                 put_name(names, k, line.start);
-                k = k + 1;
                 i = next;
             }
             LineStep::Last { line, next: _ } => {
@@ -110,61 +100,62 @@ fn read_window(s: &[u8], at: usize, first: usize) -> Window
     let mut names = [0u64; 40];
     let filled = fill(s, first, &mut names);
     match look_up(s, at, &names, taken(filled)) {
-        Found::At(j) => Window::Missing(j),
-        Found::Nothing => behind(filled),
+        Some(j) => Window::Missing(j),
+        None => behind(filled),
     }
 }
 
 // The first of the lines from `first` on whose question isn't there. The window is read in two places, so that its names have a frame of their own, and the text's
 // survey doesn't stand on top of them.
-pub fn first_unasked(s: &[u8], at: usize, first: usize) -> Found
+pub fn first_unasked(s: &[u8], at: usize, first: usize) -> Option<u64>
     ensures { result ≡ first_from (unheard s.now (questions_at s.now at).items) 0 (lines_at s.now first).items }
 {
     let mut k: u64 = 0;
     let mut window = read_window(s, at, first);
+    // No `for`: where the next window begins is what the reader of this one answers.
     loop {
         match window {
             Window::Missing(j) => {
-                return Found::At(k + j);
+                return Some(k + j);
             }
             Window::Next(next) => {
                 k = k + 40;
                 window = read_window(s, at, next);
             }
             Window::Clean => {
-                return Found::Nothing;
+                return None;
             }
         }
     }
 }
 
-fn refused(fault: LinkFault, line: u64) -> Linking
-    ensures { result ≡ Refused fault line }
+fn refused(fault: LinkFault, line: u64) -> Result<(), LineFault>
+    ensures { result ≡ Err (line_fault fault line) }
 {
-    Linking::Refused {
+    Err(LineFault {
         fault,
         line: line as usize,
-    }
+    })
 }
 
 // The fault of the lower line; on one line a reference comes before the question.
-fn lower(astray: Found, unasked: Found) -> Linking
+fn lower(astray: Option<u64>, unasked: Option<u64>) -> Result<(), LineFault>
     ensures { result ≡ fault_lines astray unasked }
 {
     match astray {
-        Found::At(a) => match unasked {
-            Found::At(b) => {
+        Some(a) => match unasked {
+            Some(b) => {
                 if b < a {
                     refused(LinkFault::QuestionRef, b)
                 } else {
                     refused(LinkFault::NodeRef, a)
                 }
             }
-            Found::Nothing => refused(LinkFault::NodeRef, a),
+            None => refused(LinkFault::NodeRef, a),
         },
-        Found::Nothing => match unasked {
-            Found::At(b) => refused(LinkFault::QuestionRef, b),
-            Found::Nothing => Linking::Whole,
+        None => match unasked {
+            Some(b) => refused(LinkFault::QuestionRef, b),
+            None => Ok(()),
         },
     }
 }
@@ -172,27 +163,27 @@ fn lower(astray: Found, unasked: Found) -> Linking
 // ---- a tree
 
 // A tree that is one reference.
-fn link_alone(index: TreeIndex) -> Linking
+fn link_alone(index: TreeIndex) -> Result<(), LineFault>
     ensures { result ≡ fault_alone index }
 {
     match index {
-        TreeIndex::Pdf(_) => Linking::Whole,
+        TreeIndex::Pdf(_) => Ok(()),
         TreeIndex::Node(_) => refused(LinkFault::LoneNode, 0),
     }
 }
 
 // The tree that stands at `star`.
-pub fn link_tree(s: &[u8], at: usize, star: usize) -> Linking
+pub fn link_tree(s: &[u8], at: usize, star: usize) -> Result<(), LineFault>
     ensures { result ≡ fault_head s.now (questions_at s.now at).items (head_at s.now star) }
 {
     match shape_of(s, star) {
         Shape::One { index, lines: _ } => link_alone(index),
-        Shape::Empty => Linking::Whole,
+        Shape::Empty => Ok(()),
         Shape::Lines { first, n } => lower(
             first_astray(s, first, n, ids_in_order(s, first)),
             first_unasked(s, at, first),
         ),
         // never, of a tree that can be read
-        Shape::Broken => Linking::Whole,
+        Shape::Broken => Ok(()),
     }
 }

@@ -14,7 +14,9 @@ use Rattle.written.specs.Sharing.{Side, Table, questions, patterns, trees, recor
 use Rattle.load_plan.specs.declared.Plan.{Plan}
 use Rattle.load_apart.proofs.Rows.{within, length_own}
 use Rattle.load_apart.proofs.Tests.{stands_is}
-use Rattle.load_bounds.specs.Bounds.{need_of, held_of, tables_of, stands_at, Cut}
+use Rattle.load_bounds.specs.Bounds.{need_of, held_of, tables_of, stands_at, Cut, Roomy, Cuts}
+use Rattle.load_bounds.specs.declared.Held.{Held as Bounds}
+use Rattle.load_bounds.specs.declared.Parts.{Parts}
 
 -- ---- tests
 
@@ -85,3 +87,30 @@ module _ (x : Side) (w : ℕ) (t : List ℕ) (n a e : ℕ) (c : Cut x w (length 
   cut_back ys l =
       ap (λ (m : ℕ). put_mid a m t ys) cut_long ∙ part_put t a (w * n) ys (l ∙ cut_length) cut_within
       ∙ ap (λ (b : ℕ). sets t b ys) c.start
+
+-- ---- bounds that are a plan's need
+
+module _ {h : Bounds} (p : Plan) (e : held_of h ≡ need_of p) where
+  row_is : (k : Table) → held_of h k ≡ need_of p k
+  row_is k = ap (λ (f : Held). f k) e
+
+  pub needs_room : (q a t c v : ℕ) → p.questions ≤ q / 4 → p.patterns ≤ a / 2 → p.trees ≤ t / 6 → p.records ≤ c / 4 → p.entries * p.width ≤ v → Roomy h q a t c v
+  needs_room q a t c v i j k l m =
+      record {
+        questions = subst (λ (n : ℕ). n ≤ q / 4) (sym (row_is questions)) i;
+        patterns = subst (λ (n : ℕ). n ≤ a / 2) (sym (row_is patterns)) j;
+        trees = subst (λ (n : ℕ). n ≤ t / 6) (sym (row_is trees)) k;
+        records = subst (λ (n : ℕ). n ≤ c / 4) (sym (row_is records)) l;
+        values = subst (λ (n : ℕ). n ≤ v) (sym (row_is values)) m;
+      }
+
+  pub need_cuts : {x : Side} {q a t c v : ℕ} {o : Parts} → Cuts x h q a t c v o
+      → Cut x 4 q p.questions o.questions.from o.questions.to × Cut x 2 a p.patterns o.patterns.from o.patterns.to × Cut x 6 t p.trees o.trees.from o.trees.to
+      × Cut x 4 c p.records o.records.from o.records.to × Cut x 1 v (p.entries * p.width) o.values.from o.values.to
+  need_cuts {x} {q} {a} {t} {c} {v} {o} u = (
+    subst (λ (n : ℕ). Cut x 4 q n o.questions.from o.questions.to) (row_is questions) u.questions,
+    subst (λ (n : ℕ). Cut x 2 a n o.patterns.from o.patterns.to) (row_is patterns) u.patterns,
+    subst (λ (n : ℕ). Cut x 6 t n o.trees.from o.trees.to) (row_is trees) u.trees,
+    subst (λ (n : ℕ). Cut x 4 c n o.records.from o.records.to) (row_is records) u.records,
+    subst (λ (n : ℕ). Cut x 1 v n o.values.from o.values.to) (row_is values) u.values,
+  )

@@ -4,6 +4,7 @@ use Rattle.std.specs.Prelude.{◌≡◌, Bool, true, false, List, ℕ, ◌+◌, 
 use Rattle.written.specs.Sharing.{Side, bottom, top, Table, questions, patterns, trees, records, values, width, whole_rows, Tables, Held, every_table, start_of}
 use Rattle.load_plan.specs.declared.Plan.{Plan}
 use Rattle.load_bounds.specs.declared.Held.{Held as Bounds}
+use Rattle.load_bounds.specs.declared.Parts.{Parts}
 
 abbrev pub side_of : Bool → Side
 side_of true = top
@@ -48,3 +49,19 @@ pub record Cut (x : Side) (w l n a e : ℕ) : Type 0 where
   pub end : e ≡ a + w * n
   pub room : n ≤ l / w
   pub within : e ≤ l
+
+-- tables of so many numbers have the rows of these bounds
+pub record Roomy (h : Bounds) (q a t c v : ℕ) : Type 0 where
+  pub questions : h.questions ≤ q / 4
+  pub patterns : h.patterns ≤ a / 2
+  pub trees : h.trees ≤ t / 6
+  pub records : h.records ≤ c / 4
+  pub values : h.values ≤ v
+
+-- five parts are the rows of a task with these bounds
+pub record Cuts (x : Side) (h : Bounds) (q a t c v : ℕ) (p : Parts) : Type 0 where
+  pub questions : Cut x 4 q h.questions p.questions.from p.questions.to
+  pub patterns : Cut x 2 a h.patterns p.patterns.from p.patterns.to
+  pub trees : Cut x 6 t h.trees p.trees.from p.trees.to
+  pub records : Cut x 4 c h.records p.records.from p.records.to
+  pub values : Cut x 1 v h.values p.values.from p.values.to

@@ -3,7 +3,7 @@
 
 ghost use Rattle.std.specs.Prelude.{◌≡◌, ◌+◌, ◌*◌, ◌/◌, ◌≤◌, ◌<◌, ◌^◌, leb};
 ghost use Rattle.written.specs.Sharing.{nothing, first_row, holds};
-ghost use Rattle.load_bounds.specs.Bounds.{side_of, held_of, need_of, stands_at, Cut};
+ghost use Rattle.load_bounds.specs.Bounds.{side_of, held_of, need_of, stands_at, Cut, Roomy, Cuts};
 
 use load_plan::Plan;
 use table_rows::{PATTERN_ROW, QUESTION_ROW, RECORD_ROW, TREE_ROW};
@@ -54,6 +54,38 @@ pub fn own_part(top: bool, len: usize, width: usize, n: usize) -> Part
     let from = width * first_row(top, len / width, n);
     let to = from + width * n;
     Part { from, to }
+}
+
+// The parts of the five tables in which a task's rows stand.
+#[derive(Clone, Copy)]
+pub struct Parts {
+    pub questions: Part,
+    pub patterns: Part,
+    pub trees: Part,
+    pub records: Part,
+    pub values: Part,
+}
+
+// The parts of tables of so many numbers, of a task that has these bounds.
+pub fn own_parts(
+    top: bool,
+    held: Held,
+    questions: usize,
+    patterns: usize,
+    trees: usize,
+    records: usize,
+    values: usize,
+) -> Parts
+    requires { Roomy held questions patterns trees records values }
+    ensures { Cuts (side_of top) held questions patterns trees records values result }
+{
+    Parts {
+        questions: own_part(top, questions, QUESTION_ROW, held.questions),
+        patterns: own_part(top, patterns, PATTERN_ROW, held.patterns),
+        trees: own_part(top, trees, TREE_ROW, held.trees),
+        records: own_part(top, records, RECORD_ROW, held.records),
+        values: own_part(top, values, 1, held.values),
+    }
 }
 
 // Whether a table of so many rows has a and b of them, one beside the other.

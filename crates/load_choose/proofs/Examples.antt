@@ -14,31 +14,30 @@ use Rattle.head_record.specs.declared.Header.{Header}
 use Rattle.head_record.specs.Lists.{filled}
 use Rattle.head_record_fits.specs.Fits.{each, counted, span_fits, global_fits, stream_fits, position_fits, record_fits}
 use Rattle.link_search.specs.Found.{last_below}
-use Rattle.load_choose.specs.Chosen.{model_of, stream_model, gv_model, named, numbered, chosen_of}
-use Rattle.load_range.specs.Ranges.{within_of}
-use Rattle.load_choose.specs.declared.Chosen.TheVariants.{Model, Refused}
+use Rattle.load_choose.specs.Chosen.{chosen, model_of, stream_model, gv_model, named, numbered, chosen_of}
+use Rattle.load_range.specs.Ranges.{bounds, within_of}
 use Rattle.load_choose.specs.declared.Which.TheVariants.{Duration, Stream, Gv}
-use Rattle.load_range.specs.declared.Bounds.TheVariants.{Inside, Outside}
+use Rattle.std.specs.Prelude.{Err, None}
 
 -- ---- ranges: 5-5 is one byte, 5-4 is none
 
-one_byte : within_of 5 5 6 ≡ Inside 5 6
+one_byte : within_of 5 5 6 ≡ bounds 5 6
 unfolding within_of
 one_byte = refl
 
-no_byte : within_of 5 4 5 ≡ Inside 5 5
+no_byte : within_of 5 4 5 ≡ bounds 5 5
 unfolding within_of
 no_byte = refl
 
-backwards : within_of 5 3 6 ≡ Outside
+backwards : within_of 5 3 6 ≡ None
 unfolding within_of
 backwards = refl
 
-past_the_end : within_of 5 6 6 ≡ Outside
+past_the_end : within_of 5 6 6 ≡ None
 unfolding within_of
 past_the_end = refl
 
-greatest_end : within_of 0 18446744073709551615 18446744073709551615 ≡ Outside
+greatest_end : within_of 0 18446744073709551615 18446744073709551615 ≡ None
 unfolding within_of
 greatest_end = refl
 
@@ -61,25 +60,25 @@ position x a =
       has_gv_tree = false;
     }
 
-widest : stream_model (stream no_span 2048 1 false) (position no_span 10) ≡ Model 12 13 10 11 4096
+widest : stream_model (stream no_span 2048 1 false) (position no_span 10) ≡ chosen 12 13 10 11 4096
 unfolding stream_model model_of
 widest = refl
 
-one_too_wide : stream_model (stream no_span 2048 1 true) (position no_span 10) ≡ Refused refusal.Limit
+one_too_wide : stream_model (stream no_span 2048 1 true) (position no_span 10) ≡ Err refusal.Limit
 unfolding stream_model model_of
 one_too_wide = refl
 
 -- 2 × 2^63 × 0 + 1
-no_windows : stream_model (stream no_span 9223372036854775808 0 true) (position no_span 10) ≡ Model 12 13 10 11 1
+no_windows : stream_model (stream no_span 9223372036854775808 0 true) (position no_span 10) ≡ chosen 12 13 10 11 1
 unfolding stream_model model_of
 no_windows = refl
 
 -- 2 × 2^63 would wrap to 0
-not_wrapped : stream_model (stream no_span 9223372036854775808 1 true) (position no_span 10) ≡ Refused refusal.Limit
+not_wrapped : stream_model (stream no_span 9223372036854775808 1 true) (position no_span 10) ≡ Err refusal.Limit
 unfolding stream_model model_of
 not_wrapped = refl
 
-no_gv_tree : gv_model (stream no_span 9223372036854775808 1 true) (position no_span 10) ≡ Refused refusal.UseGv
+no_gv_tree : gv_model (stream no_span 9223372036854775808 1 true) (position no_span 10) ≡ Err refusal.UseGv
 unfolding gv_model model_of
 no_gv_tree = refl
 
@@ -121,27 +120,27 @@ header n =
       data_len = n;
     }
 
-last_wins : chosen_of file (header 3) (Stream 0) ≡ Model 22 23 20 21 13
+last_wins : chosen_of file (header 3) (Stream 0) ≡ chosen 22 23 20 21 13
 unfolding chosen_of numbered named last_below same stream_model model_of record_fits global_fits stream_fits position_fits span_fits counted each filled bytes
 last_wins = refl
 
-no_entry : chosen_of file (header 3) (Stream 1) ≡ Refused refusal.NoPosition
+no_entry : chosen_of file (header 3) (Stream 1) ≡ Err refusal.NoPosition
 unfolding chosen_of numbered named last_below same stream_model model_of record_fits global_fits stream_fits position_fits span_fits counted each filled bytes
 no_entry = refl
 
-no_number : chosen_of file (header 3) (Gv 2) ≡ Refused refusal.NoPosition
+no_number : chosen_of file (header 3) (Gv 2) ≡ Err refusal.NoPosition
 unfolding chosen_of numbered named last_below same stream_model model_of record_fits global_fits stream_fits position_fits span_fits counted each filled bytes
 no_number = refl
 
-gv_refused : chosen_of file (header 3) (Gv 0) ≡ Refused refusal.UseGv
+gv_refused : chosen_of file (header 3) (Gv 0) ≡ Err refusal.UseGv
 unfolding chosen_of numbered named last_below same gv_model model_of record_fits global_fits stream_fits position_fits span_fits counted each filled bytes
 gv_refused = refl
 
-duration : chosen_of file (header 3) Duration ≡ Model 3 4 1 2 10
+duration : chosen_of file (header 3) Duration ≡ chosen 3 4 1 2 10
 unfolding chosen_of model_of record_fits global_fits stream_fits position_fits span_fits counted each filled bytes
 duration = refl
 
 -- the data end past the file
-unfit : chosen_of file (header 4) Duration ≡ Refused refusal.Range
+unfit : chosen_of file (header 4) Duration ≡ Err refusal.Range
 unfolding chosen_of model_of record_fits global_fits stream_fits position_fits span_fits counted each filled bytes
 unfit = refl

@@ -8,6 +8,7 @@ use Prim.Native.Nat.{ℕ, ◌≤◌, ◌<◌}
 use native.Mathlib.Omega.{arith}
 use lib.ListN.{length, get_or, take}
 use lib.Seq.{length-take-le, get_or-take}
+use Rattle.std.specs.declared.option.Option.{Option}
 use Rattle.written.specs.Bytes.{same}
 use Rattle.written.specs.Linking.{Nth}
 use Rattle.written.proofs.Walk.{nth_once, last_once}
@@ -21,8 +22,6 @@ use Rattle.head_record_fits.specs.Fits.{no_stream_data, no_position_data, record
 use Rattle.head_record_fits.proofs.Fits.{fits}
 use Rattle.text_parts.specs.Parts.{bytes_of}
 use Rattle.link_search.specs.Found.{last_below}
-use Rattle.link_search.specs.declared.Found.{Found}
-use Rattle.link_search.specs.declared.Found.TheVariants.{At, Nothing}
 use Rattle.link_search.proofs.Ids.{same_true, true_same}
 use Rattle.link_search.proofs.Last.{last_found, last_missing}
 use Rattle.link_sort.proofs.Order.{le_or_lt}
@@ -31,9 +30,10 @@ use Rattle.load_choose.specs.Entries.{LastNamed, Unnamed, position_name, stream_
 use Rattle.error.specs.declared.Refusal.TheVariants as refusal
 use Rattle.load_choose.specs.declared.Which.{Which}
 use Rattle.load_choose.specs.declared.Which.TheVariants.{Duration, Stream, Gv}
-use Rattle.load_choose.specs.declared.Chosen.{Chosen}
-use Rattle.load_choose.specs.declared.Chosen.TheVariants.{Refused}
 use Rattle.load_choose.proofs.Named as named
+use Rattle.load_choose.specs.declared.Chosen.{Chosen}
+use Rattle.error.specs.declared.Refusal.{Refusal}
+use Rattle.std.specs.Prelude.{Err, Result, Some, None}
 
 -- ---- a search among the first n of l, where d stands for what l lacks
 
@@ -48,7 +48,7 @@ module _ {A : Type 0} (name : A → Span) (d : A) (s w : List ℕ) (l : List A) 
   passes : {k : ℕ} {x : A} → Nth (take n l) k x → bytes_of s (name x) ≡ w → same (bytes_of s (name (get_or l k d))) w ≡ true
   passes {k} r g = ap (λ (x : A). same (bytes_of s (name x)) w) (nth_once (stands k (below r)) r) ∙ ap (λ (b : List ℕ). same b w) g ∙ same_true w
 
-  pub found_last : (k : ℕ) → last_below (λ j. same (bytes_of s (name (get_or l j d))) w) n ≡ At k → LastNamed name s w (take n l) (get_or l k d)
+  pub found_last : (k : ℕ) → last_below (λ j. same (bytes_of s (name (get_or l j d))) w) n ≡ Some k → LastNamed name s w (take n l) (get_or l k d)
   found_last k e =
       let f = last_found (λ j. same (bytes_of s (name (get_or l j d))) w) n k e in
       record {
@@ -62,12 +62,12 @@ module _ {A : Type 0} (name : A → Span) (d : A) (s w : List ℕ) (l : List A) 
         entry = refl;
       }
 
-  pub found_none : last_below (λ j. same (bytes_of s (name (get_or l j d))) w) n ≡ Nothing → Unnamed name s w (take n l)
+  pub found_none : last_below (λ j. same (bytes_of s (name (get_or l j d))) w) n ≡ None → Unnamed name s w (take n l)
   found_none e k x r g = true≢false (sym (passes r g) ∙ last_missing (λ j. same (bytes_of s (name (get_or l j d))) w) n e k (below r))
 
 -- ---- a stream's number
 
-module _ (make : StreamData → PositionData → Chosen) (s : List ℕ) (h : Header) (a : Arrays h) (f : record_fits (length s) h ≡ true) (i : ℕ) where
+module _ (make : StreamData → PositionData → Result Chosen Refusal) (s : List ℕ) (h : Header) (a : Arrays h) (f : record_fits (length s) h ≡ true) (i : ℕ) where
   pub numbered_so : Numbered make s h i (numbered make s h i)
   numbered_so = by_number (le_or_lt h.global.stream_type_count i)
     where
@@ -77,22 +77,22 @@ module _ (make : StreamData → PositionData → Chosen) (s : List ℕ) (h : Hea
       ds : h.stream_count ≤ length h.streams
       ds = omega (arith, (fits (length s) h f).streams, a.streams)
 
-      by_stream : (l : i < h.global.stream_type_count) {p : ℕ} → position_named s h.positions h.position_count (type_name s h i) ≡ At p
-          → (y : Found) → stream_named s h.streams h.stream_count (type_name s h i) ≡ y → Numbered make s h i (numbered make s h i)
-      by_stream l {p} e (At k) g =
+      by_stream : (l : i < h.global.stream_type_count) {p : ℕ} → position_named s h.positions h.position_count (type_name s h i) ≡ Some p
+          → (y : Option ℕ) → stream_named s h.streams h.stream_count (type_name s h i) ≡ y → Numbered make s h i (numbered make s h i)
+      by_stream l {p} e (Some k) g =
           subst (Numbered make s h i) (named.both make s h i l e g)
           (entries l
           (found_last position_name no_position_data s (type_name s h i) h.positions h.position_count ps p e)
           (found_last stream_name no_stream_data s (type_name s h i) h.streams h.stream_count ds k g))
-      by_stream l {p} e Nothing g =
+      by_stream l {p} e None g =
           subst (Numbered make s h i) (named.no_stream make s h i l e g)
           (no_stream l
           (found_last position_name no_position_data s (type_name s h i) h.positions h.position_count ps p e)
           (found_none stream_name no_stream_data s (type_name s h i) h.streams h.stream_count ds g))
 
-      by_position : (l : i < h.global.stream_type_count) (y : Found) → position_named s h.positions h.position_count (type_name s h i) ≡ y → Numbered make s h i (numbered make s h i)
-      by_position l (At p) e = by_stream l e (stream_named s h.streams h.stream_count (type_name s h i)) refl
-      by_position l Nothing e =
+      by_position : (l : i < h.global.stream_type_count) (y : Option ℕ) → position_named s h.positions h.position_count (type_name s h i) ≡ y → Numbered make s h i (numbered make s h i)
+      by_position l (Some p) e = by_stream l e (stream_named s h.streams h.stream_count (type_name s h i)) refl
+      by_position l None e =
           subst (Numbered make s h i) (named.no_position make s h i l e)
           (no_position l (found_none position_name no_position_data s (type_name s h i) h.positions h.position_count ps e))
 
@@ -112,7 +112,7 @@ module _ {A : Type 0} {name : A → Span} {s w : List ℕ} {l : List A} where
   named_never : {x : A} → LastNamed name s w l x → Unnamed name s w l → ⊥
   named_never a u = u a.row a.last.at a.last.stands a.last.true_of
 
-pub numbered_once : {make : StreamData → PositionData → Chosen} {s : List ℕ} {h : Header} {i : ℕ} {a b : Chosen} → Numbered make s h i a → Numbered make s h i b → a ≡ b
+pub numbered_once : {make : StreamData → PositionData → Result Chosen Refusal} {s : List ℕ} {h : Header} {i : ℕ} {a b : Result Chosen Refusal} → Numbered make s h i a → Numbered make s h i b → a ≡ b
 numbered_once (no_number l) (no_number m) = refl
 numbered_once (no_number l) (no_position m u) = refl
 numbered_once (no_number l) (no_stream m p u) = absurd (omega arith)
@@ -136,13 +136,13 @@ pub chosen_so : (s : List ℕ) (h : Header) → Arrays h → (w : Which) → Cho
 unfolding chosen_of
 chosen_so s h a w = go (record_fits (length s) h) refl w
   where
-    go : (b : Bool) → record_fits (length s) h ≡ b → (w : Which) → Choice s h w (cond b (asked s h w) (Refused refusal.Range))
+    go : (b : Bool) → record_fits (length s) h ≡ b → (w : Which) → Choice s h w (cond b (asked s h w) (Err refusal.Range))
     go false e w = unfit e
     go true e Duration = duration e
     go true e (Stream i) = stream e (numbered_so stream_model s h a e i)
     go true e (Gv i) = gv e (numbered_so gv_model s h a e i)
 
-pub chosen_once : {s : List ℕ} {h : Header} {w : Which} {a b : Chosen} → Choice s h w a → Choice s h w b → a ≡ b
+pub chosen_once : {s : List ℕ} {h : Header} {w : Which} {a b : Result Chosen Refusal} → Choice s h w a → Choice s h w b → a ≡ b
 chosen_once (unfit e) (unfit f) = refl
 chosen_once (unfit e) (duration f) = absurd (true≢false (sym f ∙ e))
 chosen_once (unfit e) (stream f n) = absurd (true≢false (sym f ∙ e))

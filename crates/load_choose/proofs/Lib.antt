@@ -5,3 +5,4 @@ pub mod Named
 pub mod Joined
 pub mod Examples
 pub mod Texts
+pub mod Same

@@ -7,8 +7,8 @@ use borrow.Author.Tests.{lt-ltb, le-ltb}
 use mir.Val.{bool_byte}
 use Rattle.error.specs.declared.Refusal.TheVariants as refusal
 use Rattle.head_record.specs.declared.Range.{Range}
-use Rattle.load_choose.specs.Chosen.{bit, model_of}
-use Rattle.load_choose.specs.declared.Chosen.TheVariants.{Model, Refused}
+use Rattle.load_choose.specs.Chosen.{chosen, bit, model_of}
+use Rattle.std.specs.Prelude.{Err}
 
 -- ---- a width
 
@@ -21,10 +21,10 @@ bit_small true = omega arith
 bit_small false = omega arith
 
 module _ (tree pdf : Range) where
-  pub model_over : {w : ℕ} → 4096 < w → Refused refusal.Limit ≡ model_of tree pdf w
+  pub model_over : {w : ℕ} → 4096 < w → Err refusal.Limit ≡ model_of tree pdf w
   unfolding model_of
   model_over {w} h = rw (lt-ltb 4096 w h)
 
-  pub model_within : {v w : ℕ} → v ≡ w → v ≤ 4096 → Model tree.from tree.to pdf.from pdf.to v ≡ model_of tree pdf w
+  pub model_within : {v w : ℕ} → v ≡ w → v ≤ 4096 → chosen tree.from tree.to pdf.from pdf.to v ≡ model_of tree pdf w
   unfolding model_of
-  model_within {v} {w} e h = let k : w ≤ 4096 = omega arith in rw (le-ltb 4096 w k) (ap (Model tree.from tree.to pdf.from pdf.to) e)
+  model_within {v} {w} e h = let k : w ≤ 4096 = omega arith in rw (le-ltb 4096 w k) (ap (chosen tree.from tree.to pdf.from pdf.to) e)

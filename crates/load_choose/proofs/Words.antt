@@ -5,6 +5,7 @@ use mathlib.Core.List.{List}
 use Prim.Native.Nat.{ℕ, ◌+◌, ◌*◌, ◌≤◌, ◌<◌}
 use native.Mathlib.Omega.{arith}
 use lib.ListN.{get_or}
+use Rattle.std.specs.declared.option.Option.{Option}
 use Rattle.written.specs.Bytes.{same}
 use Rattle.error.specs.declared.Refusal.TheVariants as refusal
 use Rattle.head_record.specs.Empty.{no_span}
@@ -16,15 +17,14 @@ use Rattle.head_record_fits.proofs.Fits.{fits}
 use Rattle.head_words.specs.Words.{word_at, flag_at, span_at, global_at, stream_at, position_at, header_at}
 use Rattle.text_parts.specs.Parts.{bytes_of}
 use Rattle.link_search.specs.Found.{last_below}
-use Rattle.link_search.specs.declared.Found.{Found}
-use Rattle.link_search.specs.declared.Found.TheVariants.{At, Nothing}
 use Rattle.link_search.proofs.Last.{last_inside, last_ext_below}
 use Rattle.head_words.proofs.Items.{get_or-run}
 use Rattle.load_choose.specs.Chosen.{position_named, stream_named, numbered, used_by, uses_gv}
 use Rattle.load_choose.specs.Entries.{type_name}
-use Rattle.load_choose.specs.declared.Chosen.{Chosen}
-use Rattle.load_choose.specs.declared.Chosen.TheVariants.{Refused}
 use Rattle.load_choose.proofs.Named.{no_number, no_position, no_stream, both}
+use Rattle.load_choose.specs.declared.Chosen.{Chosen}
+use Rattle.error.specs.declared.Refusal.{Refusal}
+use Rattle.std.specs.Prelude.{Err, Result, Some, None}
 
 -- the counts of a record that fits are within their limits
 pub record Counts (w : List ℕ) : Type 0 where
@@ -37,7 +37,7 @@ unfolding header_at global_at
 counts n w e = let f = fits n (header_at w) e in record { types = f.types; streams = f.streams; positions = f.positions }
 
 -- the last of n groups whose name, in words, has the bytes v
-abbrev pub group_named : List ℕ → List ℕ → ℕ → ℕ → ℕ → List ℕ → Found
+abbrev pub group_named : List ℕ → List ℕ → ℕ → ℕ → ℕ → List ℕ → Option ℕ
 group_named s w at step n v = last_below (λ k. same (bytes_of s (span_at w (at + step * k))) v) n
 
 module _ (w : List ℕ) where
@@ -79,24 +79,24 @@ module _ (s w : List ℕ) (i : ℕ) where
 
   -- and is among the eight
   module _ (f : Counts w) where
-    pub p_inside : {p : ℕ} → position_named s (header_at w).positions (header_at w).position_count (type_name s (header_at w) i) ≡ At p → p < 8
+    pub p_inside : {p : ℕ} → position_named s (header_at w).positions (header_at w).position_count (type_name s (header_at w) i) ≡ Some p → p < 8
     unfolding header_at
     p_inside q = omega (arith, last_inside _ _ _ q, f.positions)
 
-    pub k_inside : {k : ℕ} → stream_named s (header_at w).streams (header_at w).stream_count (type_name s (header_at w) i) ≡ At k → k < 8
+    pub k_inside : {k : ℕ} → stream_named s (header_at w).streams (header_at w).stream_count (type_name s (header_at w) i) ≡ Some k → k < 8
     unfolding header_at
     k_inside q = omega (arith, last_inside _ _ _ q, f.streams)
 
-    pub stream_uses : {k : ℕ} → stream_named s (header_at w).streams (header_at w).stream_count (type_name s (header_at w) i) ≡ At k → flag_at w (95 + 39 * k + 5) ≡ uses_gv s (header_at w) i
+    pub stream_uses : {k : ℕ} → stream_named s (header_at w).streams (header_at w).stream_count (type_name s (header_at w) i) ≡ Some k → flag_at w (95 + 39 * k + 5) ≡ uses_gv s (header_at w) i
     unfolding uses_gv stream_at
     stream_uses {k} q = sym (ap (used_by (header_at w).streams) q ∙ ap (λ (d : StreamData). d.use_gv) (stream_at_lem w k (k_inside q)))
 
-  pub no_stream_uses : stream_named s (header_at w).streams (header_at w).stream_count (type_name s (header_at w) i) ≡ Nothing → false ≡ uses_gv s (header_at w) i
+  pub no_stream_uses : stream_named s (header_at w).streams (header_at w).stream_count (type_name s (header_at w) i) ≡ None → false ≡ uses_gv s (header_at w) i
   unfolding uses_gv
   no_stream_uses q = sym (ap (used_by (header_at w).streams) q)
 
-module _ (make : StreamData → PositionData → Chosen) (s w : List ℕ) (i : ℕ) where
-  pub not_numbered : word_at w 22 ≤ i → Refused refusal.NoPosition ≡ numbered make s (header_at w) i
+module _ (make : StreamData → PositionData → Result Chosen Refusal) (s w : List ℕ) (i : ℕ) where
+  pub not_numbered : word_at w 22 ≤ i → Err refusal.NoPosition ≡ numbered make s (header_at w) i
   unfolding header_at global_at
   not_numbered l = no_number make s (header_at w) i l
 
@@ -104,14 +104,14 @@ module _ (make : StreamData → PositionData → Chosen) (s w : List ℕ) (i : �
   unfolding header_at global_at
   in_types l = l
 
-  pub without_position : i < word_at w 22 → position_named s (header_at w).positions (header_at w).position_count (type_name s (header_at w) i) ≡ Nothing → Refused refusal.NoPosition ≡ numbered make s (header_at w) i
+  pub without_position : i < word_at w 22 → position_named s (header_at w).positions (header_at w).position_count (type_name s (header_at w) i) ≡ None → Err refusal.NoPosition ≡ numbered make s (header_at w) i
   without_position l q = no_position make s (header_at w) i (in_types l) q
 
-  pub without_stream : i < word_at w 22 → {p : ℕ} → position_named s (header_at w).positions (header_at w).position_count (type_name s (header_at w) i) ≡ At p
-      → stream_named s (header_at w).streams (header_at w).stream_count (type_name s (header_at w) i) ≡ Nothing → Refused refusal.NoStream ≡ numbered make s (header_at w) i
+  pub without_stream : i < word_at w 22 → {p : ℕ} → position_named s (header_at w).positions (header_at w).position_count (type_name s (header_at w) i) ≡ Some p
+      → stream_named s (header_at w).streams (header_at w).stream_count (type_name s (header_at w) i) ≡ None → Err refusal.NoStream ≡ numbered make s (header_at w) i
   without_stream l q r = no_stream make s (header_at w) i (in_types l) q r
 
-  pub with_both : Counts w → i < word_at w 22 → {p k : ℕ} → position_named s (header_at w).positions (header_at w).position_count (type_name s (header_at w) i) ≡ At p
-      → stream_named s (header_at w).streams (header_at w).stream_count (type_name s (header_at w) i) ≡ At k → make (stream_at w (95 + 39 * k)) (position_at w (412 + 29 * p)) ≡ numbered make s (header_at w) i
+  pub with_both : Counts w → i < word_at w 22 → {p k : ℕ} → position_named s (header_at w).positions (header_at w).position_count (type_name s (header_at w) i) ≡ Some p
+      → stream_named s (header_at w).streams (header_at w).stream_count (type_name s (header_at w) i) ≡ Some k → make (stream_at w (95 + 39 * k)) (position_at w (412 + 29 * p)) ≡ numbered make s (header_at w) i
   with_both f l {p} {k} q r =
       sym (ap₂ make (stream_at_lem w k (k_inside s w i f r)) (position_at_lem w p (p_inside s w i f q))) ∙ both make s (header_at w) i (in_types l) q r

@@ -1,6 +1,6 @@
 -- The entries of a stream's name, without a search (01's 13 and 14; docs/DECISIONS.md, 'The record'): of the groups that count, the last one whose name has
 -- the same bytes; and the choice of a model by them. proofs/Joined shows that `chosen_of` answers so, and nothing else.
-use Rattle.std.specs.Prelude.{◌≡◌, true, false, List, ℕ, ◌*◌, ◌≤◌, ◌<◌, length, get_or, take}
+use Rattle.std.specs.Prelude.{◌≡◌, true, false, List, ℕ, ◌*◌, ◌≤◌, ◌<◌, length, get_or, take, Err, Result}
 use Rattle.written.specs.Linking.{Nth, Last}
 use Rattle.error.specs.declared.Refusal.TheVariants as refusal
 use Rattle.head_record.specs.Empty.{no_span}
@@ -14,7 +14,7 @@ use Rattle.load_choose.specs.Chosen.{model_of, stream_model, gv_model}
 use Rattle.load_choose.specs.declared.Which.{Which}
 use Rattle.load_choose.specs.declared.Which.TheVariants.{Duration, Stream, Gv}
 use Rattle.load_choose.specs.declared.Chosen.{Chosen}
-use Rattle.load_choose.specs.declared.Chosen.TheVariants.{Refused}
+use Rattle.error.specs.declared.Refusal.{Refusal}
 
 -- x is the last of the entries l whose name has the bytes w
 pub record LastNamed {A : Type 0} (name : A → Span) (s w : List ℕ) (l : List A) (x : A) : Type 0 where
@@ -44,11 +44,11 @@ abbrev pub type_name : List ℕ → Header → ℕ → List ℕ
 type_name s h i = bytes_of s (get_or h.global.stream_type i no_span)
 
 -- what is made of the entries of the i-th name, or the refusal
-pub data Numbered (make : StreamData → PositionData → Chosen) (s : List ℕ) (h : Header) (i : ℕ) : Chosen → Type 0 where
-  no_number : h.global.stream_type_count ≤ i → Numbered make s h i (Refused refusal.NoPosition)
-  no_position : i < h.global.stream_type_count → Unnamed position_name s (type_name s h i) (positions_of h) → Numbered make s h i (Refused refusal.NoPosition)
+pub data Numbered (make : StreamData → PositionData → Result Chosen Refusal) (s : List ℕ) (h : Header) (i : ℕ) : Result Chosen Refusal → Type 0 where
+  no_number : h.global.stream_type_count ≤ i → Numbered make s h i (Err refusal.NoPosition)
+  no_position : i < h.global.stream_type_count → Unnamed position_name s (type_name s h i) (positions_of h) → Numbered make s h i (Err refusal.NoPosition)
   no_stream : {p : PositionData} → i < h.global.stream_type_count → LastNamed position_name s (type_name s h i) (positions_of h) p → Unnamed stream_name s (type_name s h i) (streams_of h)
-      → Numbered make s h i (Refused refusal.NoStream)
+      → Numbered make s h i (Err refusal.NoStream)
   entries : {p : PositionData} {d : StreamData} → i < h.global.stream_type_count → LastNamed position_name s (type_name s h i) (positions_of h) p → LastNamed stream_name s (type_name s h i) (streams_of h) d
       → Numbered make s h i (make d p)
 
@@ -58,8 +58,8 @@ pub record Arrays (h : Header) : Type 0 where
   pub positions : length h.positions ≡ 8
 
 -- the model asked for, or the refusal
-pub data Choice (s : List ℕ) (h : Header) : Which → Chosen → Type 0 where
-  unfit : {w : Which} → record_fits (length s) h ≡ false → Choice s h w (Refused refusal.Range)
+pub data Choice (s : List ℕ) (h : Header) : Which → Result Chosen Refusal → Type 0 where
+  unfit : {w : Which} → record_fits (length s) h ≡ false → Choice s h w (Err refusal.Range)
   duration : record_fits (length s) h ≡ true → Choice s h Duration (model_of h.duration_tree h.duration_pdf (2 * h.global.num_states))
-  stream : {i : ℕ} {c : Chosen} → record_fits (length s) h ≡ true → Numbered stream_model s h i c → Choice s h (Stream i) c
-  gv : {i : ℕ} {c : Chosen} → record_fits (length s) h ≡ true → Numbered gv_model s h i c → Choice s h (Gv i) c
+  stream : {i : ℕ} {c : Result Chosen Refusal} → record_fits (length s) h ≡ true → Numbered stream_model s h i c → Choice s h (Stream i) c
+  gv : {i : ℕ} {c : Result Chosen Refusal} → record_fits (length s) h ≡ true → Numbered gv_model s h i c → Choice s h (Gv i) c

@@ -19,7 +19,6 @@ use head_words::{
     STREAM_TYPE, STREAM_TYPE_COUNT, STREAM_WORDS, STREAMS, USE_GV, VECTOR_LENGTH,
 };
 use head_words_fit::record_fits;
-use link_search::Found;
 use load_range::{WIDTH_LIMIT, product};
 use text_parts::{Span, same_part};
 
@@ -31,35 +30,39 @@ pub enum Which {
     Gv(usize),
 }
 
+// Ranges of the data, each end included, and the numbers in an entry.
 #[derive(Clone, Copy)]
-pub enum Chosen {
-    // ranges of the data, each end included, and the numbers in an entry
-    Model {
-        tree_from: u64,
-        tree_to: u64,
-        pdf_from: u64,
-        pdf_to: u64,
-        width: u64,
-    },
-    Refused(Refusal),
+pub struct Chosen {
+    pub tree_from: u64,
+    pub tree_to: u64,
+    pub pdf_from: u64,
+    pub pdf_to: u64,
+    pub width: u64,
 }
 
 // The model of width 2 × a × b, and one more for MSD, whose ranges stand at two places of the words.
-fn model(words: &[u64], tree: usize, pdf: usize, a: u64, b: u64, msd: bool) -> Chosen
+fn model(
+    words: &[u64],
+    tree: usize,
+    pdf: usize,
+    a: u64,
+    b: u64,
+    msd: bool,
+) -> Result<Chosen, Refusal>
     requires { (tree + 2 ≤ length words.now) × (pdf + 2 ≤ length words.now) }
     ensures { result ≡ model_of (range_at words.now tree) (range_at words.now pdf) (2 * (a * b) + bit msd) }
 {
     let width = 2 * product(a, b) + msd as u64;
     if WIDTH_LIMIT < width {
-        return Chosen::Refused(Refusal::Limit);
+        return Err(Refusal::Limit);
     }
-    Chosen::Model {
+    Ok(Chosen {
         tree_from: words[tree],
         tree_to: words[tree + 1],
         pdf_from: words[pdf],
         pdf_to: words[pdf + 1],
         width,
-    }
+    })
 }
 
 // A number of the width, or 0 where the width isn't asked for.
@@ -69,7 +72,12 @@ fn counted(measured: bool, n: u64) -> u64
     if measured { n } else { 0 }
 }
 
-fn stream_model(words: &[u64], stream: usize, position: usize, measured: bool) -> Chosen
+fn stream_model(
+    words: &[u64],
+    stream: usize,
+    position: usize,
+    measured: bool,
+) -> Result<Chosen, Refusal>
     requires { (stream + 39 ≤ length words.now) × (position + 29 ≤ length words.now) }
     ensures { result ≡ stream_by measured (stream_at words.now stream) (position_at words.now position) }
 {
@@ -98,12 +106,17 @@ fn has_gv(words: &[u64], stream: usize, position: usize) -> bool
     words[position + HAS_GV_PDF] != 0
 }
 
-fn gv_model(words: &[u64], stream: usize, position: usize, measured: bool) -> Chosen
+fn gv_model(
+    words: &[u64],
+    stream: usize,
+    position: usize,
+    measured: bool,
+) -> Result<Chosen, Refusal>
     requires { (stream + 39 ≤ length words.now) × (position + 29 ≤ length words.now) }
     ensures { result ≡ gv_by measured (stream_at words.now stream) (position_at words.now position) }
 {
     if !has_gv(words, stream, position) {
-        return Chosen::Refused(Refusal::UseGv);
+        return Err(Refusal::UseGv);
     }
     model(
         words,
@@ -116,7 +129,13 @@ fn gv_model(words: &[u64], stream: usize, position: usize, measured: bool) -> Ch
 }
 
 // The model of a stream, or its GV model, whose entries these are.
-fn entries_model(words: &[u64], stream: usize, position: usize, gv: bool, measured: bool) -> Chosen
+fn entries_model(
+    words: &[u64],
+    stream: usize,
+    position: usize,
+    gv: bool,
+    measured: bool,
+) -> Result<Chosen, Refusal>
     requires { (stream + 39 ≤ length words.now) × (position + 29 ≤ length words.now) }
     ensures { result ≡ made_by measured gv (stream_at words.now stream) (position_at words.now position) }
 {
@@ -137,23 +156,21 @@ fn span_at(words: &[u64], at: usize) -> Span
 }
 
 // The last of n groups whose name has the bytes of x. The first group begins at `at` in the words, each of the others `step` words behind the one before.
-fn find_group(file: &[u8], x: Span, words: &[u64], at: usize, step: usize, n: usize) -> Found
+fn find_group(file: &[u8], x: Span, words: &[u64], at: usize, step: usize, n: usize) -> Option<u64>
     requires { NamesIn at step n words.now }
     ensures { result ≡ last_below (λ k. same (bytes_of file.now (span_at words.now (at + step * k))) (bytes_of file.now x)) n }
 {
-    let mut k = n;
-    while 0 < k {
-        k = k - 1;
+    for k in (0..n).rev() {
         let name = span_at(words, at + step * k);
         if same_part(file, name, x) {
-            return Found::At(k as u64);
+            return Some(k as u64);
         }
     }
-    Found::Nothing
+    None
 }
 
 // The entry in [POSITION] of the i-th name in STREAM_TYPE.
-fn find_position(file: &[u8], words: &[u64], i: usize) -> Found
+fn find_position(file: &[u8], words: &[u64], i: usize) -> Option<u64>
     requires in_bounds { (647 ≤ length words.now) × (i < word_at words.now 22) }
     requires words_value { record_fits (length file.now) (header_at words.now) ≡ true }
     ensures { result ≡ position_named file.now (header_at words.now).positions (header_at words.now).position_count (type_name file.now (header_at words.now) i) }
@@ -169,7 +186,7 @@ fn find_position(file: &[u8], words: &[u64], i: usize) -> Found
 }
 
 // Its entry in [STREAM].
-fn find_stream(file: &[u8], words: &[u64], i: usize) -> Found
+fn find_stream(file: &[u8], words: &[u64], i: usize) -> Option<u64>
     requires in_bounds { (647 ≤ length words.now) × (i < word_at words.now 22) }
     requires words_value { record_fits (length file.now) (header_at words.now) ≡ true }
     ensures { result ≡ stream_named file.now (header_at words.now).streams (header_at words.now).stream_count (type_name file.now (header_at words.now) i) }
@@ -185,19 +202,25 @@ fn find_stream(file: &[u8], words: &[u64], i: usize) -> Found
 }
 
 // The model, or the GV model, of the i-th name in STREAM_TYPE.
-fn choose_stream(file: &[u8], words: &[u64], i: usize, gv: bool, measured: bool) -> Chosen
+fn choose_stream(
+    file: &[u8],
+    words: &[u64],
+    i: usize,
+    gv: bool,
+    measured: bool,
+) -> Result<Chosen, Refusal>
     requires in_bounds { 647 ≤ length words.now }
     requires words_value { record_fits (length file.now) (header_at words.now) ≡ true }
     ensures { result ≡ numbered (made_by measured gv) file.now (header_at words.now) i }
 {
     if words[STREAM_TYPE_COUNT] <= i as u64 {
-        return Chosen::Refused(Refusal::NoPosition);
+        return Err(Refusal::NoPosition);
     }
     match find_position(file, words, i) {
-        Found::Nothing => Chosen::Refused(Refusal::NoPosition),
-        Found::At(p) => match find_stream(file, words, i) {
-            Found::Nothing => Chosen::Refused(Refusal::NoStream),
-            Found::At(k) => {
+        None => Err(Refusal::NoPosition),
+        Some(p) => match find_stream(file, words, i) {
+            None => Err(Refusal::NoStream),
+            Some(k) => {
                 let position = POSITIONS + POSITION_WORDS * p as usize;
                 let stream = STREAMS + STREAM_WORDS * k as usize;
                 entries_model(words, stream, position, gv, measured)
@@ -207,12 +230,12 @@ fn choose_stream(file: &[u8], words: &[u64], i: usize, gv: bool, measured: bool)
 }
 
 // The model asked for, of a file and the words of any record; its width is 0, and has no limit, unless it is asked for.
-fn place(file: &[u8], words: &[u64], which: Which, measured: bool) -> Chosen
+fn place(file: &[u8], words: &[u64], which: Which, measured: bool) -> Result<Chosen, Refusal>
     requires { 647 ≤ length words.now }
     ensures { result ≡ chosen_by measured file.now (header_at words.now) which }
 {
     if !record_fits(file.len(), words) {
-        return Chosen::Refused(Refusal::Range);
+        return Err(Refusal::Range);
     }
     match which {
         Which::Duration => model(
@@ -229,7 +252,7 @@ fn place(file: &[u8], words: &[u64], which: Which, measured: bool) -> Chosen
 }
 
 // The model asked for, of a file and the words of any record.
-pub fn choose(file: &[u8], words: &[u64], which: Which) -> Chosen
+pub fn choose(file: &[u8], words: &[u64], which: Which) -> Result<Chosen, Refusal>
     requires { 647 ≤ length words.now }
     ensures { result ≡ chosen_of file.now (header_at words.now) which }
 {
@@ -237,7 +260,7 @@ pub fn choose(file: &[u8], words: &[u64], which: Which) -> Chosen
 }
 
 // Where its text stands, however wide it is (02, Wish 7).
-pub fn choose_text(file: &[u8], words: &[u64], which: Which) -> Chosen
+pub fn choose_text(file: &[u8], words: &[u64], which: Which) -> Result<Chosen, Refusal>
     requires { 647 ≤ length words.now }
     ensures { result ≡ text_chosen file.now (header_at words.now) which }
 {
@@ -251,7 +274,7 @@ pub fn uses_gv(file: &[u8], words: &[u64], i: usize) -> bool
     ensures { result ≡ uses_gv file.now (header_at words.now) i }
 {
     match find_stream(file, words, i) {
-        Found::Nothing => false,
-        Found::At(k) => words[STREAMS + STREAM_WORDS * k as usize + USE_GV] != 0,
+        None => false,
+        Some(k) => words[STREAMS + STREAM_WORDS * k as usize + USE_GV] != 0,
     }
 }

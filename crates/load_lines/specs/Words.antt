@@ -1,12 +1,11 @@
 -- The lines of a tree as words of the work, six a line: id; kind and number of yes; kind and number of no; one more than the row of the
 -- last question of the line's name, or 0 where there is none.
-use Rattle.std.specs.Prelude.{List, [], ◌∷◌, ◌++◌, ℕ, ◌+◌, ℤ, pos}
+use Rattle.std.specs.declared.option.Option.{Option}
+use Rattle.std.specs.Prelude.{List, [], ◌∷◌, ◌++◌, ℕ, ◌+◌, ℤ, pos, Some, None}
 use Rattle.written.specs.Bytes.{same}
 use Rattle.link_order.specs.Keys.{name_at}
 use Rattle.text_parts.specs.Parts.{part_inside}
 use Rattle.link_search.specs.Found.{last_below}
-use Rattle.link_search.specs.declared.Found.{Found}
-use Rattle.link_search.specs.declared.Found.TheVariants.{At, Nothing}
 use Rattle.tree_reference.specs.declared.TreeIndex.{TreeIndex}
 use Rattle.tree_reference.specs.declared.TreeIndex.TheVariants.{Node, Pdf}
 use Rattle.tree_line.specs.declared.Line.{Line}
@@ -19,9 +18,9 @@ abbrev pub number_of : TreeIndex → ℤ
 number_of (Node x) = x
 number_of (Pdf x) = x
 
-abbrev pub asked_of : Found → ℤ
-asked_of (At k) = pos (k + 1)
-asked_of Nothing = pos 0
+abbrev pub asked_of : Option ℕ → ℤ
+asked_of (Some k) = pos (k + 1)
+asked_of None = pos 0
 
 -- the last of n questions whose name the bytes at start are
 unfoldable pub asked_at : List ℕ → List ℕ → ℕ → ℕ → ℕ → ℤ

@@ -9,9 +9,9 @@ ghost use Rattle.tree_line.specs.Lines.{lines_at};
 ghost use Rattle.tree_survey_lines.specs.Counts.{lines_counted};
 ghost use Rattle.load_lines.specs.Words.{kind_of, number_of, asked_at, words_of, line_words};
 
-use link_search::{Found, last_question};
+use link_search::last_question;
 use table_rows::{LINE_NO, LINE_NO_NUMBER, LINE_QUESTION, LINE_YES, LINE_YES_NUMBER, WORK_A_LINE};
-use text_parts::part_inside;
+use text_parts::{Read, part_inside};
 use tree_line::{Line, LineStep, next_line};
 use tree_reference::TreeIndex;
 use tree_survey_lines::{LineCount, line_pdfs};
@@ -45,8 +45,8 @@ fn asked(s: &[u8], questions: &[u64], index: &[u64], start: usize, len: usize) -
         index,
         part_inside(s, start as u64, len as u64),
     ) {
-        Found::At(row) => (row + 1) as i64,
-        Found::Nothing => 0,
+        Some(row) => (row + 1) as i64,
+        None => 0,
     }
 }
 
@@ -73,7 +73,7 @@ pub fn fill_lines(
     questions: &[u64],
     index: &[u64],
     work: &mut [i64],
-) -> LineCount
+) -> Option<Read<LineCount>>
     requires { Index (λ e. name_key (name_at s.now questions.now e)) index.now × (length index.now < 2 ^ 62) × (6 * length (lines_at s.now at).items ≤ length work.old) }
     ensures { (result ≡ lines_counted 0 0 (lines_at s.now at)) × (work.new ≡ sets work.old 0 (line_words s.now questions.now (length index.now) (lines_at s.now at).items)) }
 {
@@ -81,6 +81,7 @@ pub fn fill_lines(
     let mut word = 0;
     let mut n = 0;
     let mut m = 0;
+    // No `for`: where the next line stands is what the reader of this one answers.
     loop {
         match next_line(s, i) {
             LineStep::Next { line, next } => {
@@ -102,14 +103,16 @@ pub fn fill_lines(
                     line,
                     asked(s, questions, index, line.start, line.len),
                 );
-                return LineCount::Counted {
-                    lines: n + 1,
-                    pdfs: m + line_pdfs(line),
+                return Some(Read {
+                    value: LineCount {
+                        lines: n + 1,
+                        pdfs: m + line_pdfs(line),
+                    },
                     next,
-                };
+                });
             }
             LineStep::Broken => {
-                return LineCount::Broken;
+                return None;
             }
         }
     }

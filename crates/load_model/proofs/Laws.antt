@@ -12,20 +12,21 @@ use borrow.Author.Tests.{leb-true, eqb-true}
 use Rattle.written.specs.Bytes.{part}
 use Rattle.written.specs.Blocks.{total}
 use Rattle.pdf_blocks.specs.Values.{words_at, block_at, entry_at, values_at}
-use Rattle.pdf_blocks.specs.declared.Block.TheVariants as block
 use Rattle.pdf_values.specs.Folded.{with_blocks}
 use Rattle.pdf_values.proofs.Laws.{entry_width}
 use Rattle.tree_question.specs.Questions.{questions_at}
 use Rattle.load_questions.specs.Words.{pattern_words}
 use Rattle.load_trees.specs.Trees.{all_linked}
-use Rattle.load_trees.specs.declared.Linked.{Linked}
 use Rattle.load_text.specs.Text.{Fits, words_at as question_rows, end_at, trees_stored, records_stored, kept, TextFilled}
 use Rattle.load_text.proofs.Laws.{kept_done, kept_not}
 use Rattle.load_plan.specs.Plans.{Sound}
 use Rattle.load_plan.specs.declared.Plan.{Plan}
 use Rattle.load_plan.proofs.Laws.{was}
-use Rattle.load_model.specs.declared.Loaded.{Loaded}
 use Rattle.load_model.specs.Load.{Tables, lent, room_for, BlockRoom, answer_for, blocks_of, kept_trees, filled, Fills}
+use Rattle.load_model.specs.declared.Loaded.{Loaded}
+use Rattle.error.specs.declared.Refusal.{Refusal}
+use Rattle.load_trees.specs.declared.TreeFault.{TreeFault}
+use Rattle.std.specs.Prelude.{Result, ⊤, Some, None}
 
 -- ---- the size of a block
 
@@ -35,11 +36,11 @@ length_values s i w zero = omega arith
 length_values s i w (suc n) =
     length-append (entry_at s i (w / 2) (eqb (w % 2) 1)) (values_at s (i + 4 * w) w n) ∙ ap₂ (λ (a b : ℕ). a + b) (entry_width s i w) (length_values s (i + 4 * w) w n) ∙ omega arith
 
-pub block_size : (t w : ℕ) (s : List ℕ) (i e : ℕ) → block_at t w s i ≡ block.Fits e → (length s - i ≡ 4 * (t + e * w)) × (total (words_at s i t) ≡ e)
+pub block_size : (t w : ℕ) (s : List ℕ) (i e : ℕ) → block_at t w s i ≡ Some e → (length s - i ≡ 4 * (t + e * w)) × (total (words_at s i t) ≡ e)
 unfolding block_at
 block_size t w s i e h = go (leb (4 * t) (length s - i)) (eqb (length s - i) (4 * (t + total (words_at s i t) * w))) refl (cond (eqb w 0) (eqb (total (words_at s i t)) 0) true) h
   where
-    go : (x y : Bool) → eqb (length s - i) (4 * (t + total (words_at s i t) * w)) ≡ y → (z : Bool) → cond (x && (y && z)) (block.Fits (total (words_at s i t))) block.Wrong ≡ block.Fits e
+    go : (x y : Bool) → eqb (length s - i) (4 * (t + total (words_at s i t) * w)) ≡ y → (z : Bool) → cond (x && (y && z)) (Some (total (words_at s i t))) None ≡ Some e
         → (length s - i ≡ 4 * (t + e * w)) × (total (words_at s i t) ≡ e)
     go true true k true h =
         let u : total (words_at s i t) ≡ e = cc in
@@ -172,7 +173,7 @@ pub same_lent : {q q₁ a a₁ t t₁ r r₁ v v₁ : List ℕ} {w w₁ : List �
 same_lent e₁ e₂ e₃ e₄ e₅ e₆ z = lent (e₁ z) (e₂ z) (e₃ z) (e₄ z) (e₅ z) (e₆ z)
 
 -- from the text's rows on: the block beside them, or zeros
-module _ (d : List ℕ) (p : Plan) (T : Tables) {S : List ℕ} {o : Linked} {l : Loaded} {q a t r : List ℕ} {w : List ℤ} (x : S ≡ take p.text_end d)
+module _ (d : List ℕ) (p : Plan) (T : Tables) {S : List ℕ} {o : Result ⊤ TreeFault} {l : Result Loaded Refusal} {q a t r : List ℕ} {w : List ℤ} (x : S ≡ take p.text_end d)
     (e : TextFilled S p.text p.first T.questions T.patterns T.trees T.records T.work o q a t r w) (k : l ≡ answer_for p o) {b : Bool} (told : b ≡ all_linked o) where
   ends : o ≡ end_at (take p.text_end d) p.text p.first
   ends = e.0 ∙ ap (λ (S : List ℕ). end_at S p.text p.first) x
@@ -183,12 +184,12 @@ module _ (d : List ℕ) (p : Plan) (T : Tables) {S : List ℕ} {o : Linked} {l :
   filled_is {B = B} y f g = (
     k ∙ ap (answer_for p) ends,
     same_lent
-        (e.1 ∙ ap₂ (λ (o : Linked) (S : List ℕ). kept o T.questions (question_rows S p.text)) ends x)
-        (e.2 ∙ ap₂ (λ (o : Linked) (S : List ℕ). kept o T.patterns (pattern_words (questions_at S p.text).items)) ends x)
-        (f ∙ ap₂ (λ (o : Linked) (S : List ℕ). kept_trees o T.trees (trees_stored S p.text p.first) (blocks_of p B)) ends x
+        (e.1 ∙ ap₂ (λ (o : Result ⊤ TreeFault) (S : List ℕ). kept o T.questions (question_rows S p.text)) ends x)
+        (e.2 ∙ ap₂ (λ (o : Result ⊤ TreeFault) (S : List ℕ). kept o T.patterns (pattern_words (questions_at S p.text).items)) ends x)
+        (f ∙ ap₂ (λ (o : Result ⊤ TreeFault) (S : List ℕ). kept_trees o T.trees (trees_stored S p.text p.first) (blocks_of p B)) ends x
         ∙ ap (λ (B : List ℕ). kept_trees (end_at (take p.text_end d) p.text p.first) T.trees (trees_stored (take p.text_end d) p.text p.first) (blocks_of p B)) y)
-        (e.4 ∙ ap₂ (λ (o : Linked) (S : List ℕ). kept o T.records (records_stored S p.text p.first)) ends x)
-        (g ∙ ap₂ (λ (o : Linked) (B : List ℕ). kept o T.values (values_at B (p.block + 4 * p.trees) p.width p.entries)) ends y)
+        (e.4 ∙ ap₂ (λ (o : Result ⊤ TreeFault) (S : List ℕ). kept o T.records (records_stored S p.text p.first)) ends x)
+        (g ∙ ap₂ (λ (o : Result ⊤ TreeFault) (B : List ℕ). kept o T.values (values_at B (p.block + 4 * p.trees) p.width p.entries)) ends y)
         e.5,
   )
 

@@ -12,22 +12,19 @@ ghost use Rattle.load_model.specs.Load.{lent, room_in, BlockRoom, answer_for, bl
 use error::Refusal;
 use load_plan::Plan;
 use load_text::fill_text;
-use load_trees::{Linked, all_linked};
+use load_trees::{TreeFault, all_linked};
 use pdf_values::{fill_blocks, fill_values};
 use table_put::zero;
 use text_parts::up_to;
 
-// The rows needed of each table, and the values; or the refusal.
+// The rows needed of each table, and the values.
 #[derive(Clone, Copy)]
-pub enum Loaded {
-    Done {
-        questions: usize,
-        patterns: usize,
-        trees: usize,
-        records: usize,
-        values: u64,
-    },
-    Refused(Refusal),
+pub struct Loaded {
+    pub questions: usize,
+    pub patterns: usize,
+    pub trees: usize,
+    pub records: usize,
+    pub values: u64,
 }
 
 // What a block that ends with the slice says of each tree, into the rows of the trees, and its values.
@@ -41,21 +38,23 @@ fn fill_block(s: &[u8], p: Plan, trees: &mut [u64], values: &mut [u64])
 }
 
 // The rows of a plan whose trees are linked, or the refusal.
-pub fn answer(p: Plan, linked: Linked) -> Loaded
+pub fn answer(p: Plan, linked: Result<(), TreeFault>) -> Result<Loaded, Refusal>
     requires { p.entries * p.width < 2 ^ 63 }
     ensures { result ≡ answer_for p linked }
 {
     match linked {
-        Linked::Done => Loaded::Done {
+        Ok(_) => Ok(Loaded {
             questions: p.questions,
             patterns: p.patterns,
             trees: p.trees,
             records: p.records,
             values: p.entries * p.width,
-        },
-        Linked::Refused { fault, tree, line } => {
-            Loaded::Refused(Refusal::Unlinked { fault, tree, line })
-        }
+        }),
+        Err(at) => Err(Refusal::Unlinked {
+            fault: at.fault,
+            tree: at.tree,
+            line: at.line,
+        }),
     }
 }
 
@@ -69,7 +68,7 @@ pub fn fill(
     records: &mut [u64],
     values: &mut [u64],
     work: &mut [i64],
-) -> Loaded
+) -> Result<Loaded, Refusal>
     requires { Sound d.now p × (room_in p (lent questions.old patterns.old trees.old records.old values.old work.old) ≡ true) }
     ensures { Fills d.now p (lent questions.old patterns.old trees.old records.old values.old work.old) result (lent questions.new patterns.new trees.new records.new values.new work.new) }
 {

@@ -2,31 +2,28 @@
 // the model needs of each table. Nothing lent is written here, so that builders can size their tables by it.
 #![tactic(auto)]
 
-ghost use Rattle.std.specs.Prelude.{◌≡◌, ◌≤◌, length};
+ghost use Rattle.std.specs.Prelude.{◌≡◌, ◌≤◌, length, Ok};
 ghost use Rattle.head_words.specs.Words.{header_at};
-ghost use Rattle.load_plan.specs.Plans.{text_of, entries_of, block_of, plan_of, data_of, planned};
+ghost use Rattle.load_plan.specs.Plans.{text_of, entries_of, plan_for, block_of, plan_of, data_of, planned};
 
 use error::Refusal;
 use head_words::{DATA_LEN, DATA_START};
 use load_choose::{Chosen, Which, choose};
 use load_range::{Bounds, within};
-use pdf_blocks::{Block, check_block};
+use pdf_blocks::check_block;
 use text_parts::{part_of, up_to};
-use tree_survey::{Trees, survey_trees};
-use tree_survey_questions::{Questions, survey_questions};
+use tree_survey::survey_trees;
+use tree_survey_questions::survey_questions;
 
 // What a tree text needs; `first` is where its first tree stands.
 #[derive(Clone, Copy)]
-pub enum Text {
-    Read {
-        first: usize,
-        questions: usize,
-        patterns: usize,
-        trees: usize,
-        records: usize,
-        lines: usize,
-    },
-    Refused(Refusal),
+pub struct Text {
+    pub first: usize,
+    pub questions: usize,
+    pub patterns: usize,
+    pub trees: usize,
+    pub records: usize,
+    pub lines: usize,
 }
 
 // Where a model stands in the data, and the rows that it needs: the tree text from `text` up to `text_end`, its trees from `first` on, the PDF block from
@@ -48,142 +45,77 @@ pub struct Plan {
     pub entries: u64,
 }
 
-#[derive(Clone, Copy)]
-pub enum Planned {
-    Model(Plan),
-    Refused(Refusal),
-}
-
 // The tree text that begins at `at` and ends with the slice: 17 with the place where it breaks, 18.
-pub fn read_text(s: &[u8], at: usize) -> Text
+pub fn read_text(s: &[u8], at: usize) -> Result<Text, Refusal>
     ensures { result ≡ text_of s.now at }
 {
     match survey_questions(s, at) {
-        Questions::Counted {
-            questions,
-            patterns,
-            next,
-        } => match survey_trees(s, next) {
-            Trees::Counted {
-                negative,
-                trees,
-                records,
-                lines,
-            } => {
-                if negative {
-                    return Text::Refused(Refusal::State);
+        Ok(asked) => match survey_trees(s, asked.next) {
+            Ok(all) => {
+                if all.negative {
+                    return Err(Refusal::State);
                 }
-                Text::Read {
-                    first: next,
-                    questions,
-                    patterns,
-                    trees,
-                    records,
-                    lines,
-                }
+                Ok(Text {
+                    first: asked.next,
+                    questions: asked.value.questions,
+                    patterns: asked.value.patterns,
+                    trees: all.trees,
+                    records: all.records,
+                    lines: all.lines,
+                })
             }
-            Trees::Broken(at) => Text::Refused(Refusal::Text(at)),
+            Err(at) => Err(Refusal::Text(at)),
         },
-        Questions::Broken(at) => Text::Refused(Refusal::Text(at)),
+        Err(at) => Err(Refusal::Text(at)),
     }
 }
 
 // The block that begins at `at` and ends with the slice (19), and all that is known before.
-fn plan_entries(s: &[u8], plan: Plan) -> Planned
+fn plan_entries(s: &[u8], plan: Plan) -> Result<Plan, Refusal>
     ensures { result ≡ entries_of s.now plan }
 {
     match check_block(s, plan.block, plan.trees, plan.width) {
-        Block::Fits { entries } => {
-            let whole = Plan {
-                text: plan.text,
-                text_end: plan.text_end,
-                first: plan.first,
-                questions: plan.questions,
-                patterns: plan.patterns,
-                trees: plan.trees,
-                records: plan.records,
-                lines: plan.lines,
-                block: plan.block,
-                block_end: plan.block_end,
-                width: plan.width,
-                entries,
-            };
-            Planned::Model(whole)
-        }
-        Block::Wrong => Planned::Refused(Refusal::Block),
+        Some(entries) => Ok(Plan { entries, ..plan }),
+        None => Err(Refusal::Block),
+    }
+}
+
+// A text that was read, from `at` up to `end` of the data, and a block of a width whose entries aren't counted yet.
+pub fn plan_for(at: usize, end: usize, text: Text, block: Bounds, width: u64) -> Plan
+    ensures { result ≡ plan_for at end text.first text.questions text.patterns text.trees text.records text.lines width block.start block.end }
+{
+    Plan {
+        text: at,
+        text_end: end,
+        first: text.first,
+        questions: text.questions,
+        patterns: text.patterns,
+        trees: text.trees,
+        records: text.records,
+        lines: text.lines,
+        block: block.start,
+        block_end: block.end,
+        width,
+        entries: 0,
     }
 }
 
 // The model of a text that was read, with its block in a range of the data (16).
-fn plan_block(
-    d: &[u8],
-    at: usize,
-    end: usize,
-    text: Text,
-    pdf_from: u64,
-    pdf_to: u64,
-    width: u64,
-) -> Planned
-    ensures { result ≡ block_of d.now at end text pdf_from pdf_to width }
+fn plan_block(d: &[u8], at: usize, end: usize, text: Text, chosen: Chosen) -> Result<Plan, Refusal>
+    ensures { result ≡ block_of d.now at end (Ok text) chosen.pdf_from chosen.pdf_to chosen.width }
 {
-    match text {
-        Text::Refused(refusal) => Planned::Refused(refusal),
-        Text::Read {
-            first,
-            questions,
-            patterns,
-            trees,
-            records,
-            lines,
-        } => match within(pdf_from, pdf_to, d.len()) {
-            Bounds::Outside => Planned::Refused(Refusal::Range),
-            Bounds::Inside {
-                start: block,
-                end: block_end,
-            } => {
-                let plan = Plan {
-                    text: at,
-                    text_end: end,
-                    first,
-                    questions,
-                    patterns,
-                    trees,
-                    records,
-                    lines,
-                    block,
-                    block_end,
-                    width,
-                    entries: 0,
-                };
-                plan_entries(up_to(d, block_end), plan)
-            }
-        },
-    }
+    let block = within(chosen.pdf_from, chosen.pdf_to, d.len()).ok_or(Refusal::Range)?;
+    let plan = plan_for(at, end, text, block, chosen.width);
+    plan_entries(up_to(d, block.end), plan)
 }
 
 // The model whose tree text (16) and block stand in ranges of the data.
-fn plan_model(
-    d: &[u8],
-    tree_from: u64,
-    tree_to: u64,
-    pdf_from: u64,
-    pdf_to: u64,
-    width: u64,
-) -> Planned
-    ensures { result ≡ plan_of d.now tree_from tree_to pdf_from pdf_to width }
+fn plan_model(d: &[u8], chosen: Chosen) -> Result<Plan, Refusal>
+    ensures { result ≡ plan_of d.now chosen.tree_from chosen.tree_to chosen.pdf_from chosen.pdf_to chosen.width }
 {
-    match within(tree_from, tree_to, d.len()) {
-        Bounds::Outside => Planned::Refused(Refusal::Range),
-        Bounds::Inside { start, end } => plan_block(
-            d,
-            start,
-            end,
-            read_text(up_to(d, end), start),
-            pdf_from,
-            pdf_to,
-            width,
-        ),
-    }
+    let range = within(chosen.tree_from, chosen.tree_to, d.len()).ok_or(Refusal::Range)?;
+    let text = read_text(up_to(d, range.end), range.start)?;
+    plan_block(d, range.start, range.end, text, chosen)
 }
 
 // The data of the record in the words.
@@ -195,25 +127,10 @@ pub fn data_of<'a, 'b>(file: &'a [u8], words: &'b [u64]) -> &'a [u8]
 }
 
 // What a model needs, of a file and the words of any record.
-pub fn needs(file: &[u8], words: &[u64], which: Which) -> Planned
+pub fn needs(file: &[u8], words: &[u64], which: Which) -> Result<Plan, Refusal>
     requires { 647 ≤ length words.now }
     ensures { result ≡ planned file.now (header_at words.now) which }
 {
-    match choose(file, words, which) {
-        Chosen::Refused(refusal) => Planned::Refused(refusal),
-        Chosen::Model {
-            tree_from,
-            tree_to,
-            pdf_from,
-            pdf_to,
-            width,
-        } => plan_model(
-            data_of(file, words),
-            tree_from,
-            tree_to,
-            pdf_from,
-            pdf_to,
-            width,
-        ),
-    }
+    let chosen = choose(file, words, which)?;
+    plan_model(data_of(file, words), chosen)
 }

@@ -5,17 +5,19 @@ use Prim.Native.Nat.{ℕ, ◌+◌, ◌*◌, ◌≤◌, ◌<◌}
 use native.Mathlib.Omega.{arith}
 use lib.ListN.{length}
 use lib.Seq.{sets, length-sets}
+use Rattle.text_parts.specs.declared.Span.{Span}
+use Rattle.text_parts.specs.declared.Read.{Read}
+use Rattle.text_parts.specs.Parts.{read_to, cut}
+use Rattle.std.specs.declared.option.Option.{Option}
+use Rattle.std.specs.Prelude.{Some, None}
 use Rattle.written.specs.Said.{QuestionPlace}
 use Rattle.laws.specs.Steps.{Ending, done_at, broken_at, Reading}
 use Rattle.laws.proofs.Tables.{sets-append}
 use Rattle.tree_question.specs.Questions.{head_at, item_at, after_question, patterns_at, questions_at}
-use Rattle.tree_question.specs.declared.QuestionHead.{QuestionHead}
-use Rattle.tree_question.specs.declared.QuestionHead.TheVariants as head
 use Rattle.tree_question.specs.declared.Item.{Item}
 use Rattle.tree_question.specs.declared.Item.TheVariants as item
 use Rattle.tree_question.proofs.Filling.{span, questions_from_here, questions_next, questions_last, questions_stopped, questions_broken, begins_question, begins_tree}
 use Rattle.tree_survey_questions.specs.Counts.{patterns_ended, patterns_counted}
-use Rattle.tree_survey_questions.specs.declared.Patterns.TheVariants as patterns
 use Rattle.tree_survey_questions.proofs.Counting.{asked_next, asked_last, more_in, final_in}
 use Rattle.load_questions.specs.Words.{question_words, row_followed, row_counted, row_headed, row_at}
 use Rattle.load_questions.specs.declared.QuestionRow.{QuestionRow}
@@ -28,8 +30,8 @@ module _ (s : List ℕ) where
 
   -- ---- one question: each way through
 
-  module _ (i : ℕ) {b n f : ℕ} (h : head.Named b n f ≡ head_at s i) where
-    module _ {m e : ℕ} (d : patterns.Counted m e ≡ patterns_counted 0 (patterns_at s f)) where
+  module _ (i : ℕ) {b n f : ℕ} (h : Some (read_to (cut b n) f) ≡ head_at s i) where
+    module _ {m e : ℕ} (d : Some (read_to m e) ≡ patterns_counted 0 (patterns_at s f)) where
       followed : {t : Item} → t ≡ after_question s e → row_followed b n f m t ≡ row_at s i
       unfolding row_at
       followed a = ap (row_followed b n f m) a ∙ ap (row_counted s b n f) d ∙ ap (row_headed s) h
@@ -40,11 +42,11 @@ module _ (s : List ℕ) where
       pub row_last : {j : ℕ} → item.Tree j ≡ after_question s e → row.Last b n f m ≡ row_at s i
       row_last a = followed a
 
-    pub row_broken : patterns.Broken ≡ patterns_counted 0 (patterns_at s f) → row.Broken ≡ row_at s i
+    pub row_broken : None ≡ patterns_counted 0 (patterns_at s f) → row.Broken ≡ row_at s i
     unfolding row_at
     row_broken d = ap (row_counted s b n f) d ∙ ap (row_headed s) h
 
-  pub row_none : (i : ℕ) → head.NoQuestion ≡ head_at s i → row.Broken ≡ row_at s i
+  pub row_none : (i : ℕ) → None ≡ head_at s i → row.Broken ≡ row_at s i
   unfolding row_at
   row_none i h = ap (row_headed s) h
 
@@ -72,7 +74,7 @@ module _ (s : List ℕ) where
   unfolding row_at patterns_counted
   told i = go (head_at s i) refl
     where
-      within : (b n f : ℕ) → head.Named b n f ≡ head_at s i → (d : Ending) → (patterns_at s f).ending ≡ d → Told i (row_counted s b n f (patterns_ended (0 + length (patterns_at s f).items) d))
+      within : (b n f : ℕ) → Some (read_to (cut b n) f) ≡ head_at s i → (d : Ending) → (patterns_at s f).ending ≡ d → Told i (row_counted s b n f (patterns_ended (0 + length (patterns_at s f).items) d))
       within b n f h (done_at e) q = pick (after_question s e) refl
         where
           pick : (t : Item) → after_question s e ≡ t → Told i (row_followed b n f (0 + length (patterns_at s f).items) t)
@@ -87,9 +89,9 @@ module _ (s : List ℕ) where
               }
       within b n f h (broken_at e) q = ap (λ (r : Reading QuestionPlace). r.items) (questions_stopped s i h q)
 
-      go : (t : QuestionHead) → head_at s i ≡ t → Told i (row_headed s t)
-      go (head.Named b n f) h = within b n f (sym h) (patterns_at s f).ending refl
-      go head.NoQuestion h = ap (λ (r : Reading QuestionPlace). r.items) (questions_broken s i (sym h))
+      go : (t : Option (Read Span)) → head_at s i ≡ t → Told i (row_headed s t)
+      go (Some r) h = within r.value.start r.value.len r.next (sym h) (patterns_at s r.next).ending refl
+      go None h = ap (λ (r : Reading QuestionPlace). r.items) (questions_broken s i (sym h))
 
   module _ (i : ℕ) {r : QuestionRow} (e : r ≡ row_at s i) where
     pub told_of : Told i r

@@ -5,19 +5,19 @@ use Prim.Native.Nat.{ℕ, ◌+◌, ◌*◌, ◌≤◌}
 use native.Mathlib.Omega.{arith}
 use lib.ListN.{length}
 use lib.Seq.{sets, length-sets}
+use Rattle.text_parts.specs.Parts.{read_to, cut}
+use Rattle.std.specs.Prelude.{Some, None}
 use Rattle.written.specs.Bytes.{Span}
 use Rattle.written.specs.Said.{QuestionPlace}
 use Rattle.laws.specs.Steps.{Ending, done_at, broken_at, Reading}
 use Rattle.laws.specs.Totals.{total}
 use Rattle.laws.proofs.Tables.{sets-append}
 use Rattle.tree_question.specs.Questions.{head_at, pattern_step_at, item_at, after_question, patterns_at, questions_at}
-use Rattle.tree_question.specs.declared.QuestionHead.TheVariants as head
 use Rattle.tree_question.specs.declared.Item.{Item}
 use Rattle.tree_question.specs.declared.Item.TheVariants as item
 use Rattle.tree_question.specs.declared.PatternStep.TheVariants as pattern
 use Rattle.tree_question.proofs.Filling.{span, patterns_next, patterns_last, patterns_broken, questions_from_here, questions_next, questions_last, questions_stopped, begins_question}
 use Rattle.tree_survey_questions.specs.Counts.{pattern_count, patterns_ended, patterns_counted}
-use Rattle.tree_survey_questions.specs.declared.Patterns.TheVariants as patterns
 use Rattle.tree_survey_questions.proofs.Counting.{counted_done}
 use Rattle.load_questions.specs.Words.{Done, span_words, pattern_words}
 use Rattle.load_questions.proofs.Laws.{place, Went, Ended, first_items, no_items}
@@ -84,7 +84,7 @@ module _ (s : List ℕ) where
       let v : broken_at e ≡ done_at z.end = sym b ∙ z.done in
       let u : ◌≡◌ {A = ℕ} 0 1 = cc in absurd (omega arith)
 
-  module _ (i : ℕ) (z : Done (questions_from_here s i)) {b n f : ℕ} (h : head.Named b n f ≡ head_at s i) where
+  module _ (i : ℕ) (z : Done (questions_from_here s i)) {b n f : ℕ} (h : Some (read_to (cut b n) f) ≡ head_at s i) where
     standing : (rest : List QuestionPlace) × ((questions_from_here s i).items ≡ place s b n f ∷ rest)
     standing = go (patterns_at s f).ending refl
       where
@@ -96,15 +96,15 @@ module _ (s : List ℕ) where
             pick (item.Tree j) a = ([], ap (λ (r : Reading QuestionPlace). r.items) (questions_last s i h d a))
         go (broken_at e) d = never i z (ap (λ (r : Reading QuestionPlace). r.ending) (questions_stopped s i h d))
 
-    pub never_broken : patterns.Broken ≡ patterns_counted 0 (patterns_at s f) → {A : Type 0} → A
+    pub never_broken : None ≡ patterns_counted 0 (patterns_at s f) → {A : Type 0} → A
     unfolding patterns_counted
     never_broken x {A} = go (patterns_at s f).ending refl x
       where
-        go : (d : Ending) → (patterns_at s f).ending ≡ d → patterns.Broken ≡ patterns_ended (0 + length (patterns_at s f).items) d → A
+        go : (d : Ending) → (patterns_at s f).ending ≡ d → None ≡ patterns_ended (0 + length (patterns_at s f).items) d → A
         go (done_at e) d x = let u : ◌≡◌ {A = ℕ} 0 1 = cc in absurd (omega arith)
         go (broken_at e) d x = never i z (ap (λ (r : Reading QuestionPlace). r.ending) (questions_stopped s i h d))
 
-    pub done_next : {m e j : ℕ} → patterns.Counted m e ≡ patterns_counted 0 (patterns_at s f) → item.Question j ≡ after_question s e → Done (questions_from_here s j)
+    pub done_next : {m e j : ℕ} → Some (read_to m e) ≡ patterns_counted 0 (patterns_at s f) → item.Question j ≡ after_question s e → Done (questions_from_here s j)
     done_next {m} {e} {j} x a =
         record { end = z.end; done = sym (ap (λ (r : Reading QuestionPlace). r.ending) (questions_next s i h (counted_done s (patterns_at s f) m e x).0 a)) ∙ z.done }
 
@@ -149,7 +149,7 @@ module _ (s : List ℕ) where
             }
 
       -- the question at i, of questions that can be read
-      pub standing_room : Done (questions_from_here s i) → {b n f : ℕ} → head.Named b n f ≡ head_at s i → word + 2 * length (patterns_at s f).items ≤ length table
+      pub standing_room : Done (questions_from_here s i) → {b n f : ℕ} → Some (read_to (cut b n) f) ≡ head_at s i → word + 2 * length (patterns_at s f).items ≤ length table
       unfolding total
       standing_room z h = let a = standing i z h in omega (arith, p.room, p.long, ap (total pattern_count) a.1)
 

@@ -1,17 +1,16 @@
 -- The questions of a tree text as words of the tables: question rows of four words, pattern rows of two (01, 'Linking and tables').
 -- Also what is answered of one question.
-use Rattle.std.specs.Prelude.{◌≡◌, List, [], ◌∷◌, ◌++◌, ℕ, ◌+◌, length}
+use Rattle.text_parts.specs.declared.Span.{Span as Piece}
+use Rattle.text_parts.specs.declared.Read.{Read}
+use Rattle.std.specs.declared.option.Option.{Option}
+use Rattle.std.specs.Prelude.{◌≡◌, List, [], ◌∷◌, ◌++◌, ℕ, ◌+◌, length, Some, None}
 use Rattle.written.specs.Bytes.{Span}
 use Rattle.written.specs.Said.{QuestionPlace}
 use Rattle.laws.specs.Steps.{done_at, Reading}
 use Rattle.tree_question.specs.Questions.{head_at, patterns_at, after_question}
-use Rattle.tree_question.specs.declared.QuestionHead.{QuestionHead}
-use Rattle.tree_question.specs.declared.QuestionHead.TheVariants as head
 use Rattle.tree_question.specs.declared.Item.{Item}
 use Rattle.tree_question.specs.declared.Item.TheVariants as item
 use Rattle.tree_survey_questions.specs.Counts.{patterns_counted}
-use Rattle.tree_survey_questions.specs.declared.Patterns.{Patterns}
-use Rattle.tree_survey_questions.specs.declared.Patterns.TheVariants as patterns
 use Rattle.load_questions.specs.declared.QuestionRow.{QuestionRow}
 use Rattle.load_questions.specs.declared.QuestionRow.TheVariants.{Next, Last, Broken}
 
@@ -43,13 +42,13 @@ abbrev pub row_followed : ℕ → ℕ → ℕ → ℕ → Item → QuestionRow
 row_followed b n f m (item.Question j) = Next b n f m j
 row_followed b n f m (item.Tree j) = Last b n f m
 
-abbrev pub row_counted : List ℕ → ℕ → ℕ → ℕ → Patterns → QuestionRow
-row_counted s b n f (patterns.Counted m e) = row_followed b n f m (after_question s e)
-row_counted s b n f patterns.Broken = Broken
+abbrev pub row_counted : List ℕ → ℕ → ℕ → ℕ → Option (Read ℕ) → QuestionRow
+row_counted s b n f (Some r) = row_followed b n f r.value (after_question s r.next)
+row_counted s b n f None = Broken
 
-abbrev pub row_headed : List ℕ → QuestionHead → QuestionRow
-row_headed s (head.Named b n f) = row_counted s b n f (patterns_counted 0 (patterns_at s f))
-row_headed s head.NoQuestion = Broken
+abbrev pub row_headed : List ℕ → Option (Read Piece) → QuestionRow
+row_headed s (Some r) = row_counted s r.value.start r.value.len r.next (patterns_counted 0 (patterns_at s r.next))
+row_headed s None = Broken
 
 -- the question at i, and whether another follows it
 unfoldable pub row_at : List ℕ → ℕ → QuestionRow

@@ -13,12 +13,12 @@ ghost use Rattle.load_questions.specs.Words.{Done, row_at, span_words, pattern_w
 
 use table_put::{put2, put4};
 use table_rows::{PATTERN_ROW, QUESTION_ROW};
-use tree_question::{
-    Item, PatternStep, QuestionHead, after_question, first_item, next_pattern, question_head,
-};
-use tree_survey_questions::{Patterns, count_patterns};
+use text_parts::Read;
+use tree_question::{Item, PatternStep, after_question, first_item, next_pattern, question_head};
+use tree_survey_questions::count_patterns;
 
-// A question: its name, where its first pattern stands, how many it has; and where the next question stands, if one follows.
+// A question: its name, where its first pattern stands, how many it has; and where the next question stands, if one follows. The three steps of a reader, so
+// that the loop matches Next, Last and Broken: an Option in an Option would be no plainer.
 #[derive(Clone, Copy)]
 enum QuestionRow {
     Next {
@@ -42,28 +42,25 @@ fn question_row(s: &[u8], at: usize) -> QuestionRow
     ensures { result ≡ row_at s.now at }
 {
     match question_head(s, at) {
-        QuestionHead::Named { start, len, first } => match count_patterns(s, first) {
-            Patterns::Counted {
-                patterns,
-                next: end,
-            } => match after_question(s, end) {
+        Some(head) => match count_patterns(s, head.next) {
+            Some(patterns) => match after_question(s, patterns.next) {
                 Item::Question(next) => QuestionRow::Next {
-                    start,
-                    len,
-                    first,
-                    patterns,
+                    start: head.value.start,
+                    len: head.value.len,
+                    first: head.next,
+                    patterns: patterns.value,
                     next,
                 },
                 Item::Tree(_) => QuestionRow::Last {
-                    start,
-                    len,
-                    first,
-                    patterns,
+                    start: head.value.start,
+                    len: head.value.len,
+                    first: head.next,
+                    patterns: patterns.value,
                 },
             },
-            Patterns::Broken => QuestionRow::Broken,
+            None => QuestionRow::Broken,
         },
-        QuestionHead::NoQuestion => QuestionRow::Broken,
+        None => QuestionRow::Broken,
     }
 }
 
@@ -75,6 +72,7 @@ fn fill_questions_from(s: &[u8], at: usize, questions: &mut [u64])
     let mut i = at;
     let mut word = 0;
     let mut pattern = 0;
+    // No `for`: where the next question stands is what the reader of this one answers.
     loop {
         match question_row(s, i) {
             QuestionRow::Next {
@@ -131,13 +129,14 @@ pub fn fill_questions(s: &[u8], at: usize, questions: &mut [u64])
 }
 
 // The pattern rows of the question whose first pattern stands at `at`, from word `from` on; and their count.
-pub fn fill_patterns(s: &[u8], at: usize, patterns: &mut [u64], from: usize) -> Patterns
+pub fn fill_patterns(s: &[u8], at: usize, patterns: &mut [u64], from: usize) -> Option<Read<usize>>
     requires { from + 2 * length (patterns_at s.now at).items ≤ length patterns.old }
     ensures { (result ≡ patterns_counted 0 (patterns_at s.now at)) × (patterns.new ≡ sets patterns.old from (span_words (patterns_at s.now at).items)) }
 {
     let mut i = at;
     let mut word = from;
     let mut n = 0;
+    // No `for`: where the next pattern stands is what the reader of this one answers.
     loop {
         match next_pattern(s, i) {
             PatternStep::Next { start, len, next } => {
@@ -148,13 +147,10 @@ pub fn fill_patterns(s: &[u8], at: usize, patterns: &mut [u64], from: usize) -> 
             }
             PatternStep::Last { start, len, next } => {
                 put2(patterns, word, start as u64, len as u64);
-                return Patterns::Counted {
-                    patterns: n + 1,
-                    next,
-                };
+                return Some(Read { value: n + 1, next });
             }
             PatternStep::Broken => {
-                return Patterns::Broken;
+                return None;
             }
         }
     }
@@ -168,19 +164,13 @@ fn fill_patterns_from(s: &[u8], at: usize, patterns: &mut [u64])
 {
     let mut i = at;
     let mut word = 0;
+    // No `for`: where the next question stands is what the reader of this one answers.
     loop {
         match question_head(s, i) {
-            QuestionHead::Named {
-                start: _,
-                len: _,
-                first,
-            } => match fill_patterns(s, first, patterns, word) {
-                Patterns::Counted {
-                    patterns: n,
-                    next: end,
-                } => match after_question(s, end) {
+            Some(head) => match fill_patterns(s, head.next, patterns, word) {
+                Some(filled) => match after_question(s, filled.next) {
                     Item::Question(next) => {
-                        word = word + PATTERN_ROW * n;
+                        word = word + PATTERN_ROW * filled.value;
                         i = next;
                     }
                     Item::Tree(_) => {
@@ -188,11 +178,11 @@ fn fill_patterns_from(s: &[u8], at: usize, patterns: &mut [u64])
                     }
                 },
                 // never, of questions that can be read
-                Patterns::Broken => {
+                None => {
                     return;
                 }
             },
-            QuestionHead::NoQuestion => {
+            None => {
                 return;
             }
         }

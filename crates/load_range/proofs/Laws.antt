@@ -6,8 +6,8 @@ use native.Mathlib.Nat.{zero-mul, mul-zero, mul_comm, mul-le-mul, le-mul_of_pos_
 use native.Mathlib.Omega.{arith}
 use borrow.Author.Tests.{le-leb, lt-leb}
 use lib.Dec.{leb}
-use Rattle.load_range.specs.Ranges.{within_of}
-use Rattle.load_range.specs.declared.Bounds.TheVariants.{Inside, Outside}
+use Rattle.load_range.specs.Ranges.{bounds, within_of}
+use Rattle.std.specs.Prelude.{None}
 
 -- ---- a product
 
@@ -30,14 +30,14 @@ module _ (a b : ℕ) where
 -- ---- a range
 
 module _ (a b n : ℕ) where
-  pub starts_behind : b + 1 < a → Outside ≡ within_of a b n
+  pub starts_behind : b + 1 < a → None ≡ within_of a b n
   unfolding within_of
   starts_behind h = rw (lt-leb a (b + 1) h)
 
-  pub ends_behind : n ≤ b → Outside ≡ within_of a b n
+  pub ends_behind : n ≤ b → None ≡ within_of a b n
   unfolding within_of
   ends_behind h = let k : n < b + 1 = omega arith in rw (lt-leb (b + 1) n k, and-false (leb a (b + 1)))
 
-  pub stands_inside : a ≤ b + 1 → b < n → Inside a (b + 1) ≡ within_of a b n
+  pub stands_inside : a ≤ b + 1 → b < n → bounds a (b + 1) ≡ within_of a b n
   unfolding within_of
   stands_inside h k = let l : b + 1 ≤ n = omega arith in rw (le-leb a (b + 1) h, le-leb (b + 1) n l)

@@ -6,26 +6,26 @@ ghost use Rattle.load_range.specs.Ranges.{within_of};
 
 // Bytes of the data from `start` up to `end`.
 #[derive(Clone, Copy)]
-pub enum Bounds {
-    Inside { start: usize, end: usize },
-    Outside,
+pub struct Bounds {
+    pub start: usize,
+    pub end: usize,
 }
 
-// A range, whose end belongs to it, in data of `len` bytes (16).
-pub fn within(from: u64, to: u64, len: usize) -> Bounds
+// A range, whose end belongs to it; none where it does not stand in data of `len` bytes (16).
+pub fn within(from: u64, to: u64, len: usize) -> Option<Bounds>
     ensures { result ≡ within_of from to len }
 {
     if len as u64 <= to {
-        return Bounds::Outside;
+        return None;
     }
     let end = to + 1;
     if end < from {
-        return Bounds::Outside;
+        return None;
     }
-    Bounds::Inside {
+    Some(Bounds {
         start: from as usize,
         end: end as usize,
-    }
+    })
 }
 
 // The greatest width of an entry (01, 'Limits').

@@ -17,10 +17,6 @@ use Rattle.head_record.specs.declared.Header.{Header}
 use Rattle.load_choose.specs.declared.Which.{Which}
 use Rattle.load_plan.specs.Plans.{data_of, planned}
 use Rattle.load_plan.specs.declared.Plan.{Plan}
-use Rattle.load_plan.specs.declared.Planned.{Planned}
-use Rattle.load_plan.specs.declared.Planned.TheVariants as plan
-use Rattle.load_model.specs.declared.Loaded.{Loaded}
-use Rattle.load_model.specs.declared.Loaded.TheVariants as loaded
 use Rattle.load_model.specs.Load.{Tables as Lent, lent, After as FillAfter, room_for, filled, untouched as as_lent, Is}
 use Rattle.load_model.proofs.Laws.{same_lent}
 use Rattle.load_apart.proofs.Tests.{stands_is}
@@ -28,6 +24,8 @@ use Rattle.load_bounds.specs.declared.Held.{Held as Bounds}
 use Rattle.load_shared.specs.Beside.{rows_of, with_work, Fits, put_back, placed_in, room_by, beside_for, beside_of, FillsOwn, PlacesBeside, LoadsBeside}
 use Rattle.load_bounds.proofs.Laws.{cut_own, cut_length, cut_back, stands_at_lem}
 use Rattle.load_bounds.specs.Bounds.{need_of, held_of, tables_of, stands_at, Cut}
+use Rattle.load_model.specs.declared.Loaded.{Loaded}
+use Rattle.std.specs.Prelude.{Err, Ok, Result}
 
 -- ---- a plan filled into the parts
 
@@ -50,7 +48,7 @@ module _ (x : Side) (d : List ℕ) (p : Plan) (q a t c v : List ℕ) (w : List �
       (cut_own x 1 v (p.entries * p.width) m m' cv) refl
 
   -- what any filling makes of them comes back to where they stand
-  pub own_put : (fill : Lent → FillAfter) {r : Loaded} {q₁ a₁ t₁ c₁ v₁ : List ℕ} {w₁ : List ℤ}
+  pub own_put : (fill : Lent → FillAfter) {r : Result Loaded Refusal} {q₁ a₁ t₁ c₁ v₁ : List ℕ} {w₁ : List ℤ}
       → Is (fill (lent (take (i' - i) (drop i q)) (take (j' - j) (drop j a)) (take (k' - k) (drop k t)) (take (l' - l) (drop l c)) (take (m' - m) (drop m v)) w)) r (lent q₁ a₁ t₁ c₁ v₁ w₁)
       → length q₁ ≡ length (take (i' - i) (drop i q)) → length a₁ ≡ length (take (j' - j) (drop j a)) → length t₁ ≡ length (take (k' - k) (drop k t)) → length c₁ ≡ length (take (l' - l) (drop l c))
       → length v₁ ≡ length (take (m' - m) (drop m v))
@@ -69,7 +67,7 @@ module _ (x : Side) (d : List ℕ) (p : Plan) (q a t c v : List ℕ) (w : List �
             (ap (λ (T : Lent). T.work) g),
       )
 
-  pub own_filled : {r : Loaded} {q₁ a₁ t₁ c₁ v₁ : List ℕ} {w₁ : List ℤ}
+  pub own_filled : {r : Result Loaded Refusal} {q₁ a₁ t₁ c₁ v₁ : List ℕ} {w₁ : List ℤ}
       → Is (filled d p (lent (take (i' - i) (drop i q)) (take (j' - j) (drop j a)) (take (k' - k) (drop k t)) (take (l' - l) (drop l c)) (take (m' - m) (drop m v)) w)) r (lent q₁ a₁ t₁ c₁ v₁ w₁)
       → length q₁ ≡ length (take (i' - i) (drop i q)) → length a₁ ≡ length (take (j' - j) (drop j a)) → length t₁ ≡ length (take (k' - k) (drop k t)) → length c₁ ≡ length (take (l' - l) (drop l c))
       → length v₁ ≡ length (take (m' - m) (drop m v))
@@ -81,7 +79,7 @@ module _ (x : Side) (d : List ℕ) (p : Plan) (q a t c v : List ℕ) (w : List �
 
 -- of a plan in the data d
 module _ (x : Side) (d : List ℕ) (p : Plan) (other : Held) (T : Lent) where
-  by_room : (b : Bool) → room_by p other T ≡ b → {l : Loaded} {T₁ : Lent} → Is (cond b (placed_in x d p T) (as_lent refusal.Room T)) l T₁ → PlacesBeside x d p other T l T₁
+  by_room : (b : Bool) → room_by p other T ≡ b → {l : Result Loaded Refusal} {T₁ : Lent} → Is (cond b (placed_in x d p T) (as_lent refusal.Room T)) l T₁ → PlacesBeside x d p other T l T₁
   by_room b k {l} {T₁} z = subst (λ (b : Bool). Is (cond b (placed_in x d p T) (as_lent refusal.Room T)) l T₁) (sym k) z
 
   -- the rows as the code judges them, of bounds that are the plan's need
@@ -92,13 +90,13 @@ module _ (x : Side) (d : List ℕ) (p : Plan) (other : Held) (T : Lent) where
         sym (stands_at_lem (need_of p) other T.questions T.patterns T.trees T.records T.values)
         ∙ ap (λ (m : Held). stands_at m other (length T.questions) (length T.patterns) (length T.trees) (length T.records) (length T.values)) (sym i) ∙ sym j
 
-    pub load_no_rows : not b ≡ true → PlacesBeside x d p other T (loaded.Refused refusal.Room) T
+    pub load_no_rows : not b ≡ true → PlacesBeside x d p other T (Err refusal.Room) T
     load_no_rows f = by_room false (ap (λ (c : Bool). c && leb p.lines (length T.work / 6)) (rows_judged ∙ not-true b f)) (refl, refl)
 
-    pub load_no_lines : not b ≡ false → length T.work / 6 < p.lines → PlacesBeside x d p other T (loaded.Refused refusal.Room) T
+    pub load_no_lines : not b ≡ false → length T.work / 6 < p.lines → PlacesBeside x d p other T (Err refusal.Room) T
     load_no_lines f l = by_room false (ap (λ (c : Bool). c && leb p.lines (length T.work / 6)) (rows_judged ∙ not-false b f) ∙ lt-leb _ _ l) (refl, refl)
 
-    pub load_filled : not b ≡ false → p.lines ≤ length T.work / 6 → {l : Loaded} {T₁ : Lent} → FillsOwn x d p T l T₁ → PlacesBeside x d p other T l T₁
+    pub load_filled : not b ≡ false → p.lines ≤ length T.work / 6 → {l : Result Loaded Refusal} {T₁ : Lent} → FillsOwn x d p T l T₁ → PlacesBeside x d p other T l T₁
     load_filled f k z = by_room true (ap (λ (c : Bool). c && leb p.lines (length T.work / 6)) (rows_judged ∙ not-false b f) ∙ le-leb _ _ k) z
 
     -- bounds that stand have room for a plan that needs them
@@ -116,11 +114,11 @@ module _ (x : Side) (d : List ℕ) (p : Plan) (other : Held) (T : Lent) where
 
 -- of the model asked for
 module _ (x : Side) (s : List ℕ) (h : Header) (which : Which) (other : Held) (T : Lent) where
-  pub load_refused : {z : Refusal} → plan.Refused z ≡ planned s h which → LoadsBeside x s h which other T (loaded.Refused z) T
+  pub load_refused : {z : Refusal} → Err z ≡ planned s h which → LoadsBeside x s h which other T (Err z) T
   unfolding beside_of
-  load_refused {z} e = subst (λ (o : Planned). Is (beside_for x other (data_of s h) o T) (loaded.Refused z) T) e (refl, refl)
+  load_refused {z} e = subst (λ (o : Result Plan Refusal). Is (beside_for x other (data_of s h) o T) (Err z) T) e (refl, refl)
 
-  pub load_model : (p : Plan) → plan.Model p ≡ planned s h which → {d : List ℕ} {l : Loaded} {T₁ : Lent} → d ≡ data_of s h → PlacesBeside x d p other T l T₁ → LoadsBeside x s h which other T l T₁
+  pub load_model : (p : Plan) → Ok p ≡ planned s h which → {d : List ℕ} {l : Result Loaded Refusal} {T₁ : Lent} → d ≡ data_of s h → PlacesBeside x d p other T l T₁ → LoadsBeside x s h which other T l T₁
   unfolding beside_of
   load_model p e {d} {l} {T₁} y z =
-      subst (λ (o : Planned). Is (beside_for x other (data_of s h) o T) l T₁) e (subst (λ (d : List ℕ). Is (beside_for x other d (plan.Model p) T) l T₁) y z)
+      subst (λ (o : Result Plan Refusal). Is (beside_for x other (data_of s h) o T) l T₁) e (subst (λ (d : List ℕ). Is (beside_for x other d (Ok p) T) l T₁) y z)

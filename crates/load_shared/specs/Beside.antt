@@ -1,17 +1,16 @@
 -- What a load into one task's rows answers and leaves, by the file's bytes, the record, the other task's bounds and the slices before it (01, 'Linking and tables'; 02,
 -- Wish 9). Refusals up to 20 leave the slices as they were; 21 to 23 leave the rows needed zero, and all of the work.
-use Rattle.std.specs.Prelude.{Bool, cond, ◌&&◌, List, ℕ, ◌*◌, ◌/◌, ◌≤◌, leb, ℤ, length}
+use Rattle.std.specs.Prelude.{Bool, cond, ◌&&◌, List, ℕ, ◌*◌, ◌/◌, ◌≤◌, leb, ℤ, length, Err, Ok, Result}
 use Rattle.written.specs.Sharing.{Side, questions, patterns, trees, records, values, Tables, Held, seen, placed, stands}
 use Rattle.error.specs.declared.Refusal.TheVariants as refusal
 use Rattle.head_record.specs.declared.Header.{Header}
 use Rattle.load_choose.specs.declared.Which.{Which}
 use Rattle.load_plan.specs.Plans.{data_of, planned}
 use Rattle.load_plan.specs.declared.Plan.{Plan}
-use Rattle.load_plan.specs.declared.Planned.{Planned}
-use Rattle.load_plan.specs.declared.Planned.TheVariants as plan
-use Rattle.load_model.specs.declared.Loaded.{Loaded}
 use Rattle.load_model.specs.Load.{Tables as Lent, lent, After, filled, untouched, Is}
 use Rattle.load_bounds.specs.Bounds.{need_of, tables_of}
+use Rattle.load_model.specs.declared.Loaded.{Loaded}
+use Rattle.error.specs.declared.Refusal.{Refusal}
 
 -- the five tables of what is lent
 abbrev pub rows_of : Lent → Tables
@@ -44,9 +43,9 @@ placed_in x d p T = put_back x p T (filled d p (with_work (seen x (need_of p) (r
 abbrev pub room_by : Plan → Held → Lent → Bool
 room_by p other T = stands (rows_of T) (need_of p) other && leb p.lines (length T.work / 6)
 
-abbrev pub beside_for : Side → Held → List ℕ → Planned → Lent → After
-beside_for x other d (plan.Refused z) T = untouched z T
-beside_for x other d (plan.Model p) T = cond (room_by p other T) (placed_in x d p T) (untouched refusal.Room T)
+abbrev pub beside_for : Side → Held → List ℕ → Result Plan Refusal → Lent → After
+beside_for x other d (Err z) T = untouched z T
+beside_for x other d (Ok p) T = cond (room_by p other T) (placed_in x d p T) (untouched refusal.Room T)
 
 -- of a task that holds nothing
 unfoldable pub beside_of : Side → List ℕ → Header → Which → Held → Lent → After
@@ -54,12 +53,12 @@ beside_of x s h which other T = beside_for x other (data_of s h) (planned s h wh
 
 -- ---- the contracts
 
-abbrev pub FillsOwn : Side → List ℕ → Plan → Lent → Loaded → Lent → Type 0
+abbrev pub FillsOwn : Side → List ℕ → Plan → Lent → Result Loaded Refusal → Lent → Type 0
 FillsOwn x d p T = Is (placed_in x d p T)
 
 -- a plan in the data d, of a task that holds nothing
-abbrev pub PlacesBeside : Side → List ℕ → Plan → Held → Lent → Loaded → Lent → Type 0
-PlacesBeside x d p other T = Is (beside_for x other d (plan.Model p) T)
+abbrev pub PlacesBeside : Side → List ℕ → Plan → Held → Lent → Result Loaded Refusal → Lent → Type 0
+PlacesBeside x d p other T = Is (beside_for x other d (Ok p) T)
 
-abbrev pub LoadsBeside : Side → List ℕ → Header → Which → Held → Lent → Loaded → Lent → Type 0
+abbrev pub LoadsBeside : Side → List ℕ → Header → Which → Held → Lent → Result Loaded Refusal → Lent → Type 0
 LoadsBeside x s h which other T = Is (beside_of x s h which other T)

@@ -12,11 +12,11 @@ ghost use Rattle.load_model.specs.Load.{lent};
 ghost use Rattle.load_shared.specs.Beside.{Fits, FillsOwn, PlacesBeside, LoadsBeside};
 
 use error::Refusal;
-use load_bounds::{Held, need, own_part, stand};
+use load_bounds::{Held, need, own_parts, stand};
 use load_choose::Which;
 use load_model::{Loaded, fill};
-use load_plan::{Plan, Planned, data_of, needs};
-use table_rows::{PATTERN_ROW, QUESTION_ROW, RECORD_ROW, TREE_ROW, WORK_A_LINE};
+use load_plan::{Plan, data_of, needs};
+use table_rows::WORK_A_LINE;
 
 // A plan into a task's own rows.
 fn fill_own(
@@ -29,34 +29,27 @@ fn fill_own(
     records: &mut [u64],
     values: &mut [u64],
     work: &mut [i64],
-) -> Loaded
+) -> Result<Loaded, Refusal>
     requires { Sound d.now p × Fits p (length questions.old) (length patterns.old) (length trees.old) (length records.old) (length values.old) (length work.old) }
     ensures { FillsOwn (side_of top) d.now p (lent questions.old patterns.old trees.old records.old values.old work.old) result (lent questions.new patterns.new trees.new records.new values.new work.new) }
 {
-    let n = (p.entries * p.width) as usize;
-    let q = own_part(top, questions.len(), QUESTION_ROW, p.questions);
-    let q_from = q.from;
-    let q_to = q.to;
-    let a = own_part(top, patterns.len(), PATTERN_ROW, p.patterns);
-    let a_from = a.from;
-    let a_to = a.to;
-    let t = own_part(top, trees.len(), TREE_ROW, p.trees);
-    let t_from = t.from;
-    let t_to = t.to;
-    let r = own_part(top, records.len(), RECORD_ROW, p.records);
-    let r_from = r.from;
-    let r_to = r.to;
-    let v = own_part(top, values.len(), 1, n);
-    let v_from = v.from;
-    let v_to = v.to;
+    let own = own_parts(
+        top,
+        need(p),
+        questions.len(),
+        patterns.len(),
+        trees.len(),
+        records.len(),
+        values.len(),
+    );
     fill(
         d,
         p,
-        &mut questions[q_from..q_to],
-        &mut patterns[a_from..a_to],
-        &mut trees[t_from..t_to],
-        &mut records[r_from..r_to],
-        &mut values[v_from..v_to],
+        &mut questions[own.questions.from..own.questions.to],
+        &mut patterns[own.patterns.from..own.patterns.to],
+        &mut trees[own.trees.from..own.trees.to],
+        &mut records[own.records.from..own.records.to],
+        &mut values[own.values.from..own.values.to],
         work,
     )
 }
@@ -73,7 +66,7 @@ pub fn load_planned(
     records: &mut [u64],
     values: &mut [u64],
     work: &mut [i64],
-) -> Loaded
+) -> Result<Loaded, Refusal>
     requires { Sound d.now p }
     ensures { PlacesBeside (side_of top) d.now p (held_of other) (lent questions.old patterns.old trees.old records.old values.old work.old) result (lent questions.new patterns.new trees.new records.new values.new work.new) }
 {
@@ -86,10 +79,10 @@ pub fn load_planned(
         records.len(),
         values.len(),
     ) {
-        return Loaded::Refused(Refusal::Room);
+        return Err(Refusal::Room);
     }
     if work.len() / WORK_A_LINE < p.lines {
-        return Loaded::Refused(Refusal::Room);
+        return Err(Refusal::Room);
     }
     fill_own(d, p, top, questions, patterns, trees, records, values, work)
 }
@@ -107,23 +100,21 @@ pub fn load(
     records: &mut [u64],
     values: &mut [u64],
     work: &mut [i64],
-) -> Loaded
+) -> Result<Loaded, Refusal>
     requires { 647 ≤ length words.now }
     ensures { LoadsBeside (side_of top) file.now (header_at words.now) which (held_of other) (lent questions.old patterns.old trees.old records.old values.old work.old) result (lent questions.new patterns.new trees.new records.new values.new work.new) }
 {
-    match needs(file, words, which) {
-        Planned::Refused(refusal) => Loaded::Refused(refusal),
-        Planned::Model(p) => load_planned(
-            data_of(file, words),
-            p,
-            top,
-            other,
-            questions,
-            patterns,
-            trees,
-            records,
-            values,
-            work,
-        ),
-    }
+    let p = needs(file, words, which)?;
+    load_planned(
+        data_of(file, words),
+        p,
+        top,
+        other,
+        questions,
+        patterns,
+        trees,
+        records,
+        values,
+        work,
+    )
 }

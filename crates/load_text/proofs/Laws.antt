@@ -22,8 +22,9 @@ use Rattle.tree_body.specs.Trees.{trees_at}
 use Rattle.load_questions.specs.Words.{pattern_words}
 use Rattle.load_questions.proofs.Rows.{patterns_length, questions_length}
 use Rattle.load_trees.specs.Trees.{all_linked, trees_end, tree_words, record_words, work_after}
-use Rattle.load_trees.specs.declared.Linked.{Linked}
 use Rattle.load_text.specs.Text.{Fits, name_index, words_at, end_at, trees_stored, records_stored, kept, TextLinked, TextFilled}
+use Rattle.load_trees.specs.declared.TreeFault.{TreeFault}
+use Rattle.std.specs.Prelude.{Result, ⊤}
 
 -- a front that was stored, lent
 front : (t₀ t₁ xs : List ℕ) (m : ℕ) → t₁ ≡ sets t₀ 0 xs → m ≡ length xs → m ≤ length t₀ → take (m - 0) (drop 0 t₁) ≡ xs
@@ -66,7 +67,7 @@ module _ (s : List ℕ) (i n : ℕ) {q p : ℕ} (h : Asked s i n q p) where
       pub index_asked : length (take (n - 0) (drop 0 p₁)) ≡ length (questions_at s i).items
       index_asked = index_count ∙ h.asked
 
-      pub linked_as : {o : Linked} → o ≡ trees_end s x (length (take (n - 0) (drop 0 p₁))) 0 (trees_at s f).items → o ≡ end_at s i f
+      pub linked_as : {o : Result ⊤ TreeFault} → o ≡ trees_end s x (length (take (n - 0) (drop 0 p₁))) 0 (trees_at s f).items → o ≡ end_at s i f
       linked_as u = u ∙ ap₂ (λ (a : List ℕ) (m : ℕ). trees_end s a m 0 (trees_at s f).items) y index_asked
 
       pub rows_as : {t₁ : List ℕ} (t₀ : List ℕ) → t₁ ≡ sets t₀ 0 (tree_words s x (length (take (n - 0) (drop 0 p₁))) 0 (trees_at s f).items) → t₁ ≡ sets t₀ 0 (trees_stored s i f)
@@ -86,7 +87,7 @@ module _ (s : List ℕ) (i n : ℕ) {q p : ℕ} (h : Asked s i n q p) where
       u ∙ ap (λ (t : List ℕ). sets t 0 (pattern_words (questions_at s i).items)) e
       ∙ sets_over (name_index s x n) (pattern_words (questions_at s i).items) p₀ 0 (omega (arith, index_length s x n, patterns_length (questions_at s i).items, h.asked, each_asked s i))
 
-module _ (o : Linked) (t₀ words : List ℕ) {b : Bool} (told : b ≡ all_linked o) where
+module _ (o : Result ⊤ TreeFault) (t₀ words : List ℕ) {b : Bool} (told : b ≡ all_linked o) where
   kept_is : {l : List ℕ} {v : Bool} → b ≡ v → l ≡ cond v (sets t₀ 0 words) (replicate (length t₀) 0) → l ≡ kept o t₀ words
   kept_is e u = u ∙ sym (ap (λ (b : Bool). cond b (sets t₀ 0 words) (replicate (length t₀) 0)) (sym told ∙ e))
 
@@ -98,7 +99,7 @@ module _ (o : Linked) (t₀ words : List ℕ) {b : Bool} (told : b ≡ all_linke
   kept_not e l v = kept_is e (v ∙ ap (λ (m : ℕ). replicate m 0) l)
 
 -- the two ways on from linked trees: the patterns over the index, or zeros
-module _ (s : List ℕ) (i f n : ℕ) (q p t r : List ℕ) (w : List ℤ) (fits : Fits s i f n (length q) (length p) (length t) (length r) (length w)) {o : Linked} {q₁ p₁ t₁ r₁ : List ℕ} {w₁ w₂ : List ℤ}
+module _ (s : List ℕ) (i f n : ℕ) (q p t r : List ℕ) (w : List ℤ) (fits : Fits s i f n (length q) (length p) (length t) (length r) (length w)) {o : Result ⊤ TreeFault} {q₁ p₁ t₁ r₁ : List ℕ} {w₁ w₂ : List ℤ}
     (l : TextLinked s i f n q p t r w o q₁ p₁ t₁ r₁ w₁) (long : length w₁ ≡ length w) (zero : w₂ ≡ replicate (length w₁) (pos 0)) {b : Bool} (told : b ≡ all_linked o) where
   work_zero : w₂ ≡ replicate (length w) (pos 0)
   work_zero = zero ∙ ap (λ (m : ℕ). replicate m (pos 0)) long

@@ -10,7 +10,7 @@ ghost use Rattle.load_text.specs.Text.{Fits, name_index, TextLinked, TextFilled}
 use link_sort::sort_names;
 use link_targets::number_lines;
 use load_questions::{fill_all_patterns, fill_questions};
-use load_trees::{Linked, all_linked, fill_trees};
+use load_trees::{TreeFault, all_linked, fill_trees};
 use table_put::{zero, zero_work};
 use table_rows::QUESTION_ROW;
 
@@ -34,7 +34,7 @@ fn link_text(
     trees: &mut [u64],
     records: &mut [u64],
     work: &mut [i64],
-) -> Linked
+) -> Result<(), TreeFault>
     requires { Fits s.now at first n (length questions.old) (length patterns.old) (length trees.old) (length records.old) (length work.old) }
     ensures { TextLinked s.now at first n questions.old patterns.old trees.old records.old work.old result questions.new patterns.new trees.new records.new work.new }
 {
@@ -78,7 +78,7 @@ pub fn fill_text(
     trees: &mut [u64],
     records: &mut [u64],
     work: &mut [i64],
-) -> Linked
+) -> Result<(), TreeFault>
     requires { Fits s.now at first n (length questions.old) (length patterns.old) (length trees.old) (length records.old) (length work.old) }
     ensures { TextFilled s.now at first questions.old patterns.old trees.old records.old work.old result questions.new patterns.new trees.new records.new work.new }
 {

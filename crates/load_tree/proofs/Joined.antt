@@ -6,6 +6,8 @@ use Prim.Native.Nat.{ℕ, suc, ◌+◌, ◌*◌}
 use native.Mathlib.Omega.{arith}
 use lib.IntN.{ℤ, pos}
 use lib.ListN.{length, get_or}
+use Rattle.std.specs.declared.option.Option.{Option}
+use Rattle.std.specs.Prelude.{Some, None}
 use Rattle.written.specs.Bytes.{Span, same}
 use Rattle.written.specs.Said as said
 use Rattle.written.specs.Said.{Ref, node, pdf, Question}
@@ -14,8 +16,6 @@ use Rattle.laws.proofs.Nth.{nth_inside, nth_of}
 use Rattle.link_order.specs.Keys.{name_at}
 use Rattle.text_parts.specs.Parts.{part_inside}
 use Rattle.link_search.specs.Found.{last_below}
-use Rattle.link_search.specs.declared.Found.{Found}
-use Rattle.link_search.specs.declared.Found.TheVariants.{At, Nothing}
 use Rattle.link_search.proofs.Ids.{same_true, true_same}
 use Rattle.tree_reference.specs.References.{index_of}
 use Rattle.tree_line.specs.Lines.{line_of}
@@ -42,8 +42,8 @@ module _ (s questions : List ℕ) (qs : List Question) (named : (e : ℕ) (q : Q
       test : ℕ → Bool
       test e = same (name_at s questions e) (part_inside s start len)
 
-      go : (f : Found) → last_below (λ e. same (name_at s questions e) (part_inside s start len)) (length qs) ≡ f → AskedAs qs name (nat_of (asked_of f))
-      go (At k) p =
+      go : (f : Option ℕ) → last_below (λ e. same (name_at s questions e) (part_inside s start len)) (length qs) ≡ f → AskedAs qs name (nat_of (asked_of f))
+      go (Some k) p =
           let f = last_found (λ e. same (name_at s questions e) (part_inside s start len)) (length qs) k p in
           let q = nth_of qs k f.0 in
           let z : suc k ≡ k + 1 = omega arith in
@@ -57,7 +57,7 @@ module _ (s questions : List ℕ) (qs : List Question) (named : (e : ℕ) (q : Q
                 let u : ◌≡◌ {A = Bool} true false = sym (ap (λ a. same a (part_inside s start len)) i ∙ same_true (part_inside s start len)) ∙ f.2 m h (nth_inside r) in
                 let t : ◌≡◌ {A = ℕ} 0 1 = cc in omega arith;
           })
-      go Nothing p = none no_one
+      go None p = none no_one
         where
           no_one : ¬ Asked qs name
           no_one (asked {k = m} {q = x} r g) =

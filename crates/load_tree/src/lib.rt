@@ -12,81 +12,70 @@ ghost use Rattle.tree_survey_lines.specs.Counts.{records_of};
 ghost use Rattle.link_targets.specs.Lines.{lines_from, pdfs_of};
 ghost use Rattle.load_tree.specs.Bodies.{leaf_result, link_result, lines_end, single_of, BracesFilled};
 
-use error::LinkFault;
-use link_tree::{Link, link_tree};
+use error::{LineFault, LinkFault};
+use link_tree::link_tree;
 use load_lines::fill_lines;
 use table_put::put4;
 use table_rows::RECORD_ROW;
 use text_parts::natural;
 use tree_line::{Line, LineStep, next_line};
 use tree_reference::{TreeIndex, same_index};
-use tree_survey_lines::LineCount;
 
-// How a tree ends: with so many records, and the lines of its row; or refused, at a line.
+// A tree with its records: how many, and the lines of its row.
 #[derive(Clone, Copy)]
-pub enum Filled {
-    Done { records: usize, lines: usize },
-    Refused { fault: LinkFault, line: usize },
+pub struct Filled {
+    pub records: usize,
+    pub lines: usize,
 }
 
 // How a tree ends, and the place past its body.
 #[derive(Clone, Copy)]
 pub struct TreeFill {
-    pub filled: Filled,
+    pub filled: Result<Filled, LineFault>,
     pub next: usize,
 }
 
 // The one record of a tree that is one reference, from `first` on.
-pub fn fill_leaf(records: &mut [u64], first: usize, index: TreeIndex) -> Filled
+pub fn fill_leaf(records: &mut [u64], first: usize, index: TreeIndex) -> Result<Filled, LineFault>
     requires { first + 4 ≤ length records.old }
     ensures { (result ≡ (leaf_result index).ends) × (records.new ≡ sets records.old first (leaf_result index).rows) }
 {
     match index {
         TreeIndex::Pdf(number) => {
             put4(records, first, 1, natural(number), 0, 0);
-            Filled::Done {
+            Ok(Filled {
                 records: 1,
                 lines: 0,
-            }
+            })
         }
-        TreeIndex::Node(_) => Filled::Refused {
+        TreeIndex::Node(_) => Err(LineFault {
             fault: LinkFault::LoneNode,
             line: 0,
-        },
+        }),
     }
 }
 
-// Whether a tree of so many lines is one reference.
-#[derive(Clone, Copy)]
-pub enum Single {
-    One(TreeIndex),
-    Several,
-}
-
-fn single_of(s: &[u8], at: usize, lines: usize) -> Single
+// The one reference that a tree of so many lines is, if it is one.
+fn single_of(s: &[u8], at: usize, lines: usize) -> Option<TreeIndex>
     requires { lines ≡ length (lines_at s.now at).items }
     ensures { result ≡ single_of (lines_at s.now at).items }
 {
     if lines != 1 {
-        return Single::Several;
+        return None;
     }
     match next_line(s, at) {
         LineStep::Next { line, next: _ } => one_of(line),
         LineStep::Last { line, next: _ } => one_of(line),
-        LineStep::Broken => Single::Several,
+        LineStep::Broken => None,
     }
 }
 
-fn one_of(line: Line) -> Single
+fn one_of(line: Line) -> Option<TreeIndex>
     ensures { result ≡ single_of (line ∷ []) }
 {
     let no = line.no;
     let yes = line.yes;
-    if same_index(no, yes) {
-        Single::One(yes)
-    } else {
-        Single::Several
-    }
+    if same_index(no, yes) { Some(yes) } else { None }
 }
 
 // The records of so many lines in the work, from `first` on.
@@ -96,18 +85,16 @@ fn link_lines(
     needed: usize,
     records: &mut [u64],
     first: usize,
-) -> Filled
+) -> Result<Filled, LineFault>
     requires { (6 * lines ≤ length work.now) × (needed ≡ lines + length (pdfs_of (lines_from work.now 0 lines))) × (first + 4 * needed ≤ length records.old) }
     ensures { (result ≡ (link_result work.now lines needed).ends) × (records.new ≡ sets records.old first (link_result work.now lines needed).rows) }
 {
     let end = first + RECORD_ROW * needed;
-    match link_tree(work, lines, needed - lines, &mut records[first..end]) {
-        Link::Done => Filled::Done {
-            records: needed,
-            lines,
-        },
-        Link::Refused { fault, line } => Filled::Refused { fault, line },
-    }
+    link_tree(work, lines, needed - lines, &mut records[first..end])?;
+    Ok(Filled {
+        records: needed,
+        lines,
+    })
 }
 
 // The records of a tree in braces whose lines can be read, from `first` on; its lines stand in the work afterwards.
@@ -126,22 +113,28 @@ pub fn fill_braces(
     ensures { BracesFilled s.now questions.now (length index.now) at first records.old work.old result records.new work.new }
 {
     match fill_lines(s, at, questions, index, work) {
-        LineCount::Counted { lines, pdfs, next } => match single_of(s, at, lines) {
-            Single::One(reference) => TreeFill {
+        Some(read) => match single_of(s, at, read.value.lines) {
+            Some(reference) => TreeFill {
                 filled: fill_leaf(records, first, reference),
-                next,
+                next: read.next,
             },
-            Single::Several => TreeFill {
-                filled: link_lines(work, lines, lines + pdfs, records, first),
-                next,
+            None => TreeFill {
+                filled: link_lines(
+                    work,
+                    read.value.lines,
+                    read.value.lines + read.value.pdfs,
+                    records,
+                    first,
+                ),
+                next: read.next,
             },
         },
         // never, of lines that can be read
-        LineCount::Broken => TreeFill {
-            filled: Filled::Refused {
+        None => TreeFill {
+            filled: Err(LineFault {
                 fault: LinkFault::LoneNode,
                 line: 0,
-            },
+            }),
             next: at,
         },
     }

@@ -10,8 +10,7 @@ use Rattle.tree_body.specs.declared.TreeHead.{TreeHead}
 use Rattle.tree_body.specs.declared.TreeHead.TheVariants.{Empty, Lines, NoTree}
 use Rattle.load_lines.specs.Words.{line_words}
 use Rattle.tree_survey.specs.Survey.{body_records, body_lines}
-use Rattle.load_tree.specs.Bodies.{lines_end}
-use Rattle.load_tree.specs.declared.Filled.TheVariants.{Done}
+use Rattle.load_tree.specs.Bodies.{filled, lines_end}
 use Rattle.load_tree.specs.declared.TreeFill.{TreeFill}
 use Rattle.load_trees.specs.Trees.{head_body, Whole, leaf, empty, lines, BodyFilled}
 
@@ -37,10 +36,10 @@ module _ (s : List ℕ) where
     pub by_head : {t u : TreeHead} {r : TreeFill} {records₁ : List ℕ} {work₁ : List ℤ} → t ≡ u → BodyFilled s questions n u first records work r records₁ work₁ → BodyFilled s questions n t first records work r records₁ work₁
     by_head {r = r} {records₁ = records₁} {work₁ = work₁} e p = subst (λ t. BodyFilled s questions n t first records work r records₁ work₁) (sym e) p
 
-    pub empty_head : {t : TreeHead} {x : ℤ} {e : ℕ} → t ≡ Empty x e → BodyFilled s questions n t first records work (record { filled = Done 0 0; next = e }) records work
+    pub empty_head : {t : TreeHead} {x : ℤ} {e : ℕ} → t ≡ Empty x e → BodyFilled s questions n t first records work (record { filled = filled 0 0; next = e }) records work
     unfolding line_words
     empty_head q = by_head q (refl, refl, refl, refl)
 
-    pub no_head : {t : TreeHead} → t ≡ NoTree → BodyFilled s questions n t first records work (record { filled = Done 0 0; next = 0 }) records work
+    pub no_head : {t : TreeHead} → t ≡ NoTree → BodyFilled s questions n t first records work (record { filled = filled 0 0; next = 0 }) records work
     unfolding line_words
     no_head q = by_head q (refl, refl, refl, refl)

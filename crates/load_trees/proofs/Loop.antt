@@ -24,16 +24,16 @@ use Rattle.tree_survey.specs.Survey.{body_records, body_lines, tree_records, tre
 use Rattle.tree_survey.proofs.Counting.{step_next}
 use Rattle.text_parts.specs.Parts.{nat_of}
 use Rattle.load_lines.specs.Words.{line_words}
-use Rattle.load_tree.specs.Bodies.{Result, body_result, place_of, lines_end}
-use Rattle.load_tree.specs.declared.Filled.{Filled}
-use Rattle.load_tree.specs.declared.Filled.TheVariants as filled
+use Rattle.load_tree.specs.Bodies.{unfilled, filled, TreeResult, body_result, place_of, lines_end}
 use Rattle.load_tree.specs.declared.TreeFill.{TreeFill}
 use Rattle.load_tree.proofs.Laws.{lines_size, lone_size}
-use Rattle.load_trees.specs.declared.Linked.{Linked}
-use Rattle.load_trees.specs.declared.Linked.TheVariants.{Done, Refused}
 use Rattle.load_trees.specs.declared.Following.{Following}
 use Rattle.load_trees.specs.declared.Following.TheVariants as following
-use Rattle.load_trees.specs.Trees.{head_state, head_body, head_end, Whole, Through, leaf, empty, lines, row_words, work_of, ended_at, follows_step, follows_at, then_rest, trees_end, tree_words, record_words, work_after, TreeFilled, TreesFilled}
+use Rattle.load_trees.specs.Trees.{unlinked, head_state, head_body, head_end, Whole, Through, leaf, empty, lines, row_words, work_of, ended_at, follows_step, follows_at, then_rest, trees_end, tree_words, record_words, work_after, TreeFilled, TreesFilled}
+use Rattle.load_tree.specs.declared.Filled.{Filled}
+use Rattle.error.specs.declared.LineFault.{LineFault}
+use Rattle.load_trees.specs.declared.TreeFault.{TreeFault}
+use Rattle.std.specs.Prelude.{Err, Ok, Result, ⊤}
 
 -- ---- the largest of a list
 
@@ -181,7 +181,7 @@ module _ (s : List ℕ) where
   -- ---- the tables meanwhile
 
   module _ (q : List ℕ) (n : ℕ) where
-    body_size : (b : Body) {a k : ℕ} → (body_result s q n b).ends ≡ filled.Done a k → (a ≡ body_records b) × (length (body_result s q n b).rows ≡ 4 * a)
+    body_size : (b : Body) {a k : ℕ} → (body_result s q n b).ends ≡ filled a k → (a ≡ body_records b) × (length (body_result s q n b).rows ≡ 4 * a)
     body_size (lone r) h = lone_size s q n r h
     body_size (braces ls) h = lines_size s q n ls h
 
@@ -200,7 +200,7 @@ module _ (s : List ℕ) where
         pub left : work_after s q n work (items i) ≡ work_after s q n work₀ (items at)
 
       -- what is promised at the end
-      abbrev pub Ended : Linked → List ℕ → List ℕ → List ℤ → Type 0
+      abbrev pub Ended : Result ⊤ TreeFault → List ℕ → List ℕ → List ℤ → Type 0
       Ended r trees records work = TreesFilled s q n (items at) trees₀ records₀ work₀ r trees records work
 
       pub filling_none : Through s at → 6 * length (items at) ≤ length trees₀ → 4 * total tree_records (items at) ≤ length records₀ → 6 * largest tree_lines 0 (items at) ≤ length work₀ → Filling trees₀ records₀ work₀ at 0 0
@@ -225,7 +225,7 @@ module _ (s : List ℕ) where
         tree_whole = w.facts.whole
 
         module _ {t : TreeFill} {trees₁ records₁ : List ℕ} {work₁ : List ℤ} (e : TreeFilled s q n (head_at s i) row first trees records work t trees₁ records₁ work₁) where
-          abbrev r : Filled
+          abbrev r : Result Filled LineFault
           r = t.filled
 
           pub same_lengths : (length trees₁ ≡ length trees₀) × (length records₁ ≡ length records₀) × (length work₁ ≡ length work₀)
@@ -240,26 +240,26 @@ module _ (s : List ℕ) where
               same (braces ls) = length-sets work 0 (line_words s q n ls)
 
           ends_are : r ≡ (body_result s q n w.it.body).ends
-          ends_are = e.0.0 ∙ ap (λ (r : Result). r.ends) same_body
+          ends_are = e.0.0 ∙ ap (λ (r : TreeResult). r.ends) same_body
 
           rows_are : trees₁ ≡ sets trees (6 * row) (row_words (nat_of w.it.state) first (body_result s q n w.it.body).ends)
-          rows_are = e.1 ∙ ap₂ (λ (x : ℕ) (r : Filled). sets trees (6 * row) (row_words x first r)) (sym w.facts.state) ends_are
+          rows_are = e.1 ∙ ap₂ (λ (x : ℕ) (r : Result Filled LineFault). sets trees (6 * row) (row_words x first r)) (sym w.facts.state) ends_are
 
           records_are : records₁ ≡ sets records (4 * first) (body_result s q n w.it.body).rows
-          records_are = e.0.2 ∙ ap (λ (r : Result). sets records (4 * first) r.rows) same_body
+          records_are = e.0.2 ∙ ap (λ (r : TreeResult). sets records (4 * first) r.rows) same_body
 
           work_is : work₁ ≡ work_of s q n work w.it.body
           work_is = e.0.3 ∙ sym (ap (work_of s q n work) w.facts.body)
 
           -- the tree has its records, and another follows
-          pub filling_more : {j a k : ℕ} → after.Next j ≡ after_tree s t.next → r ≡ filled.Done a k → Filling trees₁ records₁ work₁ j (row + 1) (first + a)
+          pub filling_more : {j a k : ℕ} → after.Next j ≡ after_tree s t.next → r ≡ filled a k → Filling trees₁ records₁ work₁ j (row + 1) (first + a)
           unfolding total trees_end tree_words record_words work_after
           filling_more {j} {a} {k} f d =
               let g : after.Next j ≡ after_tree s (head_end s (head_at s i)) = f ∙ ap (after_tree s) e.0.1 in
               let y = went_next w g in
               let B = w.it.body in
               let R = body_result s q n B in
-              let E : R.ends ≡ filled.Done a k = sym ends_are ∙ d in
+              let E : R.ends ≡ filled a k = sym ends_are ∙ d in
               let z = body_size B E in
               let up : row + 1 ≡ suc row = omega arith in
               let six : 6 * (row + 1) ≡ 6 * row + 6 = omega arith in
@@ -276,27 +276,27 @@ module _ (s : List ℕ) where
                 room_work = omega (arith, p.room_work, ap (largest tree_lines 0) all, largest_rest tree_lines w.it (items j));
                 ends =
                     ap (λ (m : ℕ). trees_end s q n m (items j)) up
-                    ∙ sym (ap (λ (f : Filled). then_rest f (ended_at row f) (λ m. trees_end s q n (suc row) (items j))) E)
+                    ∙ sym (ap (λ (f : Result Filled LineFault). then_rest f (ended_at row f) (λ m. trees_end s q n (suc row) (items j))) E)
                     ∙ sym (ap (trees_end s q n row) all) ∙ p.ends;
                 rows =
-                    ap₂ (λ (t : List ℕ) (m : ℕ). sets t m (tree_words s q n (first + a) (items j))) (rows_are ∙ ap (λ (f : Filled). sets trees (6 * row) (row_words X first f)) E) six
+                    ap₂ (λ (t : List ℕ) (m : ℕ). sets t m (tree_words s q n (first + a) (items j))) (rows_are ∙ ap (λ (f : Result Filled LineFault). sets trees (6 * row) (row_words X first f)) E) six
                     ∙ sets-append trees (6 * row) (X ∷ first ∷ a ∷ k ∷ 0 ∷ 0 ∷ []) (tree_words s q n (first + a) (items j))
-                    ∙ sym (ap (λ (f : Filled). sets trees (6 * row) (row_words X first f ++ then_rest f [] (λ m. tree_words s q n (first + m) (items j)))) E)
+                    ∙ sym (ap (λ (f : Result Filled LineFault). sets trees (6 * row) (row_words X first f ++ then_rest f [] (λ m. tree_words s q n (first + m) (items j)))) E)
                     ∙ sym (ap (λ (ts : List Tree). sets trees (6 * row) (tree_words s q n first ts)) all) ∙ p.rows;
                 stored =
                     ap₂ (λ (t : List ℕ) (m : ℕ). sets t m (record_words s q n (items j))) records_are later
                     ∙ sets-append records (4 * first) R.rows (record_words s q n (items j))
-                    ∙ sym (ap (λ (f : Filled). sets records (4 * first) (R.rows ++ then_rest f [] (λ m. record_words s q n (items j)))) E)
+                    ∙ sym (ap (λ (f : Result Filled LineFault). sets records (4 * first) (R.rows ++ then_rest f [] (λ m. record_words s q n (items j)))) E)
                     ∙ sym (ap (λ (ts : List Tree). sets records (4 * first) (record_words s q n ts)) all) ∙ p.stored;
                 left =
                     ap (λ (v : List ℤ). work_after s q n v (items j)) work_is
-                    ∙ sym (ap (λ (f : Filled). then_rest f (work_of s q n work B) (λ m. work_after s q n (work_of s q n work B) (items j))) E)
+                    ∙ sym (ap (λ (f : Result Filled LineFault). then_rest f (work_of s q n work B) (λ m. work_after s q n (work_of s q n work B) (items j))) E)
                     ∙ sym (ap (work_after s q n work) all) ∙ p.left;
               }
 
           -- nothing is stored of the others: there are none, or the tree is refused
           closing :
-              (f : Filled) → f ≡ (body_result s q n w.it.body).ends
+              (f : Result Filled LineFault) → f ≡ (body_result s q n w.it.body).ends
               → then_rest f (ended_at row f) (λ m. trees_end s q n (suc row) w.rest) ≡ ended_at row f
               → then_rest f [] (λ m. tree_words s q n (first + m) w.rest) ≡ []
               → then_rest f [] (λ m. record_words s q n w.rest) ≡ []
@@ -307,29 +307,29 @@ module _ (s : List ℕ) where
               let B = w.it.body in
               let R = body_result s q n B in
               let X = nat_of w.it.state in (
-                ap (ended_at row) (sym u) ∙ sym a ∙ ap (λ (f : Filled). then_rest f (ended_at row f) (λ m. trees_end s q n (suc row) w.rest)) h ∙ sym (ap (trees_end s q n row) w.all) ∙ p.ends,
+                ap (ended_at row) (sym u) ∙ sym a ∙ ap (λ (f : Result Filled LineFault). then_rest f (ended_at row f) (λ m. trees_end s q n (suc row) w.rest)) h ∙ sym (ap (trees_end s q n row) w.all) ∙ p.ends,
                 rows_are
                     ∙ sym
-                    (ap (λ (f : Filled). sets trees (6 * row) (row_words X first R.ends ++ then_rest f [] (λ m. tree_words s q n (first + m) w.rest))) (sym h)
+                    (ap (λ (f : Result Filled LineFault). sets trees (6 * row) (row_words X first R.ends ++ then_rest f [] (λ m. tree_words s q n (first + m) w.rest))) (sym h)
                     ∙ ap (λ (l : List ℕ). sets trees (6 * row) (row_words X first R.ends ++ l)) b ∙ ap (sets trees (6 * row)) (append-nil (row_words X first R.ends)))
                     ∙ sym (ap (λ (ts : List Tree). sets trees (6 * row) (tree_words s q n first ts)) w.all) ∙ p.rows,
                 records_are
                     ∙ sym
-                    (ap (λ (f : Filled). sets records (4 * first) (R.rows ++ then_rest f [] (λ m. record_words s q n w.rest))) (sym h)
+                    (ap (λ (f : Result Filled LineFault). sets records (4 * first) (R.rows ++ then_rest f [] (λ m. record_words s q n w.rest))) (sym h)
                     ∙ ap (λ (l : List ℕ). sets records (4 * first) (R.rows ++ l)) c ∙ ap (sets records (4 * first)) (append-nil R.rows))
                     ∙ sym (ap (λ (ts : List Tree). sets records (4 * first) (record_words s q n ts)) w.all) ∙ p.stored,
-                work_is ∙ sym d ∙ ap (λ (f : Filled). then_rest f (work_of s q n work B) (λ m. work_after s q n (work_of s q n work B) w.rest)) h ∙ sym (ap (work_after s q n work) w.all) ∙ p.left,
+                work_is ∙ sym d ∙ ap (λ (f : Result Filled LineFault). then_rest f (work_of s q n work B) (λ m. work_after s q n (work_of s q n work B) w.rest)) h ∙ sym (ap (work_after s q n work) w.all) ∙ p.left,
               )
 
-          refused : {g : LinkFault} {k : ℕ} → r ≡ filled.Refused g k → Ended (ended_at row r) trees₁ records₁ work₁
-          refused {g} {k} h = closing (filled.Refused g k) (sym h ∙ ends_are) refl refl refl refl (sym h)
+          refused : {g : LinkFault} {k : ℕ} → r ≡ unfilled g k → Ended (ended_at row r) trees₁ records₁ work₁
+          refused {g} {k} h = closing (unfilled g k) (sym h ∙ ends_are) refl refl refl refl (sym h)
 
           -- the last tree has its records
-          closed_last : {a k : ℕ} → after.End ≡ after_tree s t.next → r ≡ filled.Done a k → Ended (ended_at row r) trees₁ records₁ work₁
+          closed_last : {a k : ℕ} → after.End ≡ after_tree s t.next → r ≡ filled a k → Ended (ended_at row r) trees₁ records₁ work₁
           unfolding trees_end tree_words record_words work_after
           closed_last {a} {k} f d =
               let y = went_last w (f ∙ ap (after_tree s) e.0.1) in
-              closing (filled.Done a k) (sym d ∙ ends_are) (ap (trees_end s q n (suc row)) y) (ap (tree_words s q n (first + a)) y) (ap (record_words s q n) y)
+              closing (filled a k) (sym d ∙ ends_are) (ap (trees_end s q n (suc row)) y) (ap (tree_words s q n (first + a)) y) (ap (record_words s q n) y)
               (ap (work_after s q n (work_of s q n work w.it.body)) y) (sym d)
 
           -- another follows, and stands behind this one
@@ -346,32 +346,32 @@ module _ (s : List ℕ) where
           pub filling_on : {j a : ℕ} {x : Following} → x ≡ follows_at s row t.next r → x ≡ following.Tree j a → Filling trees₁ records₁ work₁ j (row + 1) (first + a) × (i < j) × (j ≤ length s)
           filling_on {j} {a} {x} f g = go r refl (sym g ∙ f)
             where
-              step : (k b : ℕ) → r ≡ filled.Done b k → (m : TreeStep) → m ≡ after_tree s t.next → following.Tree j a ≡ follows_step b m → Filling trees₁ records₁ work₁ j (row + 1) (first + a) × (i < j) × (j ≤ length s)
+              step : (k b : ℕ) → r ≡ filled b k → (m : TreeStep) → m ≡ after_tree s t.next → following.Tree j a ≡ follows_step b m → Filling trees₁ records₁ work₁ j (row + 1) (first + a) × (i < j) × (j ≤ length s)
               step k b d (after.Next l) u h =
                   let y : l ≡ j = cc in
                   let z : b ≡ a = cc in
                   let v : after.Next j ≡ after_tree s t.next = ap after.Next (sym y) ∙ u in
                   let g = goes_on v in
-                  (filling_more v (d ∙ ap (λ (b : ℕ). filled.Done b k) z), g.0, g.1)
+                  (filling_more v (d ∙ ap (λ (b : ℕ). filled b k) z), g.0, g.1)
               step k b d after.End u h = let z : ◌≡◌ {A = ℕ} 0 1 = cc in absurd (omega arith)
               step k b d (after.Broken l) u h = let z : ◌≡◌ {A = ℕ} 0 1 = cc in absurd (omega arith)
 
-              go : (y : Filled) → r ≡ y → following.Tree j a ≡ follows_at s row t.next r → Filling trees₁ records₁ work₁ j (row + 1) (first + a) × (i < j) × (j ≤ length s)
-              go (filled.Done b k) d h = step k b d (after_tree s t.next) refl (h ∙ ap (follows_at s row t.next) d)
-              go (filled.Refused b k) d h = let v = h ∙ ap (follows_at s row t.next) d in let z : ◌≡◌ {A = ℕ} 0 1 = cc in absurd (omega arith)
+              go : (y : Result Filled LineFault) → r ≡ y → following.Tree j a ≡ follows_at s row t.next r → Filling trees₁ records₁ work₁ j (row + 1) (first + a) × (i < j) × (j ≤ length s)
+              go (Ok f) d h = let record { records = b; lines = k } = f in step k b d (after_tree s t.next) refl (h ∙ ap (follows_at s row t.next) d)
+              go (Err f) d h = let v = h ∙ ap (follows_at s row t.next) d in let z : ◌≡◌ {A = ℕ} 0 1 = cc in absurd (omega arith)
 
           -- linking ends
-          pub filling_ends : {o : Linked} {x : Following} → x ≡ follows_at s row t.next r → x ≡ following.End o → Ended o trees₁ records₁ work₁
+          pub filling_ends : {o : Result ⊤ TreeFault} {x : Following} → x ≡ follows_at s row t.next r → x ≡ following.End o → Ended o trees₁ records₁ work₁
           filling_ends {o} {x} f g = go r refl (sym g ∙ f)
             where
-              ends_so : {u : Linked} → o ≡ u → Ended u trees₁ records₁ work₁ → Ended o trees₁ records₁ work₁
-              ends_so v z = subst (λ (o : Linked). Ended o trees₁ records₁ work₁) (sym v) z
+              ends_so : {u : Result ⊤ TreeFault} → o ≡ u → Ended u trees₁ records₁ work₁ → Ended o trees₁ records₁ work₁
+              ends_so v z = subst (λ (o : Result ⊤ TreeFault). Ended o trees₁ records₁ work₁) (sym v) z
 
-              step : (k b : ℕ) → r ≡ filled.Done b k → (m : TreeStep) → m ≡ after_tree s t.next → following.End o ≡ follows_step b m → Ended o trees₁ records₁ work₁
+              step : (k b : ℕ) → r ≡ filled b k → (m : TreeStep) → m ≡ after_tree s t.next → following.End o ≡ follows_step b m → Ended o trees₁ records₁ work₁
               step k b d (after.Next l) u h = let z : ◌≡◌ {A = ℕ} 0 1 = cc in absurd (omega arith)
-              step k b d after.End u h = let z : o ≡ Done = cc in ends_so (z ∙ sym (ap (ended_at row) d)) (closed_last u d)
+              step k b d after.End u h = let z : o ≡ (Ok tt) = cc in ends_so (z ∙ sym (ap (ended_at row) d)) (closed_last u d)
               step k b d (after.Broken l) u h = never_other u
 
-              go : (y : Filled) → r ≡ y → following.End o ≡ follows_at s row t.next r → Ended o trees₁ records₁ work₁
-              go (filled.Done b k) d h = step k b d (after_tree s t.next) refl (h ∙ ap (follows_at s row t.next) d)
-              go (filled.Refused b k) d h = let v = h ∙ ap (follows_at s row t.next) d in let z : o ≡ Refused b row k = cc in ends_so (z ∙ sym (ap (ended_at row) d)) (refused d)
+              go : (y : Result Filled LineFault) → r ≡ y → following.End o ≡ follows_at s row t.next r → Ended o trees₁ records₁ work₁
+              go (Ok f) d h = let record { records = b; lines = k } = f in step k b d (after_tree s t.next) refl (h ∙ ap (follows_at s row t.next) d)
+              go (Err f) d h = let record { fault = b; line = k } = f in let v = h ∙ ap (follows_at s row t.next) d in let z : o ≡ unlinked b row k = cc in ends_so (z ∙ sym (ap (ended_at row) d)) (refused d)

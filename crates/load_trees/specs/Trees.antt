@@ -1,6 +1,6 @@
 -- The trees of a text as words of the tables, tree after tree up to the first that linking refuses: tree rows (state, first record, records, lines, and 0, 0
 -- until the block is read), records of four words, and what is left in the work.
-use Rattle.std.specs.Prelude.{◌≡◌, Bool, true, false, List, [], ◌∷◌, ◌++◌, ℕ, suc, ◌+◌, ◌*◌, ℤ}
+use Rattle.std.specs.Prelude.{◌≡◌, Bool, true, false, List, [], ◌∷◌, ◌++◌, ℕ, suc, ◌+◌, ◌*◌, ℤ, Err, Ok, Result, ⊤}
 use Rattle.std.proofs.lemmas.List.Edits.{sets}
 use Rattle.laws.specs.Steps.{done_at}
 use Rattle.tree_reference.specs.declared.TreeIndex.{TreeIndex}
@@ -12,18 +12,22 @@ use Rattle.tree_body.specs.declared.TreeStep.{TreeStep}
 use Rattle.tree_body.specs.declared.TreeStep.TheVariants as after
 use Rattle.text_parts.specs.Parts.{nat_of}
 use Rattle.load_lines.specs.Words.{line_words}
-use Rattle.load_tree.specs.Bodies.{Result, body_result, lines_end}
-use Rattle.load_tree.specs.declared.Filled.{Filled}
-use Rattle.load_tree.specs.declared.Filled.TheVariants as filled
+use Rattle.load_tree.specs.Bodies.{TreeResult, body_result, lines_end}
 use Rattle.load_tree.specs.declared.TreeFill.{TreeFill}
-use Rattle.load_trees.specs.declared.Linked.{Linked}
-use Rattle.load_trees.specs.declared.Linked.TheVariants.{Done, Refused}
 use Rattle.load_trees.specs.declared.Following.{Following}
 use Rattle.load_trees.specs.declared.Following.TheVariants as following
+use Rattle.load_tree.specs.declared.Filled.{Filled}
+use Rattle.error.specs.declared.LineFault.{LineFault}
+use Rattle.error.specs.declared.LinkFault.{LinkFault}
+use Rattle.load_trees.specs.declared.TreeFault.{TreeFault}
 
-abbrev pub all_linked : Linked → Bool
-all_linked Done = true
-all_linked (Refused f i k) = false
+-- what linking refuses, and the tree and the line
+abbrev pub unlinked : LinkFault → ℕ → ℕ → Result ⊤ TreeFault
+unlinked f i k = Err (record { fault = f; tree = i; line = k })
+
+abbrev pub all_linked : Result ⊤ TreeFault → Bool
+all_linked (Ok _) = true
+all_linked (Err l) = false
 
 -- ---- a tree by its head
 
@@ -60,44 +64,44 @@ pub record Through (s : List ℕ) (i : ℕ) : Type 0 where
 -- ---- one tree
 
 -- its row, where f is its first record; none where it is refused
-abbrev pub row_words : ℕ → ℕ → Filled → List ℕ
-row_words x f (filled.Done m n) = x ∷ f ∷ m ∷ n ∷ 0 ∷ 0 ∷ []
-row_words x f (filled.Refused g k) = []
+abbrev pub row_words : ℕ → ℕ → Result Filled LineFault → List ℕ
+row_words x f (Ok b) = x ∷ f ∷ b.records ∷ b.lines ∷ 0 ∷ 0 ∷ []
+row_words x f (Err b) = []
 
 -- the work after it
 abbrev pub work_of : List ℕ → List ℕ → ℕ → List ℤ → Body → List ℤ
 work_of s questions n w (lone r) = w
 work_of s questions n w (braces ls) = sets w 0 (line_words s questions n ls)
 
-abbrev pub ended_at : ℕ → Filled → Linked
-ended_at k (filled.Done m n) = Done
-ended_at k (filled.Refused f j) = Refused f k j
+abbrev pub ended_at : ℕ → Result Filled LineFault → Result ⊤ TreeFault
+ended_at k (Ok f) = Ok tt
+ended_at k (Err f) = unlinked f.fault k f.line
 
 -- what follows tree k, which has m records; and which ended so before the place e
 abbrev pub follows_step : ℕ → TreeStep → Following
 follows_step m (after.Next j) = following.Tree j m
-follows_step m after.End = following.End Done
-follows_step m (after.Broken j) = following.End Done
+follows_step m after.End = following.End (Ok tt)
+follows_step m (after.Broken j) = following.End (Ok tt)
 
-abbrev pub follows_at : List ℕ → ℕ → ℕ → Filled → Following
-follows_at s k e (filled.Done m n) = follows_step m (after_tree s e)
-follows_at s k e (filled.Refused f j) = following.End (Refused f k j)
+abbrev pub follows_at : List ℕ → ℕ → ℕ → Result Filled LineFault → Following
+follows_at s k e (Ok f) = follows_step f.records (after_tree s e)
+follows_at s k e (Err f) = following.End (unlinked f.fault k f.line)
 
 -- ---- one tree after another; a tree that is refused is the last
 
 -- what one tree gives, and where it has records what the others give behind it
-abbrev pub then_rest : {A : Type 0} → Filled → A → (ℕ → A) → A
-then_rest (filled.Done m n) a rest = rest m
-then_rest (filled.Refused f k) a rest = a
+abbrev pub then_rest : {A : Type 0} → Result Filled LineFault → A → (ℕ → A) → A
+then_rest (Ok f) a rest = rest f.records
+then_rest (Err f) a rest = a
 
 module _ (s questions : List ℕ) (n : ℕ) where
   -- of the n questions of the table
-  abbrev pub tree_result : Tree → Result
+  abbrev pub tree_result : Tree → TreeResult
   tree_result t = body_result s questions n t.body
 
   -- k: the number of the first of them
-  unfoldable pub trees_end : ℕ → List Tree → Linked
-  trees_end k [] = Done
+  unfoldable pub trees_end : ℕ → List Tree → Result ⊤ TreeFault
+  trees_end k [] = Ok tt
   trees_end k (t ∷ ts) = then_rest (tree_result t).ends (ended_at k (tree_result t).ends) (λ m. trees_end (suc k) ts)
 
   -- f: the first record of the first of them
@@ -127,6 +131,6 @@ module _ (s questions : List ℕ) (n : ℕ) where
       BodyFilled h first records work r records₁ work₁ × (trees₁ ≡ sets trees (6 * row) (row_words (head_state h) first r.filled))
 
   -- all trees, into the tables from their fronts on
-  abbrev pub TreesFilled : List Tree → List ℕ → List ℕ → List ℤ → Linked → List ℕ → List ℕ → List ℤ → Type 0
+  abbrev pub TreesFilled : List Tree → List ℕ → List ℕ → List ℤ → Result ⊤ TreeFault → List ℕ → List ℕ → List ℤ → Type 0
   TreesFilled ts trees records work r trees₁ records₁ work₁ =
       (r ≡ trees_end 0 ts) × (trees₁ ≡ sets trees 0 (tree_words 0 ts)) × (records₁ ≡ sets records 0 (record_words ts)) × (work₁ ≡ work_after work ts)

@@ -13,43 +13,34 @@ ghost use Rattle.tree_body.specs.Trees.{head_at, trees_at};
 ghost use Rattle.tree_survey.specs.Survey.{body_records, body_lines, tree_records, tree_lines};
 ghost use Rattle.load_trees.specs.Trees.{all_linked, head_state, head_body, Whole, Through, row_words, ended_at, follows_at, BodyFilled, TreeFilled, TreesFilled};
 
-use error::LinkFault;
+use error::{LineFault, LinkFault};
 use load_tree::{Filled, TreeFill, fill_braces, fill_leaf};
 use table_put::put_tree;
 use table_rows::RECORD_ROW;
 use text_parts::natural;
 use tree_body::{TreeHead, TreeStep, after_tree, tree_head};
 
-// How linking ends: all trees have their records; or the first that is refused, and the line.
+// What linking refuses: the first tree that lacks its records, and the line.
 #[derive(Clone, Copy)]
-pub enum Linked {
-    Done,
-    Refused {
-        fault: LinkFault,
-        tree: usize,
-        line: usize,
-    },
+pub struct TreeFault {
+    pub fault: LinkFault,
+    pub tree: usize,
+    pub line: usize,
 }
 
-// What follows a tree that was filled: another tree, where this one has so many records; or linking ends.
+// What follows a tree that was filled: another tree, where this one has so many records; or linking ends. Neither is a failure of the other, so that this is
+// an enum of its own.
 #[derive(Clone, Copy)]
 enum Following {
     Tree { at: usize, records: usize },
-    End(Linked),
+    End(Result<(), TreeFault>),
 }
 
 // Whether all trees have their records.
-pub fn all_linked(linked: Linked) -> bool
+pub fn all_linked(linked: Result<(), TreeFault>) -> bool
     ensures { result ≡ all_linked linked }
 {
-    match linked {
-        Linked::Done => true,
-        Linked::Refused {
-            fault: _,
-            tree: _,
-            line: _,
-        } => false,
-    }
+    linked.is_ok()
 }
 
 fn state_of(head: TreeHead) -> u64
@@ -92,10 +83,10 @@ fn fill_body(
             next,
         },
         TreeHead::Empty { state: _, next } => TreeFill {
-            filled: Filled::Done {
+            filled: Ok(Filled {
                 records: 0,
                 lines: 0,
-            },
+            }),
             next,
         },
         TreeHead::Lines {
@@ -103,32 +94,35 @@ fn fill_body(
             first: at,
         } => fill_braces(s, at, questions, index, records, RECORD_ROW * first, work),
         TreeHead::NoTree => TreeFill {
-            filled: Filled::Done {
+            filled: Ok(Filled {
                 records: 0,
                 lines: 0,
-            },
+            }),
             next: 0,
         },
     }
 }
 
 // The row of a tree that has its records; none where it is refused.
-fn put_row(trees: &mut [u64], row: usize, state: u64, first: usize, filled: Filled)
+fn put_row(
+    trees: &mut [u64],
+    row: usize,
+    state: u64,
+    first: usize,
+    filled: Result<Filled, LineFault>,
+)
     requires { 6 * row + 6 ≤ length trees.old }
     ensures { trees.new ≡ sets trees.old (6 * row) (row_words state first filled) }
 {
-    match filled {
-        Filled::Done { records, lines } => {
-            put_tree(
-                trees,
-                row,
-                state,
-                first as u64,
-                records as u64,
-                lines as u64,
-            );
-        }
-        Filled::Refused { fault: _, line: _ } => {}
+    if let Ok(tree) = filled {
+        put_tree(
+            trees,
+            row,
+            state,
+            first as u64,
+            tree.records as u64,
+            tree.lines as u64,
+        );
     }
 }
 
@@ -158,34 +152,34 @@ pub fn fill_tree(
 }
 
 // How linking ends where tree `row` is the last.
-pub fn ended(row: usize, filled: Filled) -> Linked
+pub fn ended(row: usize, filled: Result<Filled, LineFault>) -> Result<(), TreeFault>
     ensures { result ≡ ended_at row filled }
 {
     match filled {
-        Filled::Done {
-            records: _,
-            lines: _,
-        } => Linked::Done,
-        Filled::Refused { fault, line } => Linked::Refused {
-            fault,
+        Ok(_) => Ok(()),
+        Err(at) => Err(TreeFault {
+            fault: at.fault,
             tree: row,
-            line,
-        },
+            line: at.line,
+        }),
     }
 }
 
 // What follows tree `row`, which ended so before the place `next`.
-fn what_follows(s: &[u8], row: usize, filled: Filled, next: usize) -> Following
+fn what_follows(s: &[u8], row: usize, filled: Result<Filled, LineFault>, next: usize) -> Following
     ensures { result ≡ follows_at s.now row next filled }
 {
     match filled {
-        Filled::Done { records, lines: _ } => match after_tree(s, next) {
-            TreeStep::Next(at) => Following::Tree { at, records },
-            TreeStep::End => Following::End(Linked::Done),
+        Ok(tree) => match after_tree(s, next) {
+            TreeStep::Next(at) => Following::Tree {
+                at,
+                records: tree.records,
+            },
+            TreeStep::End => Following::End(Ok(())),
             // never, of a text in the grammar
-            TreeStep::Broken(_) => Following::End(Linked::Done),
+            TreeStep::Broken(_) => Following::End(Ok(())),
         },
-        Filled::Refused { fault: _, line: _ } => Following::End(ended(row, filled)),
+        Err(_) => Following::End(ended(row, filled)),
     }
 }
 
@@ -198,7 +192,7 @@ pub fn fill_trees(
     trees: &mut [u64],
     records: &mut [u64],
     work: &mut [i64],
-) -> Linked
+) -> Result<(), TreeFault>
     requires index { Index (λ e. name_key (name_at s.now questions.now e)) index.now × (length index.now < 2 ^ 62) }
     requires through { Through s.now at }
     requires at_in_bounds { (6 * length (trees_at s.now at).items ≤ length trees.old) × (4 * total tree_records (trees_at s.now at).items ≤ length records.old) × (6 * largest tree_lines 0 (trees_at s.now at).items ≤ length work.old) }
@@ -207,6 +201,7 @@ pub fn fill_trees(
     let mut i = at;
     let mut row = 0;
     let mut first = 0;
+    // No `for`: where the next tree stands is what the reader of this one answers.
     loop {
         let t = fill_tree(s, i, questions, index, trees, row, records, first, work);
         let filled = t.filled;

@@ -6,9 +6,8 @@ ghost use Rattle.std.proofs.lemmas.List.Edits.{sets};
 ghost use Rattle.load_bounds.specs.Bounds.{side_of, held_of};
 ghost use Rattle.load_unload.specs.Unloads.{Unloads};
 
-use load_bounds::{Held, own_part, stand};
+use load_bounds::{Held, own_parts, stand};
 use table_put::zero;
-use table_rows::{PATTERN_ROW, QUESTION_ROW, RECORD_ROW, TREE_ROW};
 
 // Zeros from a up to e.
 fn clear(t: &mut [u64], a: usize, e: usize)
@@ -42,15 +41,19 @@ pub fn unload(
     ) {
         return false;
     }
-    let q = own_part(top, questions.len(), QUESTION_ROW, mine.questions);
-    let a = own_part(top, patterns.len(), PATTERN_ROW, mine.patterns);
-    let t = own_part(top, trees.len(), TREE_ROW, mine.trees);
-    let r = own_part(top, records.len(), RECORD_ROW, mine.records);
-    let v = own_part(top, values.len(), 1, mine.values);
-    clear(questions, q.from, q.to);
-    clear(patterns, a.from, a.to);
-    clear(trees, t.from, t.to);
-    clear(records, r.from, r.to);
-    clear(values, v.from, v.to);
+    let own = own_parts(
+        top,
+        mine,
+        questions.len(),
+        patterns.len(),
+        trees.len(),
+        records.len(),
+        values.len(),
+    );
+    clear(questions, own.questions.from, own.questions.to);
+    clear(patterns, own.patterns.from, own.patterns.to);
+    clear(trees, own.trees.from, own.trees.to);
+    clear(records, own.records.from, own.records.to);
+    clear(values, own.values.from, own.values.to);
     true
 }

@@ -5,46 +5,37 @@
 ghost use Rattle.std.specs.Prelude.{◌≡◌, true, ◌≤◌, ◌<◌, length};
 ghost use Rattle.head_record_fits.specs.Fits.{record_fits};
 ghost use Rattle.head_words.specs.Words.{header_at};
-ghost use Rattle.load_voice.specs.Voice.{next_stream, next_model, text_by, text_in, voice_text, InTypes};
+ghost use Rattle.load_voice.specs.Voice.{next_stream, next_model, text_in, voice_text, InTypes};
 
 use error::Refusal;
 use head_words::STREAM_TYPE_COUNT;
-use load_choose::{Chosen, Which, choose_text, uses_gv};
-use load_plan::{Text, data_of, read_text};
-use load_range::{Bounds, within};
+use load_choose::{Which, choose_text, uses_gv};
+use load_plan::{data_of, read_text};
+use load_range::within;
 use text_parts::up_to;
-
-#[derive(Clone, Copy)]
-pub enum NextModel {
-    Model(Which),
-    End,
-}
 
 // A model's tree text: from `text` up to `text_end` of the data, its trees from `first` on.
 #[derive(Clone, Copy)]
-pub enum VoiceText {
-    Read {
-        text: usize,
-        text_end: usize,
-        first: usize,
-        trees: usize,
-    },
-    Refused(Refusal),
+pub struct VoiceText {
+    pub text: usize,
+    pub text_end: usize,
+    pub first: usize,
+    pub trees: usize,
 }
 
 // The i-th stream, if there is one.
-fn stream_or_end(words: &[u64], i: usize) -> NextModel
+fn stream_or_end(words: &[u64], i: usize) -> Option<Which>
     requires { 647 ≤ length words.now }
     ensures { result ≡ next_stream (header_at words.now) i }
 {
     if (i as u64) < words[STREAM_TYPE_COUNT] {
-        return NextModel::Model(Which::Stream(i));
+        return Some(Which::Stream(i));
     }
-    NextModel::End
+    None
 }
 
 // The model behind one of a voice: a stream's GV where it uses one, else the next stream.
-pub fn next_model(file: &[u8], words: &[u64], which: Which) -> NextModel
+pub fn next_model(file: &[u8], words: &[u64], which: Which) -> Option<Which>
     requires in_bounds { (647 ≤ length words.now) × InTypes (header_at words.now) which }
     requires words_value { record_fits (length file.now) (header_at words.now) ≡ true }
     ensures { result ≡ next_model file.now (header_at words.now) which }
@@ -53,7 +44,7 @@ pub fn next_model(file: &[u8], words: &[u64], which: Which) -> NextModel
         Which::Duration => stream_or_end(words, 0),
         Which::Stream(i) => {
             if uses_gv(file, words, i) {
-                return NextModel::Model(Which::Gv(i));
+                return Some(Which::Gv(i));
             }
             stream_or_end(words, i + 1)
         }
@@ -61,51 +52,25 @@ pub fn next_model(file: &[u8], words: &[u64], which: Which) -> NextModel
     }
 }
 
-// What a text from `text` up to `text_end` was read as.
-fn text_read(text: usize, text_end: usize, read: Text) -> VoiceText
-    ensures { result ≡ text_by text text_end read }
-{
-    match read {
-        Text::Read {
-            first,
-            questions: _,
-            patterns: _,
-            trees,
-            records: _,
-            lines: _,
-        } => VoiceText::Read {
-            text,
-            text_end,
-            first,
-            trees,
-        },
-        Text::Refused(refusal) => VoiceText::Refused(refusal),
-    }
-}
-
 // The text in a range of the data.
-fn text_in(d: &[u8], from: u64, to: u64) -> VoiceText
+fn text_in(d: &[u8], from: u64, to: u64) -> Result<VoiceText, Refusal>
     ensures { result ≡ text_in d.now from to }
 {
-    match within(from, to, d.len()) {
-        Bounds::Outside => VoiceText::Refused(Refusal::Range),
-        Bounds::Inside { start, end } => text_read(start, end, read_text(up_to(d, end), start)),
-    }
+    let range = within(from, to, d.len()).ok_or(Refusal::Range)?;
+    let text = read_text(up_to(d, range.end), range.start)?;
+    Ok(VoiceText {
+        text: range.start,
+        text_end: range.end,
+        first: text.first,
+        trees: text.trees,
+    })
 }
 
 // The text of a model, of a file and the words of any record.
-pub fn model_text(file: &[u8], words: &[u64], which: Which) -> VoiceText
+pub fn model_text(file: &[u8], words: &[u64], which: Which) -> Result<VoiceText, Refusal>
     requires { 647 ≤ length words.now }
     ensures { result ≡ voice_text file.now (header_at words.now) which }
 {
-    match choose_text(file, words, which) {
-        Chosen::Refused(refusal) => VoiceText::Refused(refusal),
-        Chosen::Model {
-            tree_from,
-            tree_to,
-            pdf_from: _,
-            pdf_to: _,
-            width: _,
-        } => text_in(data_of(file, words), tree_from, tree_to),
-    }
+    let chosen = choose_text(file, words, which)?;
+    text_in(data_of(file, words), chosen.tree_from, chosen.tree_to)
 }

@@ -8,14 +8,25 @@ use native.Mathlib.Omega.{arith}
 use borrow.Author.Tests.{le-leb, lt-leb, eq-eqb, ne_eqb, eqb-true, leb-true, leb-false}
 use lib.Dec.{leb, eqb}
 use lib.ListN.{length}
+use Rattle.std.specs.Prelude.{Some, None}
 use Rattle.written.specs.Blocks.{total}
 use Rattle.pdf_blocks.specs.Values.{word_at, words_at, block_at}
-use Rattle.pdf_blocks.specs.declared.Block.TheVariants.{Fits, Wrong}
 
-pub total_on : (s : List ℕ) (i n : ℕ) → 0 < n → total (words_at s i n) ≡ word_at s i + total (words_at s (i + 4) (n - 1))
-unfolding words_at total
-total_on s i zero h = absurd (omega arith)
-total_on s i (suc n) h = let e : suc n - 1 ≡ n = omega arith in ap (λ (m : ℕ). word_at s i + total (words_at s (i + 4) m)) (sym e)
+-- the words from word k of n on, the first of which stands at i
+module _ (s : List ℕ) (i : ℕ) where
+  total_first : (n : ℕ) → 0 < n → total (words_at s i n) ≡ word_at s i + total (words_at s (i + 4) (n - 1))
+  unfolding words_at total
+  total_first zero h = absurd (omega arith)
+  total_first (suc n) h = let e : suc n - 1 ≡ n = omega arith in ap (λ (m : ℕ). word_at s i + total (words_at s (i + 4) m)) (sym e)
+
+  pub total_whole : (n : ℕ) → total (words_at s (i + 4 * 0) (n - 0)) ≡ total (words_at s i n)
+  total_whole n = let e : i + 4 * 0 ≡ i = omega arith in let f : n - 0 ≡ n = omega arith in rw (e, f)
+
+pub total_on : (s : List ℕ) (i k n : ℕ) → k < n → total (words_at s (i + 4 * k) (n - k)) ≡ word_at s (i + 4 * k) + total (words_at s (i + 4 * (k + 1)) (n - (k + 1)))
+total_on s i k n h =
+    let e : i + 4 * (k + 1) ≡ i + 4 * k + 4 = omega arith in
+    let f : n - (k + 1) ≡ n - k - 1 = omega arith in
+    rw (e, f) (total_first s (i + 4 * k) (n - k) (omega arith))
 
 pub total_none : (s : List ℕ) (i n : ℕ) → n ≤ 0 → total (words_at s i n) ≡ 0
 unfolding words_at total
@@ -33,32 +44,32 @@ module _ (t w : ℕ) (s : List ℕ) (i : ℕ) where
   abbrev sum : ℕ
   sum = total (words_at s i t)
 
-  pub block_short : length s - i < 4 * t → Wrong ≡ block_at t w s i
+  pub block_short : length s - i < 4 * t → None ≡ block_at t w s i
   unfolding block_at
   block_short h = rw (lt-leb (4 * t) (length s - i) h)
 
-  pub block_other : (length s - i ≡ 4 * (t + sum * w) → ⊥) → Wrong ≡ block_at t w s i
+  pub block_other : (length s - i ≡ 4 * (t + sum * w) → ⊥) → None ≡ block_at t w s i
   unfolding block_at
   block_other d = go (leb (4 * t) (length s - i)) (ne_eqb (length s - i) (4 * (t + sum * w)) d)
     where
-      go : (b : Bool) {c : Bool} → c ≡ false → Wrong ≡ cond (b && (c && cond (eqb w 0) (eqb sum 0) true)) (Fits sum) Wrong
+      go : (b : Bool) {c : Bool} → c ≡ false → None ≡ cond (b && (c && cond (eqb w 0) (eqb sum 0) true)) (Some sum) None
       go true e = rw e
       go false e = refl
 
-  pub block_flat : w ≡ 0 → (sum ≡ 0 → ⊥) → Wrong ≡ block_at t w s i
+  pub block_flat : w ≡ 0 → (sum ≡ 0 → ⊥) → None ≡ block_at t w s i
   unfolding block_at
   block_flat z d = go (leb (4 * t) (length s - i)) (eqb (length s - i) (4 * (t + sum * w)))
     where
-      go : (b c : Bool) → Wrong ≡ cond (b && (c && cond (eqb w 0) (eqb sum 0) true)) (Fits sum) Wrong
+      go : (b c : Bool) → None ≡ cond (b && (c && cond (eqb w 0) (eqb sum 0) true)) (Some sum) None
       go true true = rw (eq-eqb w 0 z, ne_eqb sum 0 d)
       go true false = refl
       go false c = refl
 
-  pub block_fits : 4 * t ≤ length s - i → length s - i ≡ 4 * (t + sum * w) → (w ≡ 0 → sum ≡ 0) → Fits sum ≡ block_at t w s i
+  pub block_fits : 4 * t ≤ length s - i → length s - i ≡ 4 * (t + sum * w) → (w ≡ 0 → sum ≡ 0) → Some sum ≡ block_at t w s i
   unfolding block_at
   block_fits h e f = rw (le-leb (4 * t) (length s - i) h, eq-eqb (length s - i) (4 * (t + sum * w)) e) (go (eqb w 0) refl)
     where
-      go : (b : Bool) → eqb w 0 ≡ b → Fits sum ≡ cond (cond b (eqb sum 0) true) (Fits sum) Wrong
+      go : (b : Bool) → eqb w 0 ≡ b → Some sum ≡ cond (cond b (eqb sum 0) true) (Some sum) None
       go true q = rw (eq-eqb sum 0 (f (eqb-true w 0 q)))
       go false q = refl
 
@@ -84,30 +95,30 @@ module _ (t w : ℕ) (s : List ℕ) (i W : ℕ) (whole : length s - i ≡ 4 * t 
   used : length s - i ≡ 4 * (t + all * w) → W ≡ all * w
   used e = omega arith
 
-  pub flat-fits : w ≡ 0 → E ≡ 0 → W ≡ 0 → Fits E ≡ block_at t w s i
+  pub flat-fits : w ≡ 0 → E ≡ 0 → W ≡ 0 → Some E ≡ block_at t w s i
   flat-fits z e u = go counted
     where
-      go : Counted → Fits E ≡ block_at t w s i
+      go : Counted → Some E ≡ block_at t w s i
       go (exact p q) =
           let a : all ≡ 0 = omega arith in
           let m : all * w ≡ 0 = ap (λ (x : ℕ). all * x) z ∙ mul-zero all in
-          ap Fits p ∙ block_fits t w s i (omega arith) (omega arith) (λ x. a)
+          ap Some p ∙ block_fits t w s i (omega arith) (omega arith) (λ x. a)
       go (over p q) = absurd (omega arith)
 
-  pub flat_left : w ≡ 0 → (W ≡ 0 → ⊥) → Wrong ≡ block_at t w s i
+  pub flat_left : w ≡ 0 → (W ≡ 0 → ⊥) → None ≡ block_at t w s i
   flat_left z d = block_other t w s i (λ e. let m : all * w ≡ 0 = ap (λ (x : ℕ). all * x) z ∙ mul-zero all in d (used e ∙ m))
 
-  pub flat-counts : w ≡ 0 → (E ≡ 0 → ⊥) → Wrong ≡ block_at t w s i
+  pub flat-counts : w ≡ 0 → (E ≡ 0 → ⊥) → None ≡ block_at t w s i
   flat-counts z d = go counted
     where
-      go : Counted → Wrong ≡ block_at t w s i
+      go : Counted → None ≡ block_at t w s i
       go (exact p q) = block_flat t w s i z (λ e. d (p ∙ e))
       go (over p q) = block_flat t w s i z (λ e. omega arith)
 
-  pub not_whole : (W % w ≡ 0 → ⊥) → Wrong ≡ block_at t w s i
+  pub not_whole : (W % w ≡ 0 → ⊥) → None ≡ block_at t w s i
   not_whole d = block_other t w s i (λ e. d (ap (λ (x : ℕ). x % w) (used e) ∙ mul-mod_left all w))
 
-  pub not_many : (w ≡ 0 → ⊥) → (W / w ≡ E → ⊥) → Wrong ≡ block_at t w s i
+  pub not_many : (w ≡ 0 → ⊥) → (W / w ≡ E → ⊥) → None ≡ block_at t w s i
   not_many z d = block_other t w s i (λ e. go (used e) counted)
     where
       pos : 0 < w
@@ -117,15 +128,15 @@ module _ (t w : ℕ) (s : List ℕ) (i W : ℕ) (whole : length s - i ≡ 4 * t 
       go u (exact p q) = d (ap (λ (x : ℕ). x / w) u ∙ mul-div_cancel all pos ∙ sym p)
       go u (over p q) = omega (arith, le-mul_of_pos_right {m = w} all pos)
 
-  pub just_fits : (w ≡ 0 → ⊥) → W % w ≡ 0 → W / w ≡ E → Fits E ≡ block_at t w s i
+  pub just_fits : (w ≡ 0 → ⊥) → W % w ≡ 0 → W / w ≡ E → Some E ≡ block_at t w s i
   just_fits z r d = go counted
     where
       pos : 0 < w
       pos = omega (arith, z)
 
-      go : Counted → Fits E ≡ block_at t w s i
+      go : Counted → Some E ≡ block_at t w s i
       go (exact p q) =
           let u : W / w * w + W % w ≡ W = div-add-mod' W w in
           let v : W / w * w ≡ all * w = ap (λ (x : ℕ). x * w) (d ∙ p) in
-          ap Fits p ∙ block_fits t w s i (omega arith) (omega arith) (λ x. absurd (z x))
+          ap Some p ∙ block_fits t w s i (omega arith) (omega arith) (λ x. absurd (z x))
       go (over p q) = absurd (omega (arith, div-le_self W w))

@@ -8,12 +8,12 @@ use borrow.Author.Tests.{eqb-true, eq-eqb}
 use lib.Dec.{leb, eqb}
 use lib.ListN.{length, get_or, drop, length-drop, length-append}
 use lib.Seq.{drop-cons}
+use Rattle.std.specs.Prelude.{Some, None}
 use Rattle.written.specs.Blocks.{little_endian, Below32, end, next, total, Row, rows_from, paired, Laid, entry, Block}
 use Rattle.written.specs.Blocks as B
 use Rattle.written.proofs.OneBlock.{bytes_one, block_one}
 use Rattle.written.proofs.OneFile.{append_same}
 use Rattle.pdf_widen.specs.Widening.{widen_of}
-use Rattle.pdf_blocks.specs.declared.Block.TheVariants.{Fits, Wrong}
 use Rattle.pdf_blocks.proofs.Counts.{block_fits}
 use Rattle.pdf_blocks.specs.Values.{word_at, words_at, block_at, value_at, pairs_at, entry_at, values_at}
 
@@ -156,7 +156,7 @@ module _ (s : List ℕ) (small : Small s) (t w i : ℕ) where
   sum = total (words_at s i t)
 
   -- where the block fits, its bytes say the rows and values that are read
-  pub fits_block : {n : ℕ} → Fits n ≡ block_at t w s i
+  pub fits_block : {n : ℕ} → Some n ≡ block_at t w s i
       → (n ≡ total (words_at s i t)) × Block widened t w (drop i s) (rows_from w 0 (words_at s i t)) (values_at s (i + 4 * t) w (total (words_at s i t)))
   unfolding block_at
   fits_block {n} e = go (leb (4 * t) (length s - i)) refl (eqb (length s - i) (4 * (t + sum * w))) refl (eqb w 0) refl (eqb sum 0) refl e
@@ -174,7 +174,7 @@ module _ (s : List ℕ) (small : Small s) (t w i : ℕ) where
       }
 
       go : (a : Bool) → leb (4 * t) (length s - i) ≡ a → (b : Bool) → eqb (length s - i) (4 * (t + sum * w)) ≡ b → (c : Bool) → eqb w 0 ≡ c → (d : Bool) → eqb sum 0 ≡ d
-          → Fits n ≡ cond (a && (b && cond c d true)) (Fits sum) Wrong → (n ≡ sum) × Block widened t w (drop i s) (rows_from w 0 counts) (values_at s (i + 4 * t) w sum)
+          → Some n ≡ cond (a && (b && cond c d true)) (Some sum) None → (n ≡ sum) × Block widened t w (drop i s) (rows_from w 0 counts) (values_at s (i + 4 * t) w sum)
       go true p true q true r true u e = (let z : n ≡ sum = cc in z, made (eqb-true (length s - i) (4 * (t + sum * w)) q) (λ z. eqb-true sum 0 u))
       go true p true q false r d u e = (let z : n ≡ sum = cc in z, made (eqb-true (length s - i) (4 * (t + sum * w)) q) (λ z. absurd (let y : ◌≡◌ {A = Bool} true false = sym (eq-eqb w 0 z) ∙ r in let x : ◌≡◌ {A = ℕ} 0 1 = cc in omega arith)))
       go true p true q true r false u e = let x : ◌≡◌ {A = ℕ} 0 1 = cc in absurd (omega arith)
@@ -183,7 +183,7 @@ module _ (s : List ℕ) (small : Small s) (t w i : ℕ) where
 
   -- and where its bytes say rows and values, it fits, and just these are read
   pub block_read : {rows : List Row} {values : List ℕ} → Block widened t w (drop i s) rows values
-      → (Fits (total (words_at s i t)) ≡ block_at t w s i) × (rows ≡ rows_from w 0 (words_at s i t)) × (values ≡ values_at s (i + 4 * t) w (total (words_at s i t)))
+      → (Some (total (words_at s i t)) ≡ block_at t w s i) × (rows ≡ rows_from w 0 (words_at s i t)) × (values ≡ values_at s (i + 4 * t) w (total (words_at s i t)))
   block_read {rows} {values} b =
       let T = total b.counts in
       let long : length (b.counts ++ b.written) ≡ t + T * w = length-append b.counts b.written ∙ ap₂ (λ (x y : ℕ). x + y) b.per_tree (laid-length b.laid) in

@@ -1,9 +1,8 @@
 -- A PDF block read by position: words, counts and values (01, 'PDF blocks').
-use Rattle.std.specs.Prelude.{Bool, true, cond, ◌&&◌, List, [], ◌∷◌, ◌++◌, ℕ, zero, suc, ◌+◌, ◌-◌, ◌*◌, ◌/◌, ◌%◌, leb, eqb, length, get_or}
+use Rattle.std.specs.declared.option.Option.{Option}
+use Rattle.std.specs.Prelude.{Bool, true, cond, ◌&&◌, List, [], ◌∷◌, ◌++◌, ℕ, zero, suc, ◌+◌, ◌-◌, ◌*◌, ◌/◌, ◌%◌, leb, eqb, length, get_or, Some, None}
 use Rattle.written.specs.Blocks.{total}
 use Rattle.pdf_widen.specs.Widening.{widen_of}
-use Rattle.pdf_blocks.specs.declared.Block.{Block}
-use Rattle.pdf_blocks.specs.declared.Block.TheVariants.{Fits, Wrong}
 
 -- the little-endian 32-bit number at i
 abbrev pub word_at : List ℕ → ℕ → ℕ
@@ -17,11 +16,11 @@ words_at s i (suc n) = word_at s i ∷ words_at s (i + 4) n
 -- ---- whether the block is used up exactly
 
 -- t counts at i, then as many entries of w numbers; width 0 with a count above 0 is none
-unfoldable pub block_at : ℕ → ℕ → List ℕ → ℕ → Block
+unfoldable pub block_at : ℕ → ℕ → List ℕ → ℕ → Option ℕ
 block_at t w s i =
     cond (leb (4 * t) (length s - i) && (eqb (length s - i) (4 * (t + total (words_at s i t) * w)) && cond (eqb w 0) (eqb (total (words_at s i t)) 0) true))
-    (Fits (total (words_at s i t)))
-    Wrong
+    (Some (total (words_at s i t)))
+    None
 
 -- ---- what it says
 

@@ -3,16 +3,9 @@
 //
 #![tactic(auto)]
 
-ghost use Rattle.std.specs.Prelude.{◌≡◌, cond, ◌+◌, ◌*◌, ◌≤◌, ◌<◌, ◌^◌, leb, eqb, length};
+ghost use Rattle.std.specs.Prelude.{◌≡◌, cond, ◌+◌, ◌*◌, ◌≤◌, ◌<◌, ◌^◌, leb, eqb, length, Some, None};
 ghost use Rattle.written.specs.Blocks.{total};
 ghost use Rattle.pdf_blocks.specs.Values.{word_at, words_at, block_at};
-
-// Whether a block is used up exactly, and its entries.
-#[derive(Clone, Copy)]
-pub enum Block {
-    Fits { entries: u64 },
-    Wrong,
-}
 
 fn wide(x: u8) -> u32
     ensures { (result ≡ x) × (result < 256) }
@@ -36,22 +29,18 @@ fn count_entries(s: &[u8], at: usize, trees: usize, most: u64) -> u64
     requires { (at + 4 * trees ≤ length s.now) × (most < 2 ^ 63) }
     ensures { result ≡ cond (leb (total (words_at s.now at trees)) most) (total (words_at s.now at trees)) (most + 1) }
 {
-    let mut i = at;
-    let mut left = trees;
     let mut sum: u64 = 0;
-    while 0 < left {
-        sum = sum + word(s, i) as u64;
+    for k in 0..trees {
+        sum += word(s, at + 4 * k) as u64;
         if most < sum {
             return most + 1;
         }
-        i = i + 4;
-        left = left - 1;
     }
     sum
 }
 
 // Whether the bytes from `at` on are a block of so many trees.
-pub fn check_block(s: &[u8], at: usize, trees: usize, width: u64) -> Block
+pub fn check_block(s: &[u8], at: usize, trees: usize, width: u64) -> Option<u64>
     ensures { result ≡ block_at trees width s.now at }
 {
     if s.len() < at {
@@ -59,38 +48,34 @@ pub fn check_block(s: &[u8], at: usize, trees: usize, width: u64) -> Block
     }
     let room = s.len() - at;
     if room / 4 < trees {
-        return Block::Wrong;
+        return None;
     }
     let rest = room - 4 * trees;
     if rest % 4 != 0 {
-        return Block::Wrong;
+        return None;
     }
     let words = (rest / 4) as u64;
     let entries = count_entries(s, at, trees, words);
     if width == 0 {
         if entries == 0 {
             if words == 0 {
-                return Block::Fits { entries };
+                return Some(entries);
             }
         }
-        return Block::Wrong;
+        return None;
     }
     if words % width != 0 {
-        return Block::Wrong;
+        return None;
     }
     if words / width != entries {
-        return Block::Wrong;
+        return None;
     }
-    Block::Fits { entries }
+    Some(entries)
 }
 
 // A block of no bytes fits no tree but none.
-fn if_empty(trees: usize) -> Block
-    ensures { result ≡ cond (eqb trees 0) (Block.Fits 0) Block.Wrong }
+fn if_empty(trees: usize) -> Option<u64>
+    ensures { result ≡ cond (eqb trees 0) (Some 0) None }
 {
-    if trees == 0 {
-        Block::Fits { entries: 0 }
-    } else {
-        Block::Wrong
-    }
+    if trees == 0 { Some(0) } else { None }
 }

@@ -50,14 +50,6 @@ module _ (s : List ℕ) (at behind pairs : ℕ) (values₀ : List ℕ) (first : 
     pub long : length values ≡ length values₀
     pub stored : sets values (first + 2 * k) (pairs_at s (at + 4 * k) (behind + 4 * k) (pairs - k)) ≡ sets values₀ first (pairs_at s at behind pairs)
 
-  pub pair_none : Pairing values₀ 0
-  pair_none =
-      let a : first + 2 * 0 ≡ first = omega arith in
-      let b : at + 4 * 0 ≡ at = omega arith in
-      let c : behind + 4 * 0 ≡ behind = omega arith in
-      let d : pairs - 0 ≡ pairs = omega arith in
-      record { within = omega arith; long = refl; stored = rw (a, b, c, d) }
-
   pub pair_more : (values : List ℕ) (k : ℕ) → Pairing values k → k < pairs → (m v : ℕ) → m ≡ value_at s (at + 4 * k) → v ≡ value_at s (behind + 4 * k) → (values₁ : List ℕ)
       → values₁ ≡ sets values (first + 2 * k) (m ∷ v ∷ []) → Pairing values₁ (k + 1)
   unfolding pairs_at
@@ -163,12 +155,6 @@ module _ (s : List ℕ) (at count w : ℕ) (trees₀ : List ℕ) where
     pub long : length trees ≡ length trees₀
     pub sum : first + total (words_at s (at + 4 * k) (count - k)) * w ≡ total (words_at s at count) * w
     pub stored : with_blocks trees k (rows_from w first (words_at s (at + 4 * k) (count - k))) ≡ with_blocks trees₀ 0 (rows_from w 0 (words_at s at count))
-
-  pub set_none : Setting trees₀ 0 0
-  set_none =
-      let b : at + 4 * 0 ≡ at = omega arith in
-      let d : count - 0 ≡ count = omega arith in
-      record { within = omega arith; long = refl; sum = rw (b, d) (omega arith); stored = rw (b, d) }
 
   module _ (trees : List ℕ) (k first : ℕ) (p : Setting trees k first) (h : k < count) (e : ℕ) (ee : e ≡ word_at s (at + 4 * k)) where
     row_parts : total (words_at s (at + 4 * k) (count - k)) * w ≡ e * w + total (words_at s (at + 4 * (k + 1)) (count - (k + 1))) * w

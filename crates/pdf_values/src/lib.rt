@@ -2,7 +2,7 @@
 // Value i of an entry pairs with value i + half: mean, variance, mean, variance, ..; an odd last one is msd.
 #![tactic(auto)]
 
-ghost use Rattle.std.specs.Prelude.{◌≡◌, ◌+◌, ◌*◌, ◌/◌, ◌%◌, ◌≤◌, ◌<◌, length};
+ghost use Rattle.std.specs.Prelude.{◌≡◌, ◌+◌, ◌*◌, ◌/◌, ◌%◌, ◌≤◌, length};
 ghost use Rattle.std.proofs.lemmas.List.Edits.{sets};
 ghost use Rattle.written.specs.Blocks.{total, rows_from};
 ghost use Rattle.pdf_blocks.specs.Values.{words_at, value_at, pairs_at, entry_at, values_at};
@@ -25,12 +25,10 @@ fn fill_pairs(s: &[u8], at: usize, behind: usize, pairs: usize, values: &mut [u6
     requires { (at + 4 * pairs ≤ length s.now) × (behind + 4 * pairs ≤ length s.now) × (first + 2 * pairs ≤ length values.old) }
     ensures { values.new ≡ sets values.old first (pairs_at s.now at behind pairs) }
 {
-    let mut k = 0;
-    while k < pairs {
+    for k in 0..pairs {
         let mean = value(s, at + 4 * k);
         let variance = value(s, behind + 4 * k);
         put2(values, first + 2 * k, mean, variance);
-        k = k + 1;
     }
 }
 
@@ -52,14 +50,12 @@ pub fn fill_values(s: &[u8], at: usize, width: usize, entries: u64, values: &mut
 {
     let half = width / 2;
     let odd = width % 2 == 1;
-    let mut left = entries;
     let mut i = at;
     let mut first = 0;
-    while 0 < left {
+    for _ in 0..entries {
         fill_entry(s, i, half, odd, values, first);
-        i = i + 4 * width;
-        first = first + width;
-        left = left - 1;
+        i += 4 * width;
+        first += width;
     }
 }
 
@@ -68,12 +64,10 @@ pub fn fill_blocks(s: &[u8], at: usize, count: usize, width: u64, trees: &mut [u
     requires { (at + 4 * count ≤ length s.now) × (6 * count ≤ length trees.old) × (at + 4 * count + 4 * (total (words_at s.now at count) * width) ≤ length s.now) }
     ensures { trees.new ≡ with_blocks trees.old 0 (rows_from width 0 (words_at s.now at count)) }
 {
-    let mut k = 0;
     let mut first: u64 = 0;
-    while k < count {
+    for k in 0..count {
         let entries = word(s, at + 4 * k) as u64;
         put_block(trees, k, first, entries);
-        first = first + entries * width;
-        k = k + 1;
+        first += entries * width;
     }
 }

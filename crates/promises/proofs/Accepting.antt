@@ -7,6 +7,9 @@ use native.Mathlib.Decide.{dec_lt}
 use native.Mathlib.Omega.{arith}
 use lib.ListN.{length}
 use lib.Seq.{sets}
+use Rattle.error.specs.declared.Refusal.{Refusal}
+use Rattle.walk.specs.declared.Walked.{Walked}
+use Rattle.std.specs.declared.result.Result.{Result}
 use Rattle.written.specs.Said.{Ref, Line, Body, braces, Tree, Question, Text, Layout}
 use Rattle.written.specs.TreeText.{Says}
 use Rattle.written.specs.Linking as L
@@ -22,7 +25,6 @@ use Rattle.written_alone.proofs.Accepting.{own_accepted}
 use Rattle.table_rows.specs.Rows.{HasTree}
 use Rattle.walk.specs.Walking.{walk_of}
 use Rattle.walk.specs.Answer.{answer_of, ending_answer}
-use Rattle.walk.specs.declared.Walked.{Walked}
 use Rattle.walk.proofs.Demand.{walk_demand₃}
 use Rattle.larsavim.specs.Accepts.{AcceptTells, no_room, told}
 use Rattle.shown_accepts.proofs.Accepts.{accepts_said}
@@ -122,7 +124,7 @@ accepted_linked {s} {rows} {t} (says {x = x} {u = u} h w) e = go w e
 
 -- demand 3, in any tables where the rows stand, for every assignment and limit
 pub accepted_walks : {s : List ℕ} {rows : List Row} {t c p k : ℕ} (a : AcceptsIn s 0 rows t c p k) (z : c ≡ 0) {answer : ℕ → Bool} {bytes : List ℕ} → Answers (accepted_linked a z).text.questions answer bytes
-    → {T R : List ℕ} {i : ℕ} → HasTree T R i rows → (m : ℕ) {r : Walked} → r ≡ walk_of T R i bytes m
+    → {T R : List ℕ} {i : ℕ} → HasTree T R i rows → (m : ℕ) {r : Result Walked Refusal} → r ≡ walk_of T R i bytes m
     → (e : Ending) × Written (accepted_linked a z).text.questions answer (accepted_linked a z).tree.body m e × (answer_of r ≡ ending_answer e)
 accepted_walks a z given h m q = let d = walk_demand₃ given h (accepted_linked a z).linked m q in (d.0, d.1, d.2)
 

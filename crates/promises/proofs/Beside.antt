@@ -33,18 +33,12 @@ use Rattle.head_record.specs.declared.Header.{Header}
 use Rattle.head_de.proofs.Sound.{Bytes}
 use Rattle.pdf_widen.specs.Widening.{widen_of}
 use Rattle.load_choose.specs.declared.Which.{Which}
-use Rattle.load_trees.specs.declared.Linked.{Linked}
-use Rattle.load_trees.specs.declared.Linked.TheVariants as linked
 use Rattle.load_text.specs.Text.{end_at}
 use Rattle.load_plan.specs.Plans.{planned}
 use Rattle.load_plan.specs.Plans as plans
 use Rattle.load_plan.specs.declared.Plan.{Plan}
-use Rattle.load_plan.specs.declared.Planned.{Planned}
-use Rattle.load_plan.specs.declared.Planned.TheVariants.{Model, Refused}
 use Rattle.load_plan.proofs.Laws.{was, needs_sound}
-use Rattle.load_model.specs.Load.{Tables as Lent, After, room_in, answer_for, filled, untouched, load_for, load_of}
-use Rattle.load_model.specs.declared.Loaded.{Loaded}
-use Rattle.load_model.specs.declared.Loaded.TheVariants as ending
+use Rattle.load_model.specs.Load.{loaded as ending, Tables as Lent, After, room_in, answer_for, filled, untouched, load_for, load_of}
 use Rattle.load_apart.proofs.Tests.{both, stands_is, is_stands}
 use Rattle.load_apart.proofs.Apart.{exactly_seen}
 use Rattle.load_shared.specs.Beside.{rows_of, with_work, put_back, placed_in, room_by, beside_for, beside_of}
@@ -67,6 +61,9 @@ use Rattle.promises.proofs.Moved.{moved₂}
 use Rattle.promises.proofs.Asked.{which_number, record_judged}
 use Rattle.promises.proofs.NoModel.{no_model}
 use Rattle.promises.proofs.Plans.{PlanSaid, plan_said}
+use Rattle.load_model.specs.declared.Loaded.{Loaded}
+use Rattle.load_trees.specs.declared.TreeFault.{TreeFault}
+use Rattle.std.specs.Prelude.{Err, Ok, Result, ⊤}
 
 clash : {A : Type 0} → ◌≡◌ {A = ℕ} 0 1 → A
 clash e = absurd (omega arith)
@@ -119,15 +116,15 @@ module _ {s : List ℕ} {h : record_of.Header} {m : models.Model} {p : Plan} (k 
         }
 
 -- what linking refuses is above 20
-above : (p : Plan) (o : Linked) {y : Refusal} → answer_for p o ≡ ending.Refused y → 20 < number_of y
-above p linked.Done e = clash (cc)
-above p (linked.Refused g i k) {y} e = let u : refusal.Unlinked g i k ≡ y = cc in subst (λ (z : Refusal). 20 < number_of z) u (fault_between g).0
+above : (p : Plan) (o : Result ⊤ TreeFault) {y : Refusal} → answer_for p o ≡ Err y → 20 < number_of y
+above p (Ok _) e = clash (cc)
+above p (Err l) {y} e = let record { fault = g; tree = i; line = k } = l in let u : refusal.Unlinked g i k ≡ y = cc in subst (λ (z : Refusal). 20 < number_of z) u (fault_between g).0
 
 module _ {s : List ℕ} (bytes : Bytes s) {h : record_of.Header} (says : record_of.Says s h) (m : models.Model) (x : Side) (other : Held) (t : Lent) where
   abbrev pub L : After
   L = beside_of x s (header_record h) (which_of m) other t
 
-  abbrev pub Ends : Loaded → Lent → Type 0
+  abbrev pub Ends : Result Loaded Refusal → Lent → Type 0
   Ends a u = BesideEnds x s h m other t (rows_numbers (rows_by a)) u
 
   abbrev D : List ℕ
@@ -138,7 +135,7 @@ module _ {s : List ℕ} (bytes : Bytes s) {h : record_of.Header} (says : record_
 
   -- ---- a plan that fits
 
-  module _ (p : Plan) (q : Model p ≡ planned s (header_record h) (which_of m)) (room : room_by p other t ≡ true) where
+  module _ (p : Plan) (q : Ok p ≡ planned s (header_record h) (which_of m)) (room : room_by p other t ≡ true) where
     abbrev f : PlanSaid s h m p
     f = plan_said bytes says m p q
 
@@ -161,22 +158,22 @@ module _ {s : List ℕ} (bytes : Bytes s) {h : record_of.Header} (says : record_
 
     A-is : A ≡ filled D p T
     unfolding load_of
-    A-is = ap (λ (o : Planned). load_for D o T) (sym q) ∙ ap (λ (b : Bool). cond b (filled D p T) (untouched refusal.Room T)) room_in_lem
+    A-is = ap (λ (o : Result Plan Refusal). load_for D o T) (sym q) ∙ ap (λ (b : Bool). cond b (filled D p T) (untouched refusal.Room T)) room_in_lem
 
     -- is the load into the task's rows, put there
     L-is : L ≡ put_back x p t A
     unfolding beside_of placed_in
     L-is =
-        ap (λ (o : Planned). beside_for x other D o t) (sym q) ∙ ap (λ (b : Bool). cond b (placed_in x D p t) (untouched refusal.Room t)) room
+        ap (λ (o : Result Plan Refusal). beside_for x other D o t) (sym q) ∙ ap (λ (b : Bool). cond b (placed_in x D p t) (untouched refusal.Room t)) room
         ∙ ap (put_back x p t) (sym A-is)
 
     -- done: its rows stand there
-    done : {n₁ n₂ n₃ n₄ n₅ : ℕ} → A.answer ≡ ending.Done n₁ n₂ n₃ n₄ n₅ → Ends L.answer L.tables
+    done : {n₁ n₂ n₃ n₄ n₅ : ℕ} → A.answer ≡ ending n₁ n₂ n₃ n₄ n₅ → Ends L.answer L.tables
     done e = stored_so (load_stored s (header_record h) (which_of m) short bytes.below T e)
       where
         stored_so : Stored s (header_record h) (which_of m) T A → Ends L.answer L.tables
         stored_so k =
-            let g : Model k.p ≡ Model p = k.chose.plan ∙ sym q in
+            let g : Ok k.p ≡ Ok p = k.chose.plan ∙ sym q in
             let p≡ : k.p ≡ p = cc in
             let a = says_once (subst (λ (p : Plan). Says (take p.text_end D) p.text k.t k.l) p≡ k.chose.says) f.own_says in
             let b = block_one (subst (λ (p : Plan). block.Block (widen_of 8 23 11 52) p.trees p.width (drop p.block (take p.block_end D)) k.block_rows k.read) p≡ k.block) f.own_block in
@@ -185,7 +182,7 @@ module _ {s : List ℕ} (bytes : Bytes s) {h : record_of.Header} (says : record_
           where
             numbers : (k : Stored s (header_record h) (which_of m) T A) → k.p ≡ p → rows_numbers (rows_by L.answer) ≡ done_numbers (said f) k.record_rows
             numbers k p≡ =
-                ap (λ (o : After). rows_numbers (rows_by o.answer)) L-is ∙ ap (λ (l : Loaded). rows_numbers (rows_by l)) k.counts
+                ap (λ (o : After). rows_numbers (rows_by o.answer)) L-is ∙ ap (λ (l : Result Loaded Refusal). rows_numbers (rows_by l)) k.counts
                 ∙ ap (λ (p : Plan). 0 ∷ 0 ∷ 0 ∷ p.questions ∷ p.patterns ∷ p.trees ∷ k.p.records ∷ p.entries * p.width ∷ []) p≡
                 ∙ (λ i. 0 ∷ 0 ∷ 0 ∷ f.questions i ∷ f.patterns i ∷ f.trees i ∷ k.record_count i ∷ f.entries i ∷ [])
 
@@ -229,14 +226,14 @@ module _ {s : List ℕ} (bytes : Bytes s) {h : record_of.Header} (says : record_
                     (sym f.entries ∙ sym (one-mul (p.entries * p.width)))
 
     -- linking is refused: zeros there
-    refused_link : {y : Refusal} → A.answer ≡ ending.Refused y → 20 < number_of y → Ends L.answer L.tables
+    refused_link : {y : Refusal} → A.answer ≡ Err y → 20 < number_of y → Ends L.answer L.tables
     refused_link {y} e above =
         let k = load_unlinked s (header_record h) (which_of m) short bytes.below T y e above in
-        let g : Model k.p ≡ Model p = k.chose.plan ∙ sym q in
+        let g : Ok k.p ≡ Ok p = k.chose.plan ∙ sym q in
         let p≡ : k.p ≡ p = cc in
         let a = says_once (subst (λ (p : Plan). Says (take p.text_end D) p.text k.t k.l) p≡ k.chose.says) f.own_says in
         let r : ModelRefused f.text.questions f.text.trees (number_of y) (place_of y) (line_of y) = subst (λ (t : said_of.Text). ModelRefused t.questions t.trees (number_of y) (place_of y) (line_of y)) a.0 k.refused in
-        moved₂ (BesideEnds x s h m other t) (ap (λ (o : After). rows_numbers (rows_by o.answer)) L-is ∙ ap (λ (l : Loaded). rows_numbers (rows_by l)) e) zeroed
+        moved₂ (BesideEnds x s h m other t) (ap (λ (o : After). rows_numbers (rows_by o.answer)) L-is ∙ ap (λ (l : Result Loaded Refusal). rows_numbers (rows_by l)) e) zeroed
         (unlinked (reads f) (there_room f other t room) r)
       where
         zeroed : L.tables ≡ zero_work (placed x (needed (said f)) (zeros (needed (said f))) (rows_of t)) t
@@ -258,28 +255,28 @@ module _ {s : List ℕ} (bytes : Bytes s) {h : record_of.Header} (says : record_
     unfolding filled
     fits = by_answer (filled D p T).answer (ap (λ (o : After). o.answer) A-is)
       where
-        by_answer : (a : Loaded) → A.answer ≡ a → Ends L.answer L.tables
-        by_answer (ending.Done n₁ n₂ n₃ n₄ n₅) d = done d
-        by_answer (ending.Refused y) d = refused_link d (above p (end_at (take p.text_end D) p.text p.first) (sym (ap (λ (o : After). o.answer) A-is) ∙ d))
+        by_answer : (a : Result Loaded Refusal) → A.answer ≡ a → Ends L.answer L.tables
+        by_answer (Ok l) d = done d
+        by_answer (Err y) d = refused_link d (above p (end_at (take p.text_end D) p.text p.first) (sym (ap (λ (o : After). o.answer) A-is) ∙ d))
 
   -- how every load ends
   pub beside_ends : Ends L.answer L.tables
   unfolding beside_of
   beside_ends = go (planned s (header_record h) (which_of m)) refl
     where
-      room : (p : Plan) → Model p ≡ planned s (header_record h) (which_of m) → (c : Bool) → room_by p other t ≡ c → L ≡ cond c (placed_in x D p t) (untouched refusal.Room t) → Ends L.answer L.tables
+      room : (p : Plan) → Ok p ≡ planned s (header_record h) (which_of m) → (c : Bool) → room_by p other t ≡ c → L ≡ cond c (placed_in x D p t) (untouched refusal.Room t) → Ends L.answer L.tables
       room p q false c e =
           let f = plan_said bytes says m p q in
           moved₂ (BesideEnds x s h m other t) (ap (λ (o : After). rows_numbers (rows_by o.answer)) e) (ap (λ (o : After). o.tables) e)
           (no_room (reads f) (λ r. true≢false (sym (room_there f other t r) ∙ c)))
       room p q true c e = fits p q c
 
-      go : (o : Planned) → planned s (header_record h) (which_of m) ≡ o → Ends L.answer L.tables
-      go (Model p) q =
-          room p (sym q) (room_by p other t) refl (ap (λ (o : Planned). beside_for x other D o t) q)
-      go (Refused z) q =
+      go : (o : Result Plan Refusal) → planned s (header_record h) (which_of m) ≡ o → Ends L.answer L.tables
+      go (Ok p) q =
+          room p (sym q) (room_by p other t) refl (ap (λ (o : Result Plan Refusal). beside_for x other D o t) q)
+      go (Err z) q =
           let n = no_model bytes says m q in
-          let e : L ≡ untouched z t = ap (λ (o : Planned). beside_for x other D o t) q in
+          let e : L ≡ untouched z t = ap (λ (o : Result Plan Refusal). beside_for x other D o t) q in
           moved₂ (BesideEnds x s h m other t) (ap (λ (o : After). rows_numbers (rows_by o.answer)) e) (ap (λ (o : After). o.tables) e) (BesideEnds.no_model n.0 n.1)
 
 -- what is said of the words of a record is said of the record

@@ -28,7 +28,6 @@ use Rattle.house_step.specs.Steps.{bounds_of}
 use Rattle.house_types.specs.Types.{types_rule}
 use Rattle.house_voice.specs.Voice.{broken, voice_from, voice_of}
 use Rattle.house_voice.specs.declared.Broken.{Broken}
-use Rattle.house_voice.specs.declared.VoiceJudged.{VoiceJudged}
 use Rattle.face_open.specs.Answers.{open_said_by, open_said, open_words_by, open_words}
 use Rattle.face_record.specs.Answers.{said}
 use Rattle.face_shared.specs.Answers.{held_at, side_at, standing}
@@ -47,6 +46,9 @@ use Rattle.promises.specs.Housing.{five_of, InTurn, Stops, VoiceEnds, HouseEnds,
 use Rattle.promises.proofs.Moved.{moved₅}
 use Rattle.promises.proofs.Sharing.{standing_is, not_standing}
 use Rattle.promises.proofs.Voice.{Keeps, VoiceSaid, voice_said}
+use Rattle.house_voice.specs.declared.ModelRefused.{ModelRefused}
+use Rattle.house_voice.specs.declared.VoiceJudged.{VoiceJudged}
+use Rattle.std.specs.Prelude.{Result}
 
 -- ---- a file that says a record, of a task that holds nothing
 
@@ -73,7 +75,7 @@ module _ {s : List ℕ} (bytes : Bytes s) {h : record_of.Header} (says : record_
     rule_ends r (TypesJudged.miscounted a) k = VoiceEnds.breaks r (VoiceBreaks.counted a)
     rule_ends r (TypesJudged.twice a b) k = VoiceEnds.breaks r (VoiceBreaks.types a b)
 
-    voice_ends : {v : VoiceJudged} {u : Lent} → VoiceSaid bytes says x other ms (held_of (bounds_of 0 0 0 0 0)) t (broken 0 0) v u
+    voice_ends : {v : Result VoiceJudged ModelRefused} {u : Lent} → VoiceSaid bytes says x other ms (held_of (bounds_of 0 0 0 0 0)) t (broken 0 0) v u
         → VoiceEnds x s h other ms held t (house_numbers (said_by s (header_record h) v)) (held_by held v) u
     voice_ends (VoiceSaid.judged {ys = ys} {mine₁ = mine₁} {u = u} {c = c} {l = l} r e k) =
         subst (λ (m : Held). VoiceEnds x s h other ms held t (house_numbers (ruled_by (types_rule s (header_record h)) c)) (sets held 0 (five_of m)) u) (sym e)

@@ -21,11 +21,8 @@ use Rattle.pdf_blocks.proofs.Joined.{length_rows}
 use Rattle.load_plan.specs.Plans.{planned}
 use Rattle.load_plan.specs.Plans as plans
 use Rattle.load_plan.specs.declared.Plan.{Plan}
-use Rattle.load_plan.specs.declared.Planned.TheVariants.{Model}
 use Rattle.load_plan.proofs.Laws.{needs_sound}
-use Rattle.load_model.specs.Load.{Tables as Lent, After}
-use Rattle.load_model.specs.declared.Loaded.{Loaded}
-use Rattle.load_model.specs.declared.Loaded.TheVariants as ending
+use Rattle.load_model.specs.Load.{loaded as ending, Tables as Lent, After}
 use Rattle.load_apart.proofs.Apart.{placed_own}
 use Rattle.load_shared.specs.Beside.{rows_of, beside_of}
 use Rattle.load_bounds.specs.Bounds.{held_of}
@@ -45,6 +42,8 @@ use Rattle.promises.proofs.Plans.{PlanSaid, plan_said}
 use Rattle.promises.proofs.Beside.{said, reads, need_is, beside_ends}
 use Rattle.promises.proofs.Longer.{reads_one}
 use Rattle.promises.proofs.Turns.{rows_exact}
+use Rattle.load_model.specs.declared.Loaded.{Loaded}
+use Rattle.std.specs.Prelude.{Err, Ok, Result}
 
 module _ {s : List ℕ} (bytes : Bytes s) {h : record_of.Header} (says : record_of.Says s h) (m : models.Model) where
   abbrev D : List ℕ
@@ -53,7 +52,7 @@ module _ {s : List ℕ} (bytes : Bytes s) {h : record_of.Header} (says : record_
   short : length s < 2 ^ 63
   short = let l = says.fits in omega arith
 
-  module _ (p : Plan) (q : Model p ≡ planned s (header_record h) (which_of m)) where
+  module _ (p : Plan) (q : Ok p ≡ planned s (header_record h) (which_of m)) where
     abbrev f : PlanSaid s h m p
     f = plan_said bytes says m p q
 
@@ -95,8 +94,8 @@ module _ {s : List ℕ} (bytes : Bytes s) {h : record_of.Header} (says : record_
       pub need : n ≡ needed model
       pub rule : Judged model (rule_in x D p L.tables.questions L.tables.trees L.tables.values)
 
-    pub turn_done : (p : Plan) → Model p ≡ planned s (header_record h) (which_of m) → {n₁ n₂ n₃ n₄ n₅ : ℕ} → L.answer ≡ ending.Done n₁ n₂ n₃ n₄ n₅ → Turned p (held_of (bounds_of n₁ n₂ n₃ n₄ n₅))
-    turn_done p q {n₁} {n₂} {n₃} {n₄} {n₅} e = go (beside_ends bytes says m x other t) (ap (λ (a : Loaded). rows_numbers (rows_by a)) e) refl
+    pub turn_done : (p : Plan) → Ok p ≡ planned s (header_record h) (which_of m) → {n₁ n₂ n₃ n₄ n₅ : ℕ} → L.answer ≡ ending n₁ n₂ n₃ n₄ n₅ → Turned p (held_of (bounds_of n₁ n₂ n₃ n₄ n₅))
+    turn_done p q {n₁} {n₂} {n₃} {n₄} {n₅} e = go (beside_ends bytes says m x other t) (ap (λ (a : Result Loaded Refusal). rows_numbers (rows_by a)) e) refl
       where
         go : {l : List ℕ} {u : Lent} → BesideEnds x s h m other t l u → l ≡ 0 ∷ 0 ∷ 0 ∷ n₁ ∷ n₂ ∷ n₃ ∷ n₄ ∷ n₅ ∷ [] → u ≡ L.tables → Turned p (held_of (bounds_of n₁ n₂ n₃ n₄ n₅))
         go {u = u} (loaded {y = y} {l = l} {ts = ts} {rs = rs} r room w) k v =
@@ -126,7 +125,7 @@ module _ {s : List ℕ} (bytes : Bytes s) {h : record_of.Header} (says : record_
         go (unlinked r a n) k v = absurd (omega (arith, (linking_number n).0, ap (λ (l : List ℕ). get_or l 0 0) k))
 
     -- refused
-    pub turn_refused : {z : Refusal} → L.answer ≡ ending.Refused z → LoadRefused x s h other m t (number_of z) (place_of z) (line_of z) L.tables
+    pub turn_refused : {z : Refusal} → L.answer ≡ Err z → LoadRefused x s h other m t (number_of z) (place_of z) (line_of z) L.tables
     turn_refused {z} e =
         LoadRefused.refused {n = number_of z} (λ n. omega (arith, above_zero z, n))
-        (subst (λ (l : List ℕ). BesideEnds x s h m other t l L.tables) (ap (λ (a : Loaded). rows_numbers (rows_by a)) e) (beside_ends bytes says m x other t))
+        (subst (λ (l : List ℕ). BesideEnds x s h m other t l L.tables) (ap (λ (a : Result Loaded Refusal). rows_numbers (rows_by a)) e) (beside_ends bytes says m x other t))

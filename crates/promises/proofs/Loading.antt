@@ -19,10 +19,7 @@ use Rattle.head_record.specs.declared.Header.{Header}
 use Rattle.load_choose.specs.declared.Which.{Which}
 use Rattle.head_de.proofs.Sound.{Bytes}
 use Rattle.load_plan.specs.Plans.{planned}
-use Rattle.load_plan.specs.declared.Planned.{Planned}
-use Rattle.load_plan.specs.declared.Planned.TheVariants.{Model, Refused}
 use Rattle.load_model.specs.Load.{Tables, lent, After}
-use Rattle.load_model.specs.declared.Loaded.{Loaded}
 use Rattle.load_shared.specs.Beside.{rows_of, beside_of}
 use Rattle.face_model.specs.Answers as face
 use Rattle.face_model.specs.Answers.{rows_by}
@@ -41,12 +38,16 @@ use Rattle.promises.proofs.Asked.{which_number, record_judged}
 use Rattle.promises.proofs.NoModel.{no_model}
 use Rattle.promises.proofs.Plans.{plan_said}
 use Rattle.promises.proofs.Beside.{said, reads, beside_ends, words_said}
+use Rattle.load_model.specs.declared.Loaded.{Loaded}
+use Rattle.load_plan.specs.declared.Plan.{Plan}
+use Rattle.error.specs.declared.Refusal.{Refusal}
+use Rattle.std.specs.Prelude.{Err, Ok, Result}
 
 module _ {s : List ℕ} (bytes : Bytes s) {h : record_of.Header} (says : record_of.Says s h) (m : models.Model) (t : Tables) where
   abbrev L : After
   L = beside_of bottom s (header_record h) (which_of m) nothing t
 
-  abbrev Ends : Loaded → Tables → Type 0
+  abbrev Ends : Result Loaded Refusal → Tables → Type 0
   Ends a u = LoadEnds s h m t (rows_numbers (rows_by a)) u
 
   -- room beside nobody
@@ -120,13 +121,13 @@ module _ {s : List ℕ} (bytes : Bytes s) {h : record_of.Header} (says : record_
   needs_end : 10 ≤ length out → AfterNeeds s h m out N.number (sets out 0 (needed_numbers N))
   needs_end long = go (planned s (header_record h) (which_of m)) refl
     where
-      go : (o : Planned) → planned s (header_record h) (which_of m) ≡ o → AfterNeeds s h m out (face.needed_by o).number (sets out 0 (needed_numbers (face.needed_by o)))
-      go (Model p) e =
+      go : (o : Result Plan Refusal) → planned s (header_record h) (which_of m) ≡ o → AfterNeeds s h m out (face.needed_by o).number (sets out 0 (needed_numbers (face.needed_by o)))
+      go (Ok p) e =
           let f = plan_said bytes says m p (sym e) in
           let q : needed_numbers (face.needed_for p) ≡ needs_numbers (said f) =
           λ i. 0 ∷ 0 ∷ 0 ∷ f.questions i ∷ f.patterns i ∷ f.trees i ∷ f.records i ∷ f.entries i ∷ face.work_for (f.lines i) ∷ p.width ∷ [] in
           subst (λ (l : List ℕ). AfterNeeds s h m out 0 (sets out 0 l)) (sym q) (AfterNeeds.needed long (reads f))
-      go (Refused z) e = let n = no_model bytes says m e in AfterNeeds.no_model long n.0 n.1
+      go (Err z) e = let n = no_model bytes says m e in AfterNeeds.no_model long n.0 n.1
 
   pub needs_kept : {r : ℕ} {o : List ℕ} → Needs s (sets w 0 (record_words h)) (models.model_number m) out r o → AfterNeeds s h m out r o
   unfolding answered written

@@ -1,4 +1,5 @@
 -- A model that can't be planned is none, in the words of the record that the file says: each refusal from 12 to 19 with what is wrong.
+use Rattle.load_choose.proofs.Same.{same_chosen}
 use mathlib.Core.Path.{◌≡◌, refl, sym, ◌∙◌, subst}
 use mathlib.Core.List.{List, []}
 use Prim.Native.Nat.{ℕ, ◌^◌, ◌≤◌, ◌<◌}
@@ -13,11 +14,8 @@ use Rattle.head_record.specs.Record.{header_record}
 use Rattle.head_de.proofs.Sound.{Bytes}
 use Rattle.pdf_widen.specs.Widening.{widen_of}
 use Rattle.load_choose.specs.Entries.{Choice}
-use Rattle.load_choose.specs.declared.Chosen.{Chosen}
-use Rattle.load_choose.specs.declared.Chosen.TheVariants as chosen
 use Rattle.load_plan.specs.Plans as plans
 use Rattle.load_plan.specs.Plans.{planned}
-use Rattle.load_plan.specs.declared.Planned.TheVariants as planned
 use Rattle.written.specs.Models as models
 use Rattle.written.specs.Models.{data_of, Within, Placed}
 use Rattle.written.specs.Loading.{NoModel, Unread, Unloaded}
@@ -28,6 +26,9 @@ use Rattle.shown_load.specs.Refused.{NotLoaded}
 use Rattle.shown_load.proofs.Refused.{needs_not}
 use Rattle.shown_load.proofs.Numbers.{Before, planned_before}
 use Rattle.promises.proofs.Moved.{moved₂}
+use Rattle.load_choose.specs.Chosen.{chosen}
+use Rattle.load_choose.specs.declared.Chosen.{Chosen}
+use Rattle.std.specs.Prelude.{Err, Result}
 
 clash : {A : Type 0} → ◌≡◌ {A = ℕ} 0 1 → A
 clash e = absurd (omega arith)
@@ -40,13 +41,14 @@ module _ {s : List ℕ} (bytes : Bytes s) {h : record_of.Header} (says : record_
   None z = NoModel (widen_of 8 23 11 52) s h m (number_of z) (place_of z) (line_of z)
 
   -- a model that was chosen stands where the record says
-  placed_there : {c : Chosen} → Placing s h m c → {u v x y k : ℕ} → c ≡ chosen.Model u v x y k → Placed s h m (range u v) (range x y) k × (k ≤ 4096)
+  placed_there : {c : Result Chosen Refusal} → Placing s h m c → {u v x y k : ℕ} → c ≡ chosen u v x y k → Placed s h m (range u v) (range x y) k × (k ≤ 4096)
   placed_there (at {t = t} {b = b} {w = w} p n) {u} {v} {x} {y} {k} e =
-      let a : t.from ≡ u = cc in
-      let c : t.to ≡ v = cc in
-      let d : b.from ≡ x = cc in
-      let f : b.to ≡ y = cc in
-      let g : w ≡ k = cc in
+      let same = same_chosen e in
+      let a : t.from ≡ u = same.0 in
+      let c : t.to ≡ v = same.1 in
+      let d : b.from ≡ x = same.2 in
+      let f : b.to ≡ y = same.3 in
+      let g : w ≡ k = same.4 in
       (subst (λ (i : ℕ). Placed s h m (range u v) (range x y) i) g (moved a c d f p), subst (λ (i : ℕ). i ≤ 4096) g n)
     where
       moved : {t₀ t₁ b₀ b₁ u v x y w : ℕ} → t₀ ≡ u → t₁ ≡ v → b₀ ≡ x → b₁ ≡ y → Placed s h m (range t₀ t₁) (range b₀ b₁) w → Placed s h m (range u v) (range x y) w
@@ -57,11 +59,11 @@ module _ {s : List ℕ} (bytes : Bytes s) {h : record_of.Header} (says : record_
   placed_there (wide p n) e = clash (cc)
   placed_there (nowhere u z) e = clash (cc)
 
-  there : {u v x y k : ℕ} → Choice s (header_record h) (which_of m) (chosen.Model u v x y k) → Placed s h m (range u v) (range x y) k × (k ≤ 4096)
+  there : {u v x y k : ℕ} → Choice s (header_record h) (which_of m) (chosen u v x y k) → Placed s h m (range u v) (range x y) k × (k ≤ 4096)
   there c = placed_there (choice-placed s h says m c) refl
 
   -- one that was not
-  unchosen : {c : Chosen} → Placing s h m c → {z : Refusal} → c ≡ chosen.Refused z → None z
+  unchosen : {c : Result Chosen Refusal} → Placing s h m c → {z : Refusal} → c ≡ Err z → None z
   unchosen (at p n) e = clash (cc)
   unchosen (wide p n) {z} e = let g : refusal.Limit ≡ z = cc in subst None g (NoModel.placed p (Unread.wide n))
   unchosen (nowhere {z = y} u (a, b)) {z} e =
@@ -79,7 +81,7 @@ module _ {s : List ℕ} (bytes : Bytes s) {h : record_of.Header} (says : record_
 
   module _ (L : Tables) where
     -- what is refused before the room is looked at
-    none : {z : Refusal} → planned s (header_record h) (which_of m) ≡ planned.Refused z → NotLoaded s (header_record h) (which_of m) L z → None z
+    none : {z : Refusal} → planned s (header_record h) (which_of m) ≡ Err z → NotLoaded s (header_record h) (which_of m) L z → None z
     unfolding header_record
     none e (code.not_chosen c) = unchosen (choice-placed s h says m c) refl
     none e (code.text_outside c n) = let p = there c in NoModel.placed p.0 (Unread.text_outside p.1 (outside n))
@@ -97,5 +99,5 @@ module _ {s : List ℕ} (bytes : Bytes s) {h : record_of.Header} (says : record_
   short : length s < 2 ^ 63
   short = let l = says.fits in omega arith
 
-  pub no_model : {z : Refusal} → planned s (header_record h) (which_of m) ≡ planned.Refused z → None z × (number_of z ≤ 19)
+  pub no_model : {z : Refusal} → planned s (header_record h) (which_of m) ≡ Err z → None z × (number_of z ≤ 19)
   no_model {z} e = (none nothing e (needs_not s (header_record h) (which_of m) short bytes.below (record_arrays h) nothing e), subst Before e (planned_before s (header_record h) (which_of m)))

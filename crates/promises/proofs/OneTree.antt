@@ -25,9 +25,7 @@ use Rattle.tree_body.specs.Trees.{tree_of}
 use Rattle.load_choose.specs.declared.Which.{Which}
 use Rattle.load_plan.specs.Plans.{data_of, planned}
 use Rattle.load_plan.specs.declared.Plan.{Plan}
-use Rattle.load_plan.specs.declared.Planned.TheVariants.{Model}
 use Rattle.load_model.specs.Load.{Tables, After}
-use Rattle.load_model.specs.declared.Loaded.{Loaded}
 use Rattle.load_shared.specs.Beside.{rows_of, room_by}
 use Rattle.trail_load.specs.Load.{tree_beside}
 use Rattle.face_model.specs.declared.Rows.{Rows}
@@ -47,6 +45,9 @@ use Rattle.shown_one.proofs.Beside.{BesideAsFull, beside_as_full}
 use Rattle.promises.specs.Opening.{record_words}
 use Rattle.promises.proofs.Plans.{plan_said}
 use Rattle.promises.proofs.Asked.{which_number, record_judged}
+use Rattle.load_model.specs.declared.Loaded.{Loaded}
+use Rattle.error.specs.declared.Refusal.{Refusal}
+use Rattle.std.specs.Prelude.{Ok, Result}
 
 -- a slice that is long enough is not too short
 short : {a b c : ℕ} → (a < 8) ⊎ ((b < 5) ⊎ (c < 5)) → 8 ≤ a → 5 ≤ b → 5 ≤ c → ⊥
@@ -67,7 +68,7 @@ module _ {s : List ℕ} (bytes : Bytes s) {h : record_of.Header} (says : record_
   within = let l = says.fits in omega arith
 
   -- the text of a plan
-  text_of : (p : Plan) (e : Model p ≡ planned s (header_record h) (which_of m)) → TextOf s h m (plan_said bytes says m p e).text (plan_said bytes says m p e).layout
+  text_of : (p : Plan) (e : Ok p ≡ planned s (header_record h) (which_of m)) → TextOf s h m (plan_said bytes says m p e).text (plan_said bytes says m p e).layout
   text_of p e =
       let w = plan_said bytes says m p e in
       record { tree = w.text_at; block = w.block_range; width = p.width; placed = w.placed; inside = w.text_inside; says = w.text_says; natural = w.natural }
@@ -122,7 +123,7 @@ module _ {s : List ℕ} (bytes : Bytes s) {h : record_of.Header} (says : record_
             after = Y;
             stored = D;
             tables = u.1 ∙ ap (λ (o : Filled). o.tables) v;
-            zero = e ∙ ap (λ (o : Rows). o.number) y ∙ ap (λ (o : After). (rows_by o.answer).number) D.placed ∙ ap (λ (o : Loaded). (rows_by o).number) D.stored.counts;
+            zero = e ∙ ap (λ (o : Rows). o.number) y ∙ ap (λ (o : After). (rows_by o.answer).number) D.placed ∙ ap (λ (o : Result Loaded Refusal). (rows_by o).number) D.stored.counts;
             bounds = f ∙ ap (λ (o : Rows). held_left o held) y;
             told = g ∙ ap (λ (o : Rows). sets out 0 (rows_numbers o)) y;
           }

@@ -19,21 +19,13 @@ use Rattle.head_de.proofs.Sound.{Bytes}
 use Rattle.tree_survey.specs.Said.{said_patterns, said_tree_records, said_tree_lines}
 use Rattle.pdf_widen.specs.Widening.{widen_of}
 use Rattle.pdf_blocks.specs.Values.{words_at, values_at, block_at}
-use Rattle.pdf_blocks.specs.declared.Block.{Block}
-use Rattle.pdf_blocks.specs.declared.Block.TheVariants as fitting
 use Rattle.pdf_blocks.proofs.Joined.{Small, fits_block}
 use Rattle.load_choose.specs.Chosen.{chosen_of}
 use Rattle.load_range.specs.Ranges.{within_of}
-use Rattle.load_choose.specs.declared.Chosen.{Chosen}
-use Rattle.load_range.specs.declared.Bounds.{Bounds}
-use Rattle.load_range.specs.declared.Bounds.TheVariants as bounds
 use Rattle.load_choose.proofs.Joined.{chosen_so}
 use Rattle.load_plan.specs.Plans as plans
 use Rattle.load_plan.specs.Plans.{text_of, with_entries, entries_for, entries_of, plan_for, block_in, block_of, plan_in, plan_of, planned_for, planned}
-use Rattle.load_plan.specs.declared.Text.{Text as Counted}
-use Rattle.load_plan.specs.declared.Text.TheVariants as counted
 use Rattle.load_plan.specs.declared.Plan.{Plan}
-use Rattle.load_plan.specs.declared.Planned.TheVariants.{Model, Refused}
 use Rattle.load_plan.proofs.Laws.{Was, was, needs_sound}
 use Rattle.load_model.proofs.Laws.{length_values}
 use Rattle.written.specs.Models as models
@@ -42,6 +34,11 @@ use Rattle.shown_models.proofs.Chosen.{record_arrays, data_is, which_of, Placing
 use Rattle.shown_load.proofs.Refused.{within_is}
 use Rattle.shown_load.proofs.Texts as texts
 use Rattle.shown_load.proofs.Texts.{small_take, small_drop}
+use Rattle.load_range.specs.declared.Bounds.{Bounds}
+use Rattle.load_plan.specs.declared.Text.{Text as Counted}
+use Rattle.load_choose.specs.declared.Chosen.{Chosen}
+use Rattle.error.specs.declared.Refusal.{Refusal}
+use Rattle.std.specs.Prelude.{Err, None, Ok, Some, Option, Result}
 
 -- ---- a plan stands in the ranges that were chosen
 
@@ -58,21 +55,22 @@ clash : {A : Type 0} → ◌≡◌ {A = ℕ} 0 1 → A
 clash e = absurd (omega arith)
 
 module _ (d : List ℕ) (u v x y k : ℕ) (p : Plan) where
-  entries_where : (z : List ℕ) (o : Plan) → Model p ≡ entries_of z o → (n : ℕ) × (p ≡ with_entries o n)
+  entries_where : (z : List ℕ) (o : Plan) → Ok p ≡ entries_of z o → (n : ℕ) × (p ≡ with_entries o n)
   unfolding entries_of
   entries_where z o h = go (block_at o.trees o.width z o.block) h
     where
-      go : (b : Block) → Model p ≡ entries_for o b → (n : ℕ) × (p ≡ with_entries o n)
-      go (fitting.Fits n) h = (n, (let e : p ≡ with_entries o n = cc in e))
-      go fitting.Wrong h = clash (cc)
+      go : (b : Option ℕ) → Ok p ≡ entries_for o b → (n : ℕ) × (p ≡ with_entries o n)
+      go (Some n) h = (n, (let e : p ≡ with_entries o n = cc in e))
+      go None h = clash (cc)
 
-  plan_where : Model p ≡ plan_of d u v x y k → Where d p u v x y k
+  plan_where : Ok p ≡ plan_of d u v x y k → Where d p u v x y k
   unfolding plan_of
   plan_where h = go (within_of u v (length d)) refl h
     where
-      in_block : (a e f q r n m l : ℕ) → (u ≤ v + 1) × (v + 1 ≤ length d) × (a ≡ u) × (e ≡ v + 1) → (b : Bounds) → within_of x y (length d) ≡ b → Model p ≡ block_in d a e f q r n m l k b → Where d p u v x y k
-      in_block a e f q r n m l i bounds.Outside j h = clash (cc)
-      in_block a e f q r n m l i (bounds.Inside b c) j h =
+      in_block : (a e f q r n m l : ℕ) → (u ≤ v + 1) × (v + 1 ≤ length d) × (a ≡ u) × (e ≡ v + 1) → (b : Option Bounds) → within_of x y (length d) ≡ b → Ok p ≡ block_in d a e f q r n m l k b → Where d p u v x y k
+      in_block a e f q r n m l i None j h = clash (cc)
+      in_block a e f q r n m l i (Some t) j h =
+          let record { start = b; end = c } = t in
           let w = within_is x y (length d) j in
           let z = entries_where (take c d) (plan_for a e f q r n m l k b c) h in
           record {
@@ -85,13 +83,13 @@ module _ (d : List ℕ) (u v x y k : ℕ) (p : Plan) where
             width = ap (λ (p : Plan). p.width) z.1;
           }
 
-      in_text : (a e : ℕ) → (u ≤ v + 1) × (v + 1 ≤ length d) × (a ≡ u) × (e ≡ v + 1) → (t : Counted) → Model p ≡ block_of d a e t x y k → Where d p u v x y k
-      in_text a e i (counted.Refused r) h = clash (cc)
-      in_text a e i (counted.Read f q r n m l) h = in_block a e f q r n m l i (within_of x y (length d)) refl h
+      in_text : (a e : ℕ) → (u ≤ v + 1) × (v + 1 ≤ length d) × (a ≡ u) × (e ≡ v + 1) → (t : Result Counted Refusal) → Ok p ≡ block_of d a e t x y k → Where d p u v x y k
+      in_text a e i (Err r) h = clash (cc)
+      in_text a e i (Ok t) h = let record { first = f; questions = q; patterns = r; trees = n; records = m; lines = l } = t in in_block a e f q r n m l i (within_of x y (length d)) refl h
 
-      go : (b : Bounds) → within_of u v (length d) ≡ b → Model p ≡ plan_in d x y k b → Where d p u v x y k
-      go bounds.Outside j h = clash (cc)
-      go (bounds.Inside a e) j h = in_text a e (within_is u v (length d) j) (text_of (take e d) a) h
+      go : (b : Option Bounds) → within_of u v (length d) ≡ b → Ok p ≡ plan_in d x y k b → Where d p u v x y k
+      go None j h = clash (cc)
+      go (Some b) j h = let record { start = a; end = e } = b in in_text a e (within_is u v (length d) j) (text_of (take e d) a) h
 
 -- ---- in the words of the record
 
@@ -126,7 +124,7 @@ module _ {s : List ℕ} (bytes : Bytes s) {h : record_of.Header} (says : record_
   D-small : Small (plans.data_of s (header_record h))
   D-small = small_take (header_record h).data_len (drop (header_record h).data_start s) (small_drop (header_record h).data_start s bytes.below)
 
-  module _ (p : Plan) (e : Model p ≡ planned s (header_record h) (which_of m)) where
+  module _ (p : Plan) (e : Ok p ≡ planned s (header_record h) (which_of m)) where
     abbrev D : List ℕ
     D = plans.data_of s (header_record h)
 
@@ -181,7 +179,7 @@ module _ {s : List ℕ} (bytes : Bytes s) {h : record_of.Header} (says : record_
               own_block = f.1;
             }
 
-        go : (c : Chosen) → Placing s h m c → Model p ≡ planned_for D c → PlanSaid s h m p
+        go : (c : Result Chosen Refusal) → Placing s h m c → Ok p ≡ planned_for D c → PlanSaid s h m p
         go c (at {t = t} {b = b} {w = k} q n) e = made t b k q n (plan_where D t.from t.to b.from b.to k p e)
         go c (wide q n) e = clash (cc)
         go c (nowhere u z) e = clash (cc)

@@ -10,14 +10,16 @@ use lib.Dec.{ltb, eqb}
 use lib.IntN.{ℤ, pos}
 use lib.ListN.{length, drop, replicate}
 use lib.Seq.{sets}
+use Rattle.error.specs.declared.Refusal.{Refusal}
+use Rattle.walk.specs.declared.Walked.{Walked}
+use Rattle.std.specs.declared.result.Result.{Result}
+use Rattle.std.specs.Prelude.{Ok, Err}
 use Rattle.written.specs.Depths.{DepthSaid}
 use Rattle.written_depth.proofs.Paths.{tree_depth_once}
 use Rattle.table_rows.specs.Rows.{tree_table, record_table}
 use Rattle.head_words.specs.Words.{flag_word}
 use Rattle.walk.specs.Walking.{walk_of}
 use Rattle.walk.specs.Answer.{outcome_of}
-use Rattle.walk.specs.declared.Walked.{Walked}
-use Rattle.walk.specs.declared.Walked.TheVariants as walked
 use Rattle.walk.proofs.Loaded.{walk_loaded}
 use Rattle.written.specs.Walks.{LoadedTree}
 use Rattle.walk_leaves.specs.Checks.{leaves_fit}
@@ -56,9 +58,9 @@ module _ (T R answers : List ℕ) where
   says_walk : (t : ℕ) (bytes : List ℕ) (most : ℕ) → WalkSays T R t bytes most (ended_of T R t bytes most).number (ended_of T R t bytes most).pdf (ended_of T R t bytes most).asked
   says_walk t bytes most = go (walk_of T R t bytes most) (walk_loaded T R t bytes most)
     where
-      go : (w : Walked) → LoadedTree bytes (tree_table T) (record_table R) t most (outcome_of w) → WalkSays T R t bytes most (ended_by w).number (ended_by w).pdf (ended_by w).asked
-      go (walked.Pdf n k) x = WalkSays.ended x
-      go (walked.Refused r) x = WalkSays.stopped x
+      go : (w : Result Walked Refusal) → LoadedTree bytes (tree_table T) (record_table R) t most (outcome_of w) → WalkSays T R t bytes most (ended_by w).number (ended_by w).pdf (ended_by w).asked
+      go (Ok r) x = WalkSays.ended x
+      go (Err r) x = WalkSays.stopped x
 
   job_done_lem : (j : Job) → JobDone T R answers j (job_done T R answers j)
   unfolding job_done

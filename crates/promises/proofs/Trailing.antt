@@ -8,6 +8,7 @@ use borrow.Author.Tests.{ltb-true, ltb-false, lt-ltb, le-ltb}
 use lib.Dec.{ltb}
 use lib.ListN.{length}
 use lib.Seq.{sets}
+use Rattle.std.specs.Prelude.{Result, Ok, Err, ⊤}
 use Rattle.written.specs.Record.{Header, Says}
 use Rattle.written.specs.Faults.{Refused}
 use Rattle.written.specs.Trailer.{Trailer, Writes, Finds}
@@ -15,13 +16,12 @@ use Rattle.written.proofs.OneFile.{says_one}
 use Rattle.written_apart.proofs.ApartFile.{refused_one, says_never}
 use Rattle.written_trailer.proofs.Trailing.{writes_once, finds_once, written_read}
 use Rattle.written_trailer.proofs.TrailerExactly.{refused_nothing, writes_zero}
+use Rattle.error.specs.declared.Refusal.{Refusal}
 use Rattle.head_record.specs.Record.{header_record}
 use Rattle.head_words.specs.Words.{header_words}
 use Rattle.head_de.proofs.Sound.{Bytes}
 use Rattle.head_open.specs.Open.{open_of, refused_with}
 use Rattle.head_open.specs.declared.Opened.{Opened}
-use Rattle.head_lines.specs.declared.Verdict.{Verdict}
-use Rattle.head_lines.specs.declared.Verdict.TheVariants as verdict
 use Rattle.face_open.specs.Answers.{open_words_by, open_words}
 use Rattle.face_trail.specs.Answers.{trailer_said, trailer_left, trailed_said}
 use Rattle.face_trail.specs.declared.Written.{Written}
@@ -43,9 +43,9 @@ module _ (s w : List ℕ) where
   unfolding open_words
   words_few l = go (open_of s).verdict
     where
-      go : (v : Verdict) → open_words_by w (open_of s).header v ≡ w
-      go verdict.Accepted = ap (λ (b : Bool). cond b w (sets w 0 (header_words (open_of s).header))) (lt-ltb (length w) 647 l)
-      go (verdict.Refused r) = refl
+      go : (v : Result ⊤ Refusal) → open_words_by w (open_of s).header v ≡ w
+      go (Ok _) = ap (λ (b : Bool). cond b w (sets w 0 (header_words (open_of s).header))) (lt-ltb (length w) 647 l)
+      go (Err r) = refl
 
   module _ (bytes : Bytes s) where
     words_refused : {n p : ℕ} → Refused s n p → open_words s w ≡ w

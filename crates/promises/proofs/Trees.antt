@@ -23,11 +23,7 @@ use Rattle.head_record.specs.Record.{header_record}
 use Rattle.head_de.proofs.Sound.{Bytes}
 use Rattle.head_words.specs.Words.{header_at}
 use Rattle.load_plan.specs.Plans.{data_of}
-use Rattle.load_plan.specs.declared.Planned.{Planned}
-use Rattle.load_plan.specs.declared.Planned.TheVariants as plan
 use Rattle.load_model.specs.Load.{Tables, After, untouched as lent_as_before}
-use Rattle.load_model.specs.declared.Loaded.{Loaded}
-use Rattle.load_model.specs.declared.Loaded.TheVariants as loaded
 use Rattle.load_shared.specs.Beside.{rows_of, room_by}
 use Rattle.trail_plan.specs.Plans.{tree_planned}
 use Rattle.trail_load.specs.Load.{tree_placed_in, tree_beside_for, tree_beside}
@@ -51,6 +47,9 @@ use Rattle.promises.specs.Trailing.{AfterTrailed}
 use Rattle.promises.proofs.Moved.{moved₃}
 use Rattle.promises.proofs.Trailing.{trailed_kept}
 use Rattle.promises.proofs.OneTree.{within, tree_words_said, trailed_reaches, CallAsFull, call_as_full, P}
+use Rattle.load_model.specs.declared.Loaded.{Loaded}
+use Rattle.load_plan.specs.declared.Plan.{Plan}
+use Rattle.std.specs.Prelude.{Err, Ok, Result}
 
 -- ---- a file whose trailer was found
 
@@ -82,14 +81,14 @@ module _ {s : List ℕ} (bytes : Bytes s) {h : record_of.Header} (says : record_
     unfolding tree_beside
     room_there e = go (room_by (P bytes says m K i j) other T) refl
       where
-        planned_so : plan.Model (P bytes says m K i j) ≡ tree_planned s (header_record h) (which_of m) (models.model_number m) k
+        planned_so : Ok (P bytes says m K i j) ≡ tree_planned s (header_record h) (which_of m) (models.model_number m) k
         planned_so = tree_planned_lem s (header_record h) (which_of m) K.chose i j (S-short s (header_record h) (which_of m) (within bytes says m) K.chose) (trailed_reaches bytes says m K t)
 
         no_room : room_by (P bytes says m K i j) other T ≡ false → ⊥
         no_room f =
-            let z : (rows_by (loaded.Refused refusal.Room)).number ≡ 0 =
+            let z : (rows_by (Err refusal.Room)).number ≡ 0 =
             sym (ap (λ (b : Bool). (rows_by (cond b (tree_placed_in (side_at d) (data_of s (header_record h)) k (P bytes says m K i j) T) (lent_as_before refusal.Room T)).answer).number) f)
-            ∙ ap (λ (o : Planned). (rows_by (tree_beside_for (side_at d) other (data_of s (header_record h)) k o T).answer).number) planned_so ∙ e in
+            ∙ ap (λ (o : Result Plan Refusal). (rows_by (tree_beside_for (side_at d) other (data_of s (header_record h)) k o T).answer).number) planned_so ∙ e in
             omega (arith, z)
 
         go : (b : Bool) → room_by (P bytes says m K i j) other T ≡ b → b ≡ true
@@ -148,13 +147,13 @@ module _ (s w : List ℕ) (n k d : ℕ) (held other : List ℕ) (T : Tables) whe
   refused_so : (j : ℕ) → ¬ (j ≡ 0) → ByNumber (untouched j T)
   refused_so j e = subst (λ (b : List ℕ). TreeByNumber d held T j b T) (sym (bounds_kept (no_rows j 0 0) held e)) (TreeByNumber.as_before {r = j})
 
-  loaded_so : (A : After) → ((z : Refusal) → A.answer ≡ loaded.Refused z → Refuses (side_at d) T z A.tables) → ByNumber (filled_by A)
+  loaded_so : (A : After) → ((z : Refusal) → A.answer ≡ Err z → Refuses (side_at d) T z A.tables) → ByNumber (filled_by A)
   loaded_so A f = go A.answer refl
     where
-      go : (l : Loaded) → A.answer ≡ l → TreeByNumber d held T (rows_by l).number (held_left (rows_by l) held) A.tables
-      go (loaded.Done a b c e g) q = TreeByNumber.done
-      go (loaded.Refused z) q =
-          subst (λ (b : List ℕ). TreeByNumber d held T (number_of z) b A.tables) (sym (bounds_kept (rows_by (loaded.Refused z)) held (λ e. let p = above_zero z in omega (arith, e, p))))
+      go : (l : Result Loaded Refusal) → A.answer ≡ l → TreeByNumber d held T (rows_by l).number (held_left (rows_by l) held) A.tables
+      go (Ok l) q = TreeByNumber.done
+      go (Err z) q =
+          subst (λ (b : List ℕ). TreeByNumber d held T (number_of z) b A.tables) (sym (bounds_kept (rows_by (Err z)) held (λ e. let p = above_zero z in omega (arith, e, p))))
           (TreeByNumber.linking (f z q))
 
   by_words : ByNumber (tree_filled_of s w n k (side_at d) (held_at other) T)

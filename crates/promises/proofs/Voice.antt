@@ -20,11 +20,7 @@ use Rattle.head_record.specs.Record.{header_record}
 use Rattle.head_de.proofs.Sound.{Bytes}
 use Rattle.load_plan.specs.Plans as plans
 use Rattle.load_plan.specs.Plans.{planned}
-use Rattle.load_plan.specs.declared.Planned.{Planned}
-use Rattle.load_plan.specs.declared.Planned.TheVariants as plan
 use Rattle.load_model.specs.Load.{Tables as Lent, After, untouched}
-use Rattle.load_model.specs.declared.Loaded.{Loaded}
-use Rattle.load_model.specs.declared.Loaded.TheVariants as ending
 use Rattle.load_apart.specs.Loads as apart
 use Rattle.load_apart.proofs.Apart.{unload_is}
 use Rattle.load_shared.specs.Beside.{rows_of, with_work, beside_for, beside_of}
@@ -33,14 +29,10 @@ use Rattle.load_bounds.specs.declared.Held.{Held as Bounds}
 use Rattle.trail_voice.specs.Voice.{which_number}
 use Rattle.house_own.specs.Own.{rule_in}
 use Rattle.house_step.specs.Steps as steps
-use Rattle.house_step.specs.Steps.{ruled_as, step_for, step_of}
-use Rattle.house_step.specs.declared.Step.{Step}
-use Rattle.house_step.specs.declared.Step.TheVariants as step
+use Rattle.house_step.specs.Steps.{judged_as, ruled_as, step_for, step_of}
 use Rattle.house_voice.specs.Voice as voice
-use Rattle.house_voice.specs.Voice.{broken, first_of, voice_on, voice_from}
+use Rattle.house_voice.specs.Voice.{one_refused, all_judged, broken, first_of, voice_on, voice_from}
 use Rattle.house_voice.specs.declared.Broken.{Broken}
-use Rattle.house_voice.specs.declared.VoiceJudged.{VoiceJudged}
-use Rattle.house_voice.specs.declared.VoiceJudged.TheVariants as verdict
 use Rattle.shown_models.proofs.Chosen.{which_of}
 use Rattle.shown_house.proofs.Rules.{Judged}
 use Rattle.shown_house.proofs.Rules as rules
@@ -48,6 +40,12 @@ use Rattle.promises.specs.Sharing.{needed}
 use Rattle.promises.specs.Housing.{emptied, Loads, LoadRefused, InTurn, Stops}
 use Rattle.promises.proofs.Turns.{loads_stand}
 use Rattle.promises.proofs.Judging.{turn_done, turn_refused}
+use Rattle.load_model.specs.declared.Loaded.{Loaded}
+use Rattle.house_voice.specs.declared.ModelRefused.{ModelRefused}
+use Rattle.load_plan.specs.declared.Plan.{Plan}
+use Rattle.house_step.specs.declared.Judged.{Judged as Stepped}
+use Rattle.house_voice.specs.declared.VoiceJudged.{VoiceJudged}
+use Rattle.std.specs.Prelude.{Err, Ok, Result}
 
 -- 0 duration, 2i + 1 stream i, 2i + 2 its GV
 number_is : (m : models.Model) → which_number (which_of m) ≡ model_number m
@@ -125,40 +123,40 @@ module _ {s : List ℕ} (bytes : Bytes s) {h : record_of.Header} (says : record_
 
   -- ---- one step
 
-  data StepSaid (m : models.Model) (t : Lent) : Step → Lent → Type 0 where
-    judged : {y : ModelSaid} {n : ℕ} {l : Bounds} {u : Lent} → Loads x s h other m t y u → held_of l ≡ needed y → Judged y n → StepSaid m t (step.Judged n l) u
-    refused : {z : Refusal} {u : Lent} → LoadRefused x s h other m t (number_of z) (place_of z) (line_of z) u → StepSaid m t (step.Refused z) u
+  data StepSaid (m : models.Model) (t : Lent) : Result Stepped Refusal → Lent → Type 0 where
+    judged : {y : ModelSaid} {n : ℕ} {l : Bounds} {u : Lent} → Loads x s h other m t y u → held_of l ≡ needed y → Judged y n → StepSaid m t (judged_as n l) u
+    refused : {z : Refusal} {u : Lent} → LoadRefused x s h other m t (number_of z) (place_of z) (line_of z) u → StepSaid m t (Err z) u
 
   -- what the task holds is unloaded
   emptied_so : (mine : Held) (t : Lent) → Stand (rows_of t) mine other → steps.emptied x mine other t ≡ emptied x mine t
   emptied_so mine t stand = ap (λ (r : apart.After Refusal). with_work r.tables t.work) (unload_is Refusal x mine other (rows_of t) stand)
 
   module _ (m : models.Model) (t : Lent) where
-    abbrev P : Planned
+    abbrev P : Result Plan Refusal
     P = planned s (header_record h) (which_of m)
 
     planned_said : StepSaid m t (step_for x other D P t).answer (step_for x other D P t).tables
     unfolding beside_of
     planned_said = go P refl
       where
-        go : (o : Planned) → P ≡ o → StepSaid m t (step_for x other D o t).answer (step_for x other D o t).tables
-        go (plan.Refused z) q =
-            let e : beside_of x s (header_record h) (which_of m) other t ≡ untouched z t = ap (λ (o : Planned). beside_for x other D o t) q in
+        go : (o : Result Plan Refusal) → P ≡ o → StepSaid m t (step_for x other D o t).answer (step_for x other D o t).tables
+        go (Err z) q =
+            let e : beside_of x s (header_record h) (which_of m) other t ≡ untouched z t = ap (λ (o : Result Plan Refusal). beside_for x other D o t) q in
             StepSaid.refused (subst (λ (a : After). LoadRefused x s h other m t (number_of z) (place_of z) (line_of z) a.tables) e (turn_refused bytes says m x other t (ap (λ (a : After). a.answer) e)))
-        go (plan.Model p) q = by_answer F.answer refl
+        go (Ok p) q = by_answer F.answer refl
           where
             F : After
-            F = beside_for x other D (plan.Model p) t
+            F = beside_for x other D (Ok p) t
 
             e : beside_of x s (header_record h) (which_of m) other t ≡ F
-            e = ap (λ (o : Planned). beside_for x other D o t) q
+            e = ap (λ (o : Result Plan Refusal). beside_for x other D o t) q
 
-            by_answer : (a : Loaded) → F.answer ≡ a → StepSaid m t (ruled_as x D p F.tables a) F.tables
-            by_answer (ending.Done n₁ n₂ n₃ n₄ n₅) k =
+            by_answer : (a : Result Loaded Refusal) → F.answer ≡ a → StepSaid m t (ruled_as x D p F.tables a) F.tables
+            by_answer (Ok l) k =
                 let r = turn_done bytes says m x other t p (sym q) (ap (λ (a : After). a.answer) e ∙ k) in
                 StepSaid.judged (subst (λ (a : After). Loads x s h other m t r.model a.tables) e r.loads) r.need
                 (subst (λ (a : After). Judged r.model (rule_in x D p a.tables.questions a.tables.trees a.tables.values)) e r.rule)
-            by_answer (ending.Refused z) k =
+            by_answer (Err z) k =
                 StepSaid.refused (subst (λ (a : After). LoadRefused x s h other m t (number_of z) (place_of z) (line_of z) a.tables) e (turn_refused bytes says m x other t (ap (λ (a : After). a.answer) e ∙ k)))
 
   step_said : (m : models.Model) (mine : Held) (t : Lent) → Stand (rows_of t) mine other
@@ -169,10 +167,10 @@ module _ {s : List ℕ} (bytes : Bytes s) {h : record_of.Header} (says : record_
 
   -- ---- all models
 
-  pub data VoiceSaid (ms : List models.Model) (mine : Held) (t : Lent) (b : Broken) : VoiceJudged → Lent → Type 0 where
+  pub data VoiceSaid (ms : List models.Model) (mine : Held) (t : Lent) (b : Broken) : Result VoiceJudged ModelRefused → Lent → Type 0 where
     judged : {ys : List ModelSaid} {mine₁ : Held} {u : Lent} {c : Broken} {l : Bounds} → InTurn x s h other ms mine t ys mine₁ u → held_of l ≡ mine₁ → Keeps ms ys b c
-        → VoiceSaid ms mine t b (verdict.Judged c l) u
-    refused : {z : Refusal} {k : ℕ} {u : Lent} → Stops x s h other ms mine t (number_of z) (place_of z) (line_of z) k u → VoiceSaid ms mine t b (verdict.Refused z k) u
+        → VoiceSaid ms mine t b (all_judged c l) u
+    refused : {z : Refusal} {k : ℕ} {u : Lent} → Stops x s h other ms mine t (number_of z) (place_of z) (line_of z) k u → VoiceSaid ms mine t b (one_refused z k) u
 
   pub voice_said : (ms : List models.Model) (l : Bounds) (t : Lent) (b : Broken) → Stand (rows_of t) (held_of l) other
       → VoiceSaid ms (held_of l) t b (voice_from x s (header_record h) other (map which_of ms) b l t).answer (voice_from x s (header_record h) other (map which_of ms) b l t).tables
@@ -186,14 +184,14 @@ module _ {s : List ℕ} (bytes : Bytes s) {h : record_of.Header} (says : record_
       Rest : Type 0
       Rest = (i : Bounds) (u : Lent) (c : Broken) → Stand (rows_of u) (held_of i) other → VoiceSaid ms (held_of i) u c (F c i u).answer (F c i u).tables
 
-      behind : {y : ModelSaid} {u : Lent} {n : ℕ} {i : Bounds} → Loads x s h other m (emptied x (held_of l) t) y u → held_of i ≡ needed y → Judged y n → {v : VoiceJudged} {w : Lent}
+      behind : {y : ModelSaid} {u : Lent} {n : ℕ} {i : Bounds} → Loads x s h other m (emptied x (held_of l) t) y u → held_of i ≡ needed y → Judged y n → {v : Result VoiceJudged ModelRefused} {w : Lent}
           → VoiceSaid ms (held_of i) u (first_of b n (which_number (which_of m))) v w → VoiceSaid (m ∷ ms) (held_of l) t b v w
       behind {y} {u} {n} {i} a e j (VoiceSaid.judged {ys = ys} {mine₁ = mine₁} {u = w} {c = c} r f k) =
           VoiceSaid.judged (InTurn.next a (subst (λ (o : Held). InTurn x s h other ms o u ys mine₁ w) e r)) f (keeps_next b j (subst (λ (o : ℕ). Keeps ms ys (first_of b n o) c) (number_is m) k))
       behind {y} {u} {i = i} a e j (VoiceSaid.refused {z = z} {k = k} {u = w} r) =
           VoiceSaid.refused (Stops.later a (subst (λ (o : Held). Stops x s h other ms o u (number_of z) (place_of z) (line_of z) k w) e r))
 
-      go : {a : Step} {u : Lent} → StepSaid m (emptied x (held_of l) t) a u → Rest → VoiceSaid (m ∷ ms) (held_of l) t b (voice_on F (which_of m) b u a).answer (voice_on F (which_of m) b u a).tables
+      go : {a : Result Stepped Refusal} {u : Lent} → StepSaid m (emptied x (held_of l) t) a u → Rest → VoiceSaid (m ∷ ms) (held_of l) t b (voice_on F (which_of m) b u a).answer (voice_on F (which_of m) b u a).tables
       go {u = u} (StepSaid.judged {n = n} {l = i} a e j) rest =
           behind a e j (rest i u (first_of b n (which_number (which_of m))) (subst (λ (o : Held). Stand (rows_of u) o other) (sym e) (loads_stand a)))
       go {u = u} (StepSaid.refused {z = z} a) rest =

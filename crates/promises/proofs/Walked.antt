@@ -6,6 +6,10 @@ use Prim.Native.Nat.{ℕ, ◌*◌, ◌≤◌}
 use native.Mathlib.Omega.{arith}
 use lib.ListN.{length, get_or, take}
 use lib.Seq.{sets}
+use Rattle.error.specs.declared.Refusal.{Refusal}
+use Rattle.walk.specs.declared.Walked.{Walked}
+use Rattle.std.specs.declared.result.Result.{Result}
+use Rattle.std.specs.Prelude.{Ok, Err}
 use Rattle.written.specs.Record as record_of
 use Rattle.written.specs.Said.{Layout, Question, Tree}
 use Rattle.written.specs.Linking.{Nth, here, there, Row, Records}
@@ -23,8 +27,6 @@ use Rattle.pdf_blocks.proofs.Joined.{length_rows}
 use Rattle.load_model.specs.Load.{Tables}
 use Rattle.walk.specs.Walking.{walk_of}
 use Rattle.walk.specs.Answer.{Answer, answer_of, ending_answer}
-use Rattle.walk.specs.declared.Walked.{Walked}
-use Rattle.walk.specs.declared.Walked.TheVariants as walked
 use Rattle.walk.proofs.Demand.{flat_walk}
 use Rattle.walk.proofs.Loaded.{walk_loaded}
 use Rattle.face_model.specs.Answers.{ended_by}
@@ -45,10 +47,10 @@ use Rattle.promises.proofs.Walking.{of_walk, walk_kept, after_walk_once}
 numbers_of : Answer → List ℕ
 numbers_of a = a.number ∷ a.pdf ∷ a.asked ∷ []
 
-as_ended : (w : Walked) → ended_numbers (ended_by w) ≡ numbers_of (answer_of w)
+as_ended : (w : Result Walked Refusal) → ended_numbers (ended_by w) ≡ numbers_of (answer_of w)
 unfolding numbers_of
-as_ended (walked.Pdf n k) = refl
-as_ended (walked.Refused r) = refl
+as_ended (Ok r) = refl
+as_ended (Err r) = refl
 
 as_ending : (e : Ending) → numbers_of (ending_answer e) ≡ ending_numbers e
 unfolding numbers_of

@@ -8,12 +8,14 @@ use borrow.Author.Tests.{ltb-true, ltb-false}
 use lib.Dec.{ltb}
 use lib.ListN.{length}
 use lib.Seq.{sets}
+use Rattle.error.specs.declared.Refusal.{Refusal}
+use Rattle.walk.specs.declared.Walked.{Walked}
+use Rattle.std.specs.declared.result.Result.{Result}
+use Rattle.std.specs.Prelude.{Ok, Err}
 use Rattle.written.specs.Walks.{Outcome, LoadedTree}
 use Rattle.table_rows.specs.Rows.{tree_table, record_table}
 use Rattle.walk.specs.Walking.{walk_of}
 use Rattle.walk.specs.Answer.{outcome_of}
-use Rattle.walk.specs.declared.Walked.{Walked}
-use Rattle.walk.specs.declared.Walked.TheVariants as walked
 use Rattle.walk.proofs.Loaded.{walk_loaded, loaded_walk}
 use Rattle.face_model.specs.Answers.{ended_by}
 use Rattle.larsavim.specs.Face.{answered, written, ended_numbers, Walks}
@@ -21,10 +23,10 @@ use Rattle.promises.proofs.Moved.{moved₂}
 use Rattle.promises.specs.Walking.{AfterWalk, short_out, ended, stopped}
 
 module _ (T R : List ℕ) (t : ℕ) (bytes : List ℕ) (most : ℕ) (out : List ℕ) where
-  pub of_walk : 3 ≤ length out → (w : Walked) → LoadedTree bytes (tree_table T) (record_table R) t most (outcome_of w)
+  pub of_walk : 3 ≤ length out → (w : Result Walked Refusal) → LoadedTree bytes (tree_table T) (record_table R) t most (outcome_of w)
       → AfterWalk T R t bytes most out (ended_by w).number (sets out 0 (ended_numbers (ended_by w)))
-  of_walk l (walked.Pdf n k) x = ended l x
-  of_walk l (walked.Refused r) x = stopped l x
+  of_walk l (Ok r) x = ended l x
+  of_walk l (Err r) x = stopped l x
 
   pub walk_kept : {r : ℕ} {o : List ℕ} → Walks T R t bytes most out r o → AfterWalk T R t bytes most out r o
   unfolding answered written

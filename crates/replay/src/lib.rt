@@ -9,8 +9,8 @@ ghost use Rattle.replay.specs.Counts.{IsPrefixLen, StandsInFront};
 
 use std::io;
 use std::io::{Read, Write};
-use text_numbers::{Signed, Unsigned, parse_signed, parse_unsigned};
-use text_spaces::{Place, past_byte};
+use text_numbers::{parse_signed, parse_unsigned};
+use text_spaces::past_byte;
 
 // Where the next of a line's numbers stands, and whether all so far were as stored.
 #[derive(Clone, Copy)]
@@ -31,15 +31,14 @@ pub fn number(c: Stored, s: &[u8], want: u64) -> Stored {
     let at = c.at;
     let same = c.same;
     match past_byte(s, at, b' ') {
-        Place::At(start) => match parse_unsigned(s, start) {
-            Unsigned::Number { value, next } => Stored {
-                at: next,
-                same: same && value == want,
+        Some(start) => match parse_unsigned(s, start) {
+            Ok(read) => Stored {
+                at: read.next,
+                same: same && read.value == want,
             },
-            Unsigned::TooLarge => other(c),
-            Unsigned::NoDigit => other(c),
+            Err(_) => other(c),
         },
-        Place::Nowhere => other(c),
+        None => other(c),
     }
 }
 
@@ -47,14 +46,14 @@ pub fn signed(c: Stored, s: &[u8], want: i64) -> Stored {
     let at = c.at;
     let same = c.same;
     match past_byte(s, at, b' ') {
-        Place::At(start) => match parse_signed(s, start) {
-            Signed::Number { value, next } => Stored {
-                at: next,
-                same: same && value == want,
+        Some(start) => match parse_signed(s, start) {
+            Some(read) => Stored {
+                at: read.next,
+                same: same && read.value == want,
             },
-            Signed::NoNumber => other(c),
+            None => other(c),
         },
-        Place::Nowhere => other(c),
+        None => other(c),
     }
 }
 
@@ -67,8 +66,8 @@ pub fn ended(c: Stored, s: &[u8]) -> bool {
     let at = c.at;
     let same = c.same;
     match past_byte(s, at, b'\n') {
-        Place::At(_) => same,
-        Place::Nowhere => false,
+        Some(_) => same,
+        None => false,
     }
 }
 
@@ -93,10 +92,10 @@ pub struct Text {
 
 pub fn decode(s: &[u8], from: usize, text: &mut [u8; 4096]) -> Text
     requires { from < length s.now }
+    ensures { result.len ≤ 4096 }
 {
     let mut i = from;
-    let mut n = 0;
-    while n < 4096 {
+    for n in 0..text.len() {
         if s.len() - i < 2 {
             return Text { len: n, at: i };
         }
@@ -104,31 +103,64 @@ pub fn decode(s: &[u8], from: usize, text: &mut [u8; 4096]) -> Text
             return Text { len: n, at: i };
         }
         text[n] = two(hex(s[i]), hex(s[i + 1]));
-        i = i + 2;
-        n = n + 1;
+        i += 2;
     }
-    Text { len: n, at: i }
+    Text {
+        len: text.len(),
+        at: i,
+    }
 }
 
 // The place past the next newline, or the end.
 pub fn past_line(s: &[u8], from: usize) -> usize
     requires { from < length s.now }
-    ensures { from < result }
+    ensures { (from < result) × (result ≤ length s.now) }
 {
-    let mut i = from;
-    while i < s.len() {
+    for i in from..s.len() {
         if s[i] == 10 {
             return i + 1;
         }
-        i = i + 1;
     }
-    i
+    s.len()
 }
 
 pub fn wrong(same: bool) -> usize
     ensures { result ≤ 1 }
 {
     if same { 0 } else { 1 }
+}
+
+// Whether `said` says of a line's text what is stored behind it: of the input, the place where that stands, and the text.
+fn replay_line<F: Fn(&[u8], usize, &[u8]) -> bool>(said: &F, s: &[u8], from: usize) -> bool
+    requires callable { F.IsAlwaysCallable said.now }
+    requires within { from < length s.now }
+{
+    let mut room = [0u8; 4096];
+    let text = decode(s, from, &mut room);
+    said(s, text.at, &room[..text.len])
+}
+
+// How many lines there are, and of how many of them something else is said than what is stored.
+#[derive(Clone, Copy)]
+pub struct Tally {
+    pub cases: usize,
+    pub differ: usize,
+}
+
+// Every line of an input.
+pub fn replay<F: Fn(&[u8], usize, &[u8]) -> bool>(said: &F, s: &[u8]) -> Tally
+    requires { F.IsAlwaysCallable said.now }
+    ensures { (result.differ ≤ result.cases) × (result.cases ≤ length s.now) }
+{
+    let mut at = 0;
+    let mut cases = 0;
+    let mut differ = 0;
+    while at < s.len() {
+        differ += wrong(replay_line(said, s, at));
+        cases += 1;
+        at = past_line(s, at);
+    }
+    Tally { cases, differ }
 }
 
 // Reads until the room is full or the input ends, and says how many bytes it put at the room's start. Before an error too, what was read stands there. A turn that goes on

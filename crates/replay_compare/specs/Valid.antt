@@ -1,8 +1,7 @@
 -- What Rust calls valid_up_to: the place of the first bad sequence, or the length.
-use Rattle.std.specs.Prelude.{ℕ}
-use Rattle.text_utf8.specs.declared.Answer.{Answer}
-use Rattle.text_utf8.specs.declared.Answer.TheVariants.{Valid, Bad}
+use Rattle.std.specs.declared.result.Result.{Result}
+use Rattle.std.specs.Prelude.{ℕ, Ok, Err}
 
-abbrev pub valid_up_to : ℕ → Answer → ℕ
-valid_up_to n Valid = n
-valid_up_to n (Bad i) = i
+abbrev pub valid_up_to : ℕ → Result Unit ℕ → ℕ
+valid_up_to n (Ok tt) = n
+valid_up_to n (Err i) = i

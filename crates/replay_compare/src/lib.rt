@@ -7,7 +7,7 @@ ghost use Rattle.text_utf8.specs.Check.{check_of};
 ghost use Rattle.replay_compare.specs.Valid.{valid_up_to};
 
 use pdf_widen::widen;
-use text_utf8::{Answer, check};
+use text_utf8::check;
 
 // The double that has the float's value, bit patterns both.
 #[unsafe(no_mangle)]
@@ -23,7 +23,7 @@ pub extern "C" fn larsavim_valid_up_to(s: &[u8]) -> usize
     ensures { result ≡ valid_up_to (length s.now) (check_of s.now) }
 {
     match check(s) {
-        Answer::Valid => s.len(),
-        Answer::Bad(at) => at,
+        Ok(()) => s.len(),
+        Err(at) => at,
     }
 }

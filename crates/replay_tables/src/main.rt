@@ -7,10 +7,12 @@
 ghost use Rattle.std.specs.Prelude.{◌≤◌};
 ghost use Rattle.replay.specs.Counts.{IsPrefixLen};
 
+use error::Refusal;
 use replay::{read_full, say};
 use std::io;
 use text_base::blank_end;
-use text_numbers::{Unsigned, parse_unsigned};
+use text_numbers::{NumberError, parse_unsigned};
+use text_parts::Read;
 use walk::{Walked, walk};
 use walk_leaves::leaves_fit;
 
@@ -38,9 +40,9 @@ struct Tally {
 
 fn word(s: &[u8], at: usize) -> Taken {
     match parse_unsigned(s, blank_end(s, at)) {
-        Unsigned::Number { value, next } => Taken { value, next },
-        Unsigned::TooLarge => Taken { value: 0, next: at },
-        Unsigned::NoDigit => Taken { value: 0, next: at },
+        Ok(Read { value, next }) => Taken { value, next },
+        Err(NumberError::TooLarge) => Taken { value: 0, next: at },
+        Err(NumberError::NoDigit) => Taken { value: 0, next: at },
     }
 }
 
@@ -61,12 +63,10 @@ fn fill(s: &[u8], at: usize, t: &mut [u64]) -> Filled
     let n = word(s, at);
     let count = at_most(n.value, t.len());
     let mut next = n.next;
-    let mut k = 0;
-    while k < count {
+    for k in 0..count {
         let w = word(s, next);
         t[k] = w.value;
         next = w.next;
-        k = k + 1;
     }
     Filled { count, next }
 }
@@ -81,12 +81,10 @@ fn fill_bytes(s: &[u8], at: usize, t: &mut [u8]) -> Filled
     let n = word(s, at);
     let count = at_most(n.value, t.len());
     let mut next = n.next;
-    let mut k = 0;
-    while k < count {
+    for k in 0..count {
         let w = word(s, next);
         t[k] = byte(w.value);
         next = w.next;
-        k = k + 1;
     }
     Filled { count, next }
 }
@@ -114,19 +112,21 @@ fn told(c: Tally, next: usize, same: bool) -> Tally {
 }
 
 // Whether a walk ended with these three numbers.
-fn ended(w: Walked, number: u64, pdf: u64, asked: u64) -> bool {
+fn ended(w: Result<Walked, Refusal>, number: u64, pdf: u64, asked: u64) -> bool {
     match w {
-        Walked::Pdf {
-            number: n,
-            asked: a,
-        } => {
+        Ok(
+            Walked {
+                number: n,
+                asked: a,
+            },
+        ) => {
             if number == 0 {
                 if pdf == n { asked == a } else { false }
             } else {
                 false
             }
         }
-        Walked::Refused(r) => {
+        Err(r) => {
             if number == r.number() {
                 if pdf == 0 { asked == 0 } else { false }
             } else {
@@ -155,15 +155,13 @@ fn one_walk(c: Tally, s: &[u8], trees: &[u64], records: &[u64]) -> Tally {
 
 fn walks(c: Tally, s: &[u8], trees: &[u64], records: &[u64]) -> Tally {
     let n = word(s, c.next);
-    let mut left = n.value;
     let mut c = Tally {
         next: n.next,
         given: c.given,
         differ: c.differ,
     };
-    while 0 < left {
+    for _ in 0..n.value {
         c = one_walk(c, s, trees, records);
-        left = left - 1;
     }
     c
 }
@@ -231,15 +229,13 @@ fn one_case(c: Tally, s: &[u8]) -> Tally {
 
 fn cases(s: &[u8]) -> Tally {
     let n = word(s, 0);
-    let mut left = n.value;
     let mut c = Tally {
         next: n.next,
         given: 0,
         differ: 0,
     };
-    while 0 < left {
+    for _ in 0..n.value {
         c = one_case(c, s);
-        left = left - 1;
     }
     c
 }

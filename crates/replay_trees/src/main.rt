@@ -3,21 +3,16 @@
 // Assumes that the lines fit its room, and a text 4,096 bytes; a line that doesn't differs.
 #![tactic(auto)]
 
-ghost use Rattle.std.specs.Prelude.{◌<◌, length};
-
-use replay::{
-    Stored, decode, ended, number, other, pair, past_line, read_full, say, signed, wrong,
-};
+use replay::{Stored, ended, number, other, pair, read_full, replay, say, signed};
 use std::io;
+use text_parts::{Read, Span};
 use tree_body::{TreeHead, TreeStep, after_tree, tree_head};
 use tree_line::{Line, LineStep, next_line};
-use tree_question::{
-    Item, PatternStep, QuestionHead, after_question, first_item, next_pattern, question_head,
-};
+use tree_question::{Item, PatternStep, after_question, first_item, next_pattern, question_head};
 use tree_reference::TreeIndex;
-use tree_survey::{Survey, survey_text};
+use tree_survey::{Survey, SurveyError, survey_text};
 use tree_survey_lines::{LineCount, count_lines};
-use tree_survey_questions::{Patterns, count_patterns};
+use tree_survey_questions::count_patterns;
 
 fn reference(c: Stored, s: &[u8], index: TreeIndex) -> Stored {
     match index {
@@ -79,11 +74,13 @@ fn one_question(b: Both, s: &[u8], text: &[u8]) -> Both {
     let at = b.at;
     let c = b.stored;
     match question_head(text, at) {
-        QuestionHead::Named { start, len, first } => match count_patterns(text, first) {
-            Patterns::Counted {
-                patterns: n,
-                next: _,
-            } => {
+        Some(
+            Read {
+                value: Span { start, len },
+                next: first,
+            },
+        ) => match count_patterns(text, first) {
+            Some(Read { value: n, next: _ }) => {
                 let head = Both {
                     at: first,
                     stored: number(pair(c, s, start, len), s, n as u64),
@@ -96,9 +93,9 @@ fn one_question(b: Both, s: &[u8], text: &[u8]) -> Both {
                     Item::Tree(next) => Both { at: next, stored },
                 }
             }
-            Patterns::Broken => broken(c),
+            None => broken(c),
         },
-        QuestionHead::NoQuestion => broken(c),
+        None => broken(c),
     }
 }
 
@@ -147,11 +144,12 @@ fn body(c: Stored, s: &[u8], text: &[u8], head: TreeHead) -> Both {
             stored: pair(signed(c, s, state), s, 1, 0),
         },
         TreeHead::Lines { state, first } => match count_lines(text, first) {
-            LineCount::Counted {
-                lines: n,
-                pdfs: _,
-                next: _,
-            } => lines(
+            Some(
+                Read {
+                    value: LineCount { lines: n, pdfs: _ },
+                    next: _,
+                },
+            ) => lines(
                 Both {
                     at: first,
                     stored: pair(signed(c, s, state), s, 1, n),
@@ -160,7 +158,7 @@ fn body(c: Stored, s: &[u8], text: &[u8], head: TreeHead) -> Both {
                 text,
                 n,
             ),
-            LineCount::Broken => broken(c),
+            None => broken(c),
         },
         TreeHead::NoTree => broken(c),
     }
@@ -198,13 +196,15 @@ fn first_place(text: &[u8]) -> usize {
 fn replay_text(s: &[u8], at: usize, text: &[u8]) -> bool {
     let c = Stored { at, same: true };
     match survey_text(text, 0) {
-        Survey::Counted {
-            questions: q,
-            patterns: p,
-            trees: t,
-            records: r,
-            lines: k,
-        } => {
+        Ok(
+            Survey {
+                questions: q,
+                patterns: p,
+                trees: t,
+                records: r,
+                lines: k,
+            },
+        ) => {
             let counts = number(pair(pair(number(c, s, 0), s, q, p), s, t, r), s, k as u64);
             let start = Both {
                 at: first_place(text),
@@ -214,45 +214,9 @@ fn replay_text(s: &[u8], at: usize, text: &[u8]) -> bool {
             let last = end.stored;
             ended(last, s)
         }
-        Survey::Broken { at: place } => ended(pair(c, s, 17, place), s),
-        Survey::Negative => ended(pair(c, s, 18, 0), s),
+        Err(SurveyError::Broken(place)) => ended(pair(c, s, 17, place), s),
+        Err(SurveyError::Negative) => ended(pair(c, s, 18, 0), s),
     }
-}
-
-fn replay_line(s: &[u8], from: usize) -> bool
-    requires { from < length s.now }
-{
-    let mut room = [0u8; 4096];
-    let t = decode(s, from, &mut room);
-    replay_room(s, t.at, &room, t.len)
-}
-
-// The text is the room's first `n` bytes.
-fn replay_room(s: &[u8], at: usize, room: &[u8; 4096], n: usize) -> bool {
-    if n <= 4096 {
-        let whole = &room[..];
-        replay_text(s, at, &whole[..n])
-    } else {
-        false
-    }
-}
-
-#[derive(Clone, Copy)]
-struct Tally {
-    cases: usize,
-    differ: usize,
-}
-
-fn replay(s: &[u8]) -> Tally {
-    let mut at = 0;
-    let mut cases = 0;
-    let mut differ = 0;
-    while at < s.len() {
-        differ = differ + wrong(replay_line(s, at));
-        cases = cases + 1;
-        at = past_line(s, at);
-    }
-    Tally { cases, differ }
 }
 
 fn room() -> [u8; 1048576] {
@@ -262,16 +226,8 @@ fn room() -> [u8; 1048576] {
 fn main(rt: HostRuntime) -> io::Result<()> {
     let mut buffer = room();
     let n = read_full(&mut rt.reader(), &mut buffer)?;
-    replay_all(&rt, &buffer, n)
-}
-
-fn replay_all(rt: &impl Print, buffer: &[u8; 1048576], n: usize) -> io::Result<()> {
-    if n <= 1048576 {
-        let whole = &buffer[..];
-        let t = replay(&whole[..n]);
-        let mut out = io::writer(rt);
-        say(&mut out, t.cases, b" lines, ")?;
-        say(&mut out, t.differ, b" differ\n")?;
-    }
-    Ok(())
+    let t = replay(&replay_text, &buffer[..n]);
+    let mut out = io::writer(&rt);
+    say(&mut out, t.cases, b" lines, ")?;
+    say(&mut out, t.differ, b" differ\n")
 }

@@ -3,42 +3,37 @@
 // Assumes that the lines fit its room, and a text 4,096 bytes; a line that doesn't differs.
 #![tactic(auto)]
 
-ghost use Rattle.std.specs.Prelude.{◌<◌, length};
-
 use pdf_blocks::word;
 use pdf_widen::widen;
-use replay::{Stored, decode, ended, number, pair, past_line, read_full, say, signed, wrong};
+use replay::{Stored, ended, number, pair, read_full, replay, say, signed};
 use std::io;
 use text_base::{Class, class_of, is_blank, is_name, is_pattern, is_space_or_tab, is_word};
-use text_numbers::{Signed, Unsigned, parse_signed, parse_unsigned};
-use text_utf8::{Answer, check};
+use text_numbers::{NumberError, parse_signed, parse_unsigned};
+use text_parts::Read;
+use text_utf8::check;
 
 // 0, or 1 and where the first bad sequence starts.
 fn utf8_of(c: Stored, s: &[u8], text: &[u8]) -> Stored {
     match check(text) {
-        Answer::Valid => number(c, s, 0),
-        Answer::Bad(at) => pair(c, s, 1, at),
+        Ok(()) => number(c, s, 0),
+        Err(at) => pair(c, s, 1, at),
     }
 }
 
 // 0, the number and where its digits end; or 1 for 2^64 or more, 2 for no digit.
 fn unsigned_of(c: Stored, s: &[u8], text: &[u8]) -> Stored {
     match parse_unsigned(text, 0) {
-        Unsigned::Number { value, next } => number(
-            number(number(c, s, 0), s, value),
-            s,
-            next as u64,
-        ),
-        Unsigned::TooLarge => number(c, s, 1),
-        Unsigned::NoDigit => number(c, s, 2),
+        Ok(Read { value, next }) => number(number(number(c, s, 0), s, value), s, next as u64),
+        Err(NumberError::TooLarge) => number(c, s, 1),
+        Err(NumberError::NoDigit) => number(c, s, 2),
     }
 }
 
 // 0, the number and where its digits end; or 1.
 fn signed_of(c: Stored, s: &[u8], text: &[u8]) -> Stored {
     match parse_signed(text, 0) {
-        Signed::Number { value, next } => number(signed(number(c, s, 0), s, value), s, next as u64),
-        Signed::NoNumber => number(c, s, 1),
+        Some(Read { value, next }) => number(signed(number(c, s, 0), s, value), s, next as u64),
+        None => number(c, s, 1),
     }
 }
 
@@ -95,42 +90,6 @@ fn replay_text(s: &[u8], at: usize, text: &[u8]) -> bool {
     ended(widened_of(class_said(read, s, text), s, text), s)
 }
 
-fn replay_line(s: &[u8], from: usize) -> bool
-    requires { from < length s.now }
-{
-    let mut room = [0u8; 4096];
-    let t = decode(s, from, &mut room);
-    replay_room(s, t.at, &room, t.len)
-}
-
-// The text is the room's first `n` bytes.
-fn replay_room(s: &[u8], at: usize, room: &[u8; 4096], n: usize) -> bool {
-    if n <= 4096 {
-        let whole = &room[..];
-        replay_text(s, at, &whole[..n])
-    } else {
-        false
-    }
-}
-
-#[derive(Clone, Copy)]
-struct Tally {
-    cases: usize,
-    differ: usize,
-}
-
-fn replay(s: &[u8]) -> Tally {
-    let mut at = 0;
-    let mut cases = 0;
-    let mut differ = 0;
-    while at < s.len() {
-        differ = differ + wrong(replay_line(s, at));
-        cases = cases + 1;
-        at = past_line(s, at);
-    }
-    Tally { cases, differ }
-}
-
 fn room() -> [u8; 1048576] {
     [0; 1048576]
 }
@@ -138,16 +97,8 @@ fn room() -> [u8; 1048576] {
 fn main(rt: HostRuntime) -> io::Result<()> {
     let mut buffer = room();
     let n = read_full(&mut rt.reader(), &mut buffer)?;
-    replay_all(&rt, &buffer, n)
-}
-
-fn replay_all(rt: &impl Print, buffer: &[u8; 1048576], n: usize) -> io::Result<()> {
-    if n <= 1048576 {
-        let whole = &buffer[..];
-        let t = replay(&whole[..n]);
-        let mut out = io::writer(rt);
-        say(&mut out, t.cases, b" lines, ")?;
-        say(&mut out, t.differ, b" differ\n")?;
-    }
-    Ok(())
+    let t = replay(&replay_text, &buffer[..n]);
+    let mut out = io::writer(&rt);
+    say(&mut out, t.cases, b" lines, ")?;
+    say(&mut out, t.differ, b" differ\n")
 }

@@ -8,6 +8,10 @@ use borrow.Author.Tests.{eq-eqb}
 use lib.IntN.{ℤ, pos, neg_ℤ}
 use lib.Signed.{mag}
 use lib.Dec.{eqb}
+use Rattle.link_alone.specs.declared.LineLink.{LineLink}
+use Rattle.std.specs.declared.result.Result.{Result}
+use Rattle.std.specs.declared.option.Option.{Option}
+use Rattle.std.specs.Prelude.{Some, None, Ok, Err}
 use Rattle.written.specs.Bytes.{Span, same}
 use Rattle.written.specs.Said as said
 use Rattle.written.specs.Said.{Ref, node, pdf, Question, QuestionPlace}
@@ -19,19 +23,15 @@ use Rattle.tree_line.specs.Lines.{line_of}
 use Rattle.tree_line.specs.declared.Line as code
 use Rattle.link_order.specs.Keys.{id_key}
 use Rattle.text_parts.specs.Parts.{part_inside}
-use Rattle.link_search.specs.declared.Found.{Found}
-use Rattle.link_search.specs.declared.Found.TheVariants.{At, Nothing}
 use Rattle.link_search.proofs.Ids.{same_id, same_true, true_same}
 use Rattle.link_find.specs.Find as find
 use Rattle.error.specs.Numbers.{fault_number}
 use Rattle.error.specs.declared.LinkFault.{LinkFault}
 use Rattle.error.specs.declared.LinkFault.TheVariants.{NodeRef, QuestionRef}
-use Rattle.link_alone.specs.Alone.{to_line, target_in, link_asked, link_of, link_in}
+use Rattle.link_alone.specs.Alone.{to_line, target_in, link_asked, link_of, link_in, line_link}
 use Rattle.link_fits.specs.Fits.{nowhere}
 use Rattle.link_fits.specs.declared.Target.{Target}
 use Rattle.link_fits.specs.declared.Target.TheVariants.{Line, Leaf, Nowhere}
-use Rattle.link_alone.specs.declared.LineLink.{LineLink}
-use Rattle.link_alone.specs.declared.LineLink.TheVariants as link
 use Rattle.shown_text.proofs.Words.{name_stands}
 use Rattle.shown_accepts.proofs.Seeks.{Seeks, hit, miss, seeks}
 
@@ -101,7 +101,7 @@ module _ (s : List ℕ) where
     pub leads : (r : Ref) → RefSmall r → Leads r (target_in cs (index_of r))
     leads (pdf n) h = to_leaf
     leads (node x) h =
-        go (seeks LineSaid (λ l. l.id ≡ x) (find.bears (id_key x)) bore bear lines 0 Nothing)
+        go (seeks LineSaid (λ l. l.id ≡ x) (find.bears (id_key x)) bore bear lines 0 None)
       where
         bore : (l : said.Line) (c : code.Line) → LineSaid l c → eqb (id_key c.id) (id_key x) ≡ true → l.id ≡ x
         bore l c t e = eq_z-true l.id x (same_id l.id x t.small h ∙ ap (λ (y : ℤ). eqb (id_key y) (id_key x)) (sym t.id) ∙ e)
@@ -109,7 +109,7 @@ module _ (s : List ℕ) where
         bear : (l : said.Line) (c : code.Line) → LineSaid l c → l.id ≡ x → eqb (id_key c.id) (id_key x) ≡ true
         bear l c t e = eq-eqb (id_key c.id) (id_key x) (ap id_key (t.id ∙ e))
 
-        go : {r : Found} → Seeks (λ (l : said.Line). l.id ≡ x) ls 0 Nothing r → Leads (node x) (to_line r)
+        go : {r : Option ℕ} → Seeks (λ (l : said.Line). l.id ≡ x) ls 0 None r → Leads (node x) (to_line r)
         go (hit m l) = let z : m ≡ 0 + m = omega arith in subst (λ (i : ℕ). Leads (node x) (Line i)) z (to_line_lem l)
         go (miss n) = to_none n
 
@@ -127,12 +127,12 @@ module _ (s : List ℕ) where
         missing n (borne {k = k} {l = l} h q) = n k l h q
 
     -- the last question of a name, or none
-    pub data Asks (name : List ℕ) : Found → Type 0 where
-      of_row : {k : ℕ} → LastQuestion qs name k → Asks name (At k)
-      of_none : ¬ Asked qs name → Asks name Nothing
+    pub data Asks (name : List ℕ) : Option ℕ → Type 0 where
+      of_row : {k : ℕ} → LastQuestion qs name k → Asks name (Some k)
+      of_none : ¬ Asked qs name → Asks name None
 
     pub asks_said : (name w : List ℕ) → w ≡ name → Asks name (find.asked s w ps)
-    asks_said name w e = go (seeks QuestionSaid (λ q. q.name ≡ name) (find.named s w) has had asks 0 Nothing)
+    asks_said name w e = go (seeks QuestionSaid (λ q. q.name ≡ name) (find.named s w) has had asks 0 None)
       where
         has : (q : Question) (p : QuestionPlace) → QuestionSaid q p → same (part_inside s p.name.start p.name.len) w ≡ true → q.name ≡ name
         has q p t h = sym t.name ∙ true_same (part_inside s p.name.start p.name.len) w h ∙ e
@@ -140,17 +140,17 @@ module _ (s : List ℕ) where
         had : (q : Question) (p : QuestionPlace) → QuestionSaid q p → q.name ≡ name → same (part_inside s p.name.start p.name.len) w ≡ true
         had q p t h = ap (λ (x : List ℕ). same x w) (t.name ∙ h ∙ sym e) ∙ same_true w
 
-        go : {r : Found} → Seeks (λ (q : Question). q.name ≡ name) qs 0 Nothing r → Asks name r
-        go (hit m l) = let z : m ≡ 0 + m = omega arith in subst (λ (i : ℕ). Asks name (At i)) z (of_row l)
+        go : {r : Option ℕ} → Seeks (λ (q : Question). q.name ≡ name) qs 0 None r → Asks name r
+        go (hit m l) = let z : m ≡ 0 + m = omega arith in subst (λ (i : ℕ). Asks name (Some i)) z (of_row l)
         go (miss n) = of_none none
           where
             none : ¬ Asked qs name
             none (asked {k = k} {q = q} h g) = n k q h g
 
     -- what is wrong with a line, or where it goes
-    pub data Links (l : said.Line) : LineLink → Type 0 where
-      goes : {q : ℕ} {y n : Target} → LastQuestion qs l.question q → Leads l.yes y → nowhere y ≡ false → Leads l.no n → nowhere n ≡ false → Links l (link.Goes q y n)
-      fails : {g : LinkFault} → Fault qs ls l (fault_number g) → Links l (link.Fails g)
+    pub data Links (l : said.Line) : Result LineLink LinkFault → Type 0 where
+      goes : {q : ℕ} {y n : Target} → LastQuestion qs l.question q → Leads l.yes y → nowhere y ≡ false → Leads l.no n → nowhere n ≡ false → Links l (Ok (line_link q y n))
+      fails : {g : LinkFault} → Fault qs ls l (fault_number g) → Links l (Err g)
 
     pub line_links : {l : said.Line} {c : code.Line} → LineSaid l c → Links l (link_in s ps cs c)
     unfolding link_in link_of
@@ -159,19 +159,19 @@ module _ (s : List ℕ) where
         (go (target_in cs (index_of l.yes)) (leads l.yes t.yes_small) (nowhere (target_in cs (index_of l.yes))) refl
         (target_in cs (index_of l.no)) (leads l.no t.no_small) (nowhere (target_in cs (index_of l.no))) refl (asks_said l.question (part_inside s c.start c.len) t.name))
       where
-        by_asked : {y n : Target} {f : Found} → Leads l.yes y → nowhere y ≡ false → Leads l.no n → nowhere n ≡ false → Asks l.question f → Links l (link_asked y n f)
+        by_asked : {y n : Target} {f : Option ℕ} → Leads l.yes y → nowhere y ≡ false → Leads l.no n → nowhere n ≡ false → Asks l.question f → Links l (link_asked y n f)
         by_asked a e b g (of_row q) = goes q a e b g
         by_asked a e b g (of_none n) = fails {g = QuestionRef} (not_asked (declared a e) (declared b g) n)
 
-        go : (y : Target) → Leads l.yes y → (u : Bool) → nowhere y ≡ u → (n : Target) → Leads l.no n → (v : Bool) → nowhere n ≡ v → {f : Found} → Asks l.question f
-            → Links l (cond (nowhere y) (link.Fails NodeRef) (cond (nowhere n) (link.Fails NodeRef) (link_asked y n f)))
-        go y a true e n b v g {f} q = subst (λ (x : Bool). Links l (cond x (link.Fails NodeRef) (cond (nowhere n) (link.Fails NodeRef) (link_asked y n f)))) (sym e) (fails {g = NodeRef} (yes_undeclared (undeclared a e)))
+        go : (y : Target) → Leads l.yes y → (u : Bool) → nowhere y ≡ u → (n : Target) → Leads l.no n → (v : Bool) → nowhere n ≡ v → {f : Option ℕ} → Asks l.question f
+            → Links l (cond (nowhere y) (Err NodeRef) (cond (nowhere n) (Err NodeRef) (link_asked y n f)))
+        go y a true e n b v g {f} q = subst (λ (x : Bool). Links l (cond x (Err NodeRef) (cond (nowhere n) (Err NodeRef) (link_asked y n f)))) (sym e) (fails {g = NodeRef} (yes_undeclared (undeclared a e)))
         go y a false e n b true g {f} q =
-            subst (λ (x : Bool). Links l (cond x (link.Fails NodeRef) (cond (nowhere n) (link.Fails NodeRef) (link_asked y n f)))) (sym e)
-            (subst (λ (x : Bool). Links l (cond x (link.Fails NodeRef) (link_asked y n f))) (sym g) (fails {g = NodeRef} (no_undeclared (declared a e) (undeclared b g))))
+            subst (λ (x : Bool). Links l (cond x (Err NodeRef) (cond (nowhere n) (Err NodeRef) (link_asked y n f)))) (sym e)
+            (subst (λ (x : Bool). Links l (cond x (Err NodeRef) (link_asked y n f))) (sym g) (fails {g = NodeRef} (no_undeclared (declared a e) (undeclared b g))))
         go y a false e n b false g {f} q =
-            subst (λ (x : Bool). Links l (cond x (link.Fails NodeRef) (cond (nowhere n) (link.Fails NodeRef) (link_asked y n f)))) (sym e)
-            (subst (λ (x : Bool). Links l (cond x (link.Fails NodeRef) (link_asked y n f))) (sym g) (by_asked a e b g q))
+            subst (λ (x : Bool). Links l (cond x (Err NodeRef) (cond (nowhere n) (Err NodeRef) (link_asked y n f)))) (sym e)
+            (subst (λ (x : Bool). Links l (cond x (Err NodeRef) (link_asked y n f))) (sym g) (by_asked a e b g q))
 
     -- a line that goes on has no fault
     pub no_fault : {l : said.Line} {q : ℕ} {y n : Target} → LastQuestion qs l.question q → Leads l.yes y → nowhere y ≡ false → Leads l.no n → nowhere n ≡ false → {c : ℕ} → ¬ Fault qs ls l c

@@ -4,13 +4,13 @@ use mathlib.Core.List.{List, [], ◌∷◌, zip_with, Forall₂}
 use Prim.Native.Nat.{ℕ, zero, suc}
 use native.Mathlib.Omega.{arith}
 use lib.ListN.{length}
+use Rattle.std.specs.Prelude.{Some, None}
 use Rattle.written.specs.Said as said
 use Rattle.written.specs.Said.{QuestionPlace, Text, Layout}
 use Rattle.written.specs.TreeText.{Parted, last, next, Parting, LineParting, LineAt, BodyAt, TreeAt, tree as grown, trees, Says, without, with_questions}
 use Rattle.written.specs.Linking.{Nth, here, there}
 use Rattle.written.proofs.Walk.{no_row}
 use Rattle.laws.specs.Steps.{Ending, done_at, broken_at, Step, broken, read_of, read_from, read}
-use Rattle.text_spaces.specs.declared.Place.TheVariants as place
 use Rattle.tree_question.specs.Questions.{questions_at}
 use Rattle.tree_line.specs.Lines.{line_of, lines_at}
 use Rattle.tree_line.specs.declared.Line as code
@@ -38,12 +38,12 @@ use Rattle.shown_accepts.proofs.Verdicts.{Verdict, judged_body, body_verdict}
 
 -- ---- where trees stand
 
-pub star_there : {ts : List Tree} {k : ℕ} {t : Tree} → Nth ts k t → star_of ts k ≡ place.At t.star
+pub star_there : {ts : List Tree} {k : ℕ} {t : Tree} → Nth ts k t → star_of ts k ≡ Some t.star
 unfolding star_of
 star_there here = refl
 star_there (there h) = star_there h
 
-pub star_none : (ts : List Tree) (k : ℕ) → ((t : Tree) → ¬ Nth ts k t) → star_of ts k ≡ place.Nowhere
+pub star_none : (ts : List Tree) (k : ℕ) → ((t : Tree) → ¬ Nth ts k t) → star_of ts k ≡ None
 unfolding star_of
 star_none [] k n = refl
 star_none (t ∷ ts) zero n = absurd (n t here)
@@ -208,7 +208,7 @@ module _ (s : List ℕ) where
 
     -- tree k of the text: it stands somewhere, and is judged as `written` has it
     pub tree_judged : {k : ℕ} {e : said.Tree} → Nth t.trees k e
-        → (a : ℕ) × (star_of (trees_at s f).items k ≡ place.At a) × ((R : List ℕ) → Verdict t.questions R e.body (judged_head s (questions_at s i).items R (head_at s a)))
+        → (a : ℕ) × (star_of (trees_at s f).items k ≡ Some a) × ((R : List ℕ) → Verdict t.questions R e.body (judged_head s (questions_at s i).items R (head_at s a)))
         × Forall₂ (QuestionSaid s) t.questions (questions_at s i).items × Reads e.body (head_at s a)
     tree_judged {k} {e} h =
         let p = parts says in
@@ -216,7 +216,7 @@ module _ (s : List ℕ) where
         let g : Nth (trees_at s f).items k (tree_of e n.0) = subst (λ (ts : List Tree). Nth ts k (tree_of e n.0)) (sym trees_are) (nth-zip tree_of h n.3) in
         let w = stands f g in (
           w.at,
-          star_there g ∙ ap place.At (stands_there w),
+          star_there g ∙ ap Some (stands_there w),
           λ R.
               let v = subst (λ (ws : List QuestionPlace). Verdict t.questions R e.body (judged_body s ws R (tree_of e n.0).body)) (sym questions_are) (tree_verdict p.asks R n.4) in
               subst (Verdict t.questions R e.body) (sym (head_body (questions_at s i).items R (headed w.at w.is w.took))) v,
@@ -231,5 +231,5 @@ module _ (s : List ℕ) where
         tree_reads : {a b : ℕ} {x : said.Tree} {y : said.TreePlace} {h : TreeHead} → TreeAt s a b x y → Headed (tree_of x y).body h → Reads x.body h
         tree_reads (grown _ _ _ _ _ _ g) w = body_reads g refl w
 
-    pub tree_missing : {k : ℕ} → ((e : said.Tree) → ¬ Nth t.trees k e) → star_of (trees_at s f).items k ≡ place.Nowhere
+    pub tree_missing : {k : ℕ} → ((e : said.Tree) → ¬ Nth t.trees k e) → star_of (trees_at s f).items k ≡ None
     tree_missing {k} n = star_none (trees_at s f).items k (λ u h. let r = zip-nth tree_of t.trees l.trees (subst (λ (ts : List Tree). Nth ts k u) trees_are h) in n r.0 r.1)

@@ -8,6 +8,9 @@ use native.Mathlib.Omega.{arith}
 use borrow.Author.Tests.{eq-eqb, eqb-true}
 use lib.Dec.{eqb}
 use lib.ListN.{length}
+use Rattle.error.specs.declared.LineFault.{LineFault}
+use Rattle.std.specs.declared.result.Result.{Result}
+use Rattle.std.specs.Prelude.{Some, None, Ok, Err}
 use Rattle.written.specs.Bytes.{Span}
 use Rattle.written.specs.Said as said
 use Rattle.written.specs.Said.{Ref, node, pdf, Body, lone, braces, Question, QuestionPlace}
@@ -25,24 +28,20 @@ use Rattle.tree_line.specs.Lines.{line_of}
 use Rattle.tree_line.specs.declared.Line as code
 use Rattle.tree_body.specs.Trees as tree
 use Rattle.tree_body.specs.Trees.{body_of}
-use Rattle.error.specs.Numbers.{fault_number}
+use Rattle.error.specs.Numbers.{fault_number, line_fault}
 use Rattle.error.specs.declared.LinkFault.{LinkFault}
 use Rattle.error.specs.declared.LinkFault.TheVariants.{LoneNode}
 use Rattle.link_alone.specs.Alone.{ended, judged_lines, judged_alone, single_in, judged_single}
 use Rattle.link_fits.specs.Fits.{is_leaf, leaf_of, leaves_from}
-use Rattle.link_alone.specs.declared.Judged.{Judged}
-use Rattle.link_alone.specs.declared.Judged.TheVariants.{Told}
-use Rattle.link_alone.specs.declared.Judged.TheVariants as judged
-use Rattle.link_alone.specs.declared.Single.TheVariants.{One, Several}
 use Rattle.shown_accepts.proofs.Lines.{LineSaid, QuestionSaid, lines_said}
 use Rattle.shown_accepts.proofs.Rows.{row_is, leaf_row, row_leaf, leaf_of_lem, of_leaf, Fits}
 use Rattle.shown_accepts.proofs.Judged.{Judges, told, fault_at, judges}
 
 -- how a tree is judged, against its questions and the rows of a table
-pub data Verdict (qs : List Question) (R : List ℕ) (t : Body) : Judged → Type 0 where
-  fits : {own : List Row} → Records qs t own → Linked qs t (record_table R) → Verdict qs R t (Told true)
-  other : {own : List Row} → Records qs t own → ¬ Linked qs t (record_table R) → Verdict qs R t (Told false)
-  refused : {g : LinkFault} {k : ℕ} → Refused qs t (fault_number g) k → Verdict qs R t (judged.Refused g k)
+pub data Verdict (qs : List Question) (R : List ℕ) (t : Body) : Result Bool LineFault → Type 0 where
+  fits : {own : List Row} → Records qs t own → Linked qs t (record_table R) → Verdict qs R t (Ok true)
+  other : {own : List Row} → Records qs t own → ¬ Linked qs t (record_table R) → Verdict qs R t (Ok false)
+  refused : {g : LinkFault} {k : ℕ} → Refused qs t (fault_number g) k → Verdict qs R t (Err (line_fault g k))
 
 -- ---- tables by their rows
 
@@ -55,7 +54,7 @@ unfolding record_table rows_from
 one_row R n e h = ap (rows_from (record_row R) 0) e ∙ ap (λ (r : Row). r ∷ []) (sym (row_is R (leaf_of_lem R n 0 h)).1)
 
 module _ (qs : List Question) (R : List ℕ) where
-  of_told : {t : Body} {own : List Row} (b : Bool) → Records qs t own → (b ≡ true → Linked qs t (record_table R)) → (Linked qs t (record_table R) → b ≡ true) → Verdict qs R t (Told b)
+  of_told : {t : Body} {own : List Row} (b : Bool) → Records qs t own → (b ≡ true → Linked qs t (record_table R)) → (Linked qs t (record_table R) → b ≡ true) → Verdict qs R t (Ok b)
   of_told true r to from = fits r (to refl)
   of_told false r to from = other r (λ l. let z : ◌≡◌ {A = ℕ} 0 1 = cc (from l) in omega arith)
 
@@ -82,7 +81,7 @@ module _ (qs : List Question) (R : List ℕ) where
   linked_none (Linked.single s) = absurd (no_single s)
   linked_none Linked.empty = refl
 
-  pub empty_verdict : Verdict qs R (braces []) (Told (eqb (record_rows R) 0))
+  pub empty_verdict : Verdict qs R (braces []) (Ok (eqb (record_rows R) 0))
   unfolding L.pdfs L.times
   empty_verdict =
       of_told (eqb (record_rows R) 0) (Records.lines [] (λ r h. no_single h) L.Ascending.none (λ n. refl) Forall₂.nil refl)
@@ -222,13 +221,13 @@ module _ (R s : List ℕ) {qs : List Question} {ps : List QuestionPlace} (asks :
   pub lines_verdict : 0 < length ls → Verdict qs R (braces ls) (ended (leaves_from R (length cs)) (judged_lines s ps cs R 0 true cs))
   lines_verdict some = subst (λ (n : ℕ). Verdict qs R (braces ls) (ended (leaves_from R n) (judged_lines s ps cs R 0 true cs))) (pair_lengths lines_are) (go (judges R s asks lines_are lines_are 0 true))
     where
-      go : {j : Judged} → Judges R s asks lines_are ls 0 true j → Verdict qs R (braces ls) (ended (leaves_from R (length ls)) j)
+      go : {j : Result Bool LineFault} → Judges R s asks lines_are ls 0 true j → Verdict qs R (braces ls) (ended (leaves_from R (length ls)) j)
       go (told {c = c} clean to from) =
           let r = no_refused clean in
           of_told qs R (leaves_from R (length ls) && c) r.1
           (λ h. fit_linked some (to (second_of (leaves_from R (length ls)) c h)).1 (first_of (leaves_from R (length ls)) c h))
           (λ l. let f = linked_fit refl refl l in both f.1 (from refl f.0))
-      go (fault_at {g = e} {m = m} h f g) = let z : m ≡ 0 + m = omega arith in subst (λ (k : ℕ). Verdict qs R (braces ls) (judged.Refused e k)) z (refused {g = e} (Refused.lines o h f g))
+      go (fault_at {g = e} {m = m} h f g) = let z : m ≡ 0 + m = omega arith in subst (λ (k : ℕ). Verdict qs R (braces ls) (Err (line_fault e k))) z (refused {g = e} (Refused.lines o h f g))
 
 -- ---- a tree's body, as it is read
 
@@ -241,9 +240,9 @@ pub not_two : {l k : said.Line} {ls : List said.Line} → NotSingle (l ∷ k ∷
 not_two r h = elim h [ ]
 
 -- what is judged of a body
-abbrev pub judged_body : List ℕ → List QuestionPlace → List ℕ → tree.Body → Judged
+abbrev pub judged_body : List ℕ → List QuestionPlace → List ℕ → tree.Body → Result Bool LineFault
 judged_body s ps R (tree.lone r) = judged_alone R r
-judged_body s ps R (tree.braces []) = Told (eqb (record_rows R) 0)
+judged_body s ps R (tree.braces []) = Ok (eqb (record_rows R) 0)
 judged_body s ps R (tree.braces (l ∷ ls)) = judged_single s ps R (l ∷ ls) (single_in (l ∷ ls))
 
 module _ (R s : List ℕ) {qs : List Question} {ps : List QuestionPlace} (asks : Forall₂ (QuestionSaid s) qs ps) where
@@ -253,10 +252,10 @@ module _ (R s : List ℕ) {qs : List Question} {ps : List QuestionPlace} (asks :
     where
       go : (b : Bool) → same_index (index_of l.no) (index_of l.yes) ≡ b → Verdict qs R (braces (l ∷ [])) (judged_single s ps R (line_of l w ∷ []) (single_in (line_of l w ∷ [])))
       go true e =
-          subst (λ (b : Bool). Verdict qs R (braces (l ∷ [])) (judged_single s ps R (line_of l w ∷ []) (cond b (One (index_of l.yes)) Several))) (sym e)
+          subst (λ (b : Bool). Verdict qs R (braces (l ∷ [])) (judged_single s ps R (line_of l w ∷ []) (cond b (Some (index_of l.yes)) None))) (sym e)
           (alone_verdict qs R l.yes (alike (index_same l.no l.yes e) refl))
       go false e =
-          subst (λ (b : Bool). Verdict qs R (braces (l ∷ [])) (judged_single s ps R (line_of l w ∷ []) (cond b (One (index_of l.yes)) Several))) (sym e)
+          subst (λ (b : Bool). Verdict qs R (braces (l ∷ [])) (judged_single s ps R (line_of l w ∷ []) (cond b (Some (index_of l.yes)) None))) (sym e)
           (lines_verdict R s asks (lines_said s (last t)) (not_alike e) (omega arith))
   braces_verdict (next t p (last u)) = lines_verdict R s asks (lines_said s (next t p (last u))) not_two (omega arith)
   braces_verdict (next t p (next u q r)) = lines_verdict R s asks (lines_said s (next t p (next u q r))) not_two (omega arith)

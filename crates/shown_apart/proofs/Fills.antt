@@ -23,13 +23,9 @@ use Rattle.load_choose.specs.declared.Which.{Which}
 use Rattle.load_questions.specs.Words.{pattern_words}
 use Rattle.load_questions.proofs.Rows.{patterns_length, questions_length}
 use Rattle.load_trees.specs.Trees.{all_linked}
-use Rattle.load_trees.specs.declared.Linked as real
-use Rattle.load_trees.specs.declared.Linked.TheVariants as ends
 use Rattle.load_text.specs.Text.{words_at, end_at, trees_stored, records_stored}
 use Rattle.load_plan.specs.Plans.{Sound, data_of, planned}
 use Rattle.load_plan.specs.declared.Plan.{Plan}
-use Rattle.load_plan.specs.declared.Planned as real-plan
-use Rattle.load_plan.specs.declared.Planned.TheVariants as plan
 use Rattle.load_plan.proofs.Laws.{Was, was, needs_sound}
 use Rattle.load_model.specs.Load.{answer_for, blocks_of, filled}
 use Rattle.load_model.proofs.Laws.{length_values}
@@ -39,6 +35,8 @@ use Rattle.shown_text.proofs.Tables.{stored-length}
 use Rattle.face_record.specs.Answers.{judged_of}
 use Rattle.face_model.specs.Answers.{which_of}
 use Rattle.shown_apart.specs.Real.{ending_of, model_of, planned_by, unfit, planned_of}
+use Rattle.load_trees.specs.declared.TreeFault.{TreeFault}
+use Rattle.std.specs.Prelude.{Err, Ok, Result, ⊤}
 
 -- words that fill a table are the table
 pub sets_all : (t words : List ℕ) → length words ≡ length t → sets t 0 words ≡ words
@@ -67,15 +65,15 @@ module _ (d : List ℕ) (p : Plan) (sound : Sound d p) (w : List ℤ) where
   abbrev B : List ℕ
   B = take p.block_end d
 
-  abbrev o : real.Linked
+  abbrev o : Result ⊤ TreeFault
   o = end_at S p.text p.first
 
   abbrev k : Was S p.text p.first p.questions p.patterns p.trees p.records p.lines
   k = was S p.text sound.text
 
-  linked_done : (o : real.Linked) → all_linked o ≡ true → o ≡ ends.Done
-  linked_done ends.Done e = refl
-  linked_done (ends.Refused g i j) e = let u : ◌≡◌ {A = ℕ} 0 1 = cc in absurd (omega arith)
+  linked_done : (o : Result ⊤ TreeFault) → all_linked o ≡ true → o ≡ Ok tt
+  linked_done (Ok _) e = refl
+  linked_done (Err l) e = let u : ◌≡◌ {A = ℕ} 0 1 = cc in absurd (omega arith)
 
   -- ---- how many words are stored
 
@@ -140,9 +138,9 @@ module _ (d : List ℕ) (p : Plan) (sound : Sound d p) (w : List ℤ) where
   whole s t e f = fill_is s e ∙ sym (fill_is t f)
 
   -- a refused link is not linked
-  unlinked_not : (o : real.Linked) (z : Refusal) → ending_of (answer_for p o) ≡ unlinked z → all_linked o ≡ false
-  unlinked_not ends.Done z e = let u : ◌≡◌ {A = ℕ} 0 1 = cc in absurd (omega arith)
-  unlinked_not (ends.Refused g i j) z e = refl
+  unlinked_not : (o : Result ⊤ TreeFault) (z : Refusal) → ending_of (answer_for p o) ≡ unlinked z → all_linked o ≡ false
+  unlinked_not (Ok _) z e = let u : ◌≡◌ {A = ℕ} 0 1 = cc in absurd (omega arith)
+  unlinked_not (Err l) z e = refl
 
   by_not : (words zeros : List ℕ) (b : Bool) → b ≡ false → cond b words zeros ≡ zeros
   by_not words zeros b e = ap (λ (c : Bool). cond c words zeros) e
@@ -165,9 +163,9 @@ module _ (d : List ℕ) (p : Plan) (sound : Sound d p) (w : List ℤ) where
 pub planned_fills : (s : List ℕ) (h : Header) (which : Which) (w : List ℤ) → Every Fills (planned_by (data_of s h) (planned s h which) w)
 planned_fills s h which w = go (planned s h which) refl
   where
-    go : (x : real-plan.Planned) → x ≡ planned s h which → Every Fills (planned_by (data_of s h) x w)
-    go (plan.Refused z) e = none
-    go (plan.Model p) e = one (model_fills (data_of s h) p (needs_sound s h which p e) w)
+    go : (x : Result Plan Refusal) → x ≡ planned s h which → Every Fills (planned_by (data_of s h) x w)
+    go (Err z) e = none
+    go (Ok p) e = one (model_fills (data_of s h) p (needs_sound s h which p e) w)
 
 -- of any file, any words, any number
 pub words_fill : (s u : List ℕ) (n : ℕ) (w : List ℤ) → Every Fills (planned_of s u n w)

@@ -11,15 +11,11 @@ use Rattle.written.specs.Sharing.{Side, Table, questions, patterns, trees, recor
 use Rattle.error.specs.declared.Refusal.{Refusal}
 use Rattle.error.specs.declared.Refusal.TheVariants as refusal
 use Rattle.head_words.specs.Words.{header_at, flags_fit}
-use Rattle.load_trees.specs.declared.Linked as real
-use Rattle.load_trees.specs.declared.Linked.TheVariants as ends
 use Rattle.load_text.specs.Text.{end_at}
 use Rattle.load_plan.specs.Plans.{data_of, planned}
 use Rattle.load_plan.specs.declared.Plan.{Plan}
-use Rattle.load_plan.specs.declared.Planned as real-plan
-use Rattle.load_plan.specs.declared.Planned.TheVariants as plan
 use Rattle.load_model.specs.Load.{Tables as Lent, answer_for, filled, untouched as as_lent}
-use Rattle.load_apart.specs.Loads.{Answer, Done, Refused, NoRoom, Overlap, Holding, Linked, After, Planned, refused, answer_of, untouched, filled_in, beside_for, shared_of, unload_of}
+use Rattle.load_apart.specs.Loads.{Answer, Done, Refused, NoRoom, Overlap, Holding, After, refused, answer_of, untouched, filled_in, beside_for, shared_of, unload_of}
 use Rattle.load_apart.proofs.Tests.{stands_is, room_stands_same, holds-nothing}
 use Rattle.load_shared.specs.Beside.{rows_of, with_work, placed_in, room_by, beside_of}
 use Rattle.load_bounds.specs.Bounds.{need_of, tables_of}
@@ -31,6 +27,8 @@ use Rattle.face_load.specs.Answers as load
 use Rattle.face_shared.specs.Answers.{side_at, unloaded_of}
 use Rattle.face_shared.specs.Answers as face
 use Rattle.shown_apart.specs.Real.{ending_of, model_of, planned_by, unfit, planned_of, rows_for}
+use Rattle.load_trees.specs.declared.TreeFault.{TreeFault}
+use Rattle.std.specs.Prelude.{Err, Ok, Result, ⊤}
 
 -- five tables, one by one, are the tables
 pub tables_again : (t : Tables) → tables_of (t questions) (t patterns) (t trees) (t records) (t values) ≡ t
@@ -52,9 +50,9 @@ as_it_was : (T : Lent) (mine : Held) (f : Filled) (a : Answer Refusal) → f.tab
 as_it_was T mine f a e g = record { rows = g; tables = ap rows_of e }
 
 -- what a fill answers is told by the plan's rows and how linking ends
-answered : (p : Plan) (o : real.Linked) → rows_by (answer_for p o) ≡ rows_for (answer_of (need_of p) (ending_of (answer_for p o)))
-answered p ends.Done = refl
-answered p (ends.Refused g i k) = refl
+answered : (p : Plan) (o : Result ⊤ TreeFault) → rows_by (answer_for p o) ≡ rows_for (answer_of (need_of p) (ending_of (answer_for p o)))
+answered p (Ok _) = refl
+answered p (Err l) = refl
 
 module _ (x : Side) (mine other : Held) (T : Lent) where
   filled_so : (d : List ℕ) (p : Plan) → Numbers (filled_by (placed_in x d p T)) (filled_in x (model_of d p T.work) mine (rows_of T))
@@ -65,9 +63,9 @@ module _ (x : Side) (mine other : Held) (T : Lent) where
         tables = tables_again (placed x (need_of p) (rows_of (filled d p (with_work (seen x (need_of p) (rows_of T)) T.work)).tables) (rows_of T));
       }
 
-  beside_so : (d : List ℕ) (o : real-plan.Planned) → Stand (rows_of T) nothing other → Numbers (filled_by (beside.beside_for x other d o T)) (beside_for x (planned_by d o T.work) mine other (rows_of T))
-  beside_so d (plan.Refused z) g = record { rows = refl; tables = refl }
-  beside_so d (plan.Model p) g =
+  beside_so : (d : List ℕ) (o : Result Plan Refusal) → Stand (rows_of T) nothing other → Numbers (filled_by (beside.beside_for x other d o T)) (beside_for x (planned_by d o T.work) mine other (rows_of T))
+  beside_so d (Err z) g = record { rows = refl; tables = refl }
+  beside_so d (Ok p) g =
       subst
       (λ (b : Bool). Numbers (filled_by (cond (room_by p other T) (placed_in x d p T) (as_lent refusal.Room T))) (cond b (filled_in x (model_of d p T.work) mine (rows_of T)) (untouched NoRoom mine (rows_of T))))
       (sym (ap (λ (b : Bool). b && leb p.lines (length T.work / 6)) (room_stands_same (need_of p) other (rows_of T) g))) (go (room_by p other T))

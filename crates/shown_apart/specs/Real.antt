@@ -1,15 +1,11 @@
 -- The loads of this library as `load_apart` has them: a plan with its fill, what planning finds by a file and words, and the numbers of an answer.
-use Rattle.std.specs.Prelude.{cond, List, ℕ, ◌/◌, leb, eqb, ℤ, length}
+use Rattle.std.specs.Prelude.{cond, List, ℕ, ◌/◌, leb, eqb, ℤ, length, Err, Ok, Result}
 use Rattle.written.specs.Sharing.{questions, patterns, trees, records, values}
 use Rattle.error.specs.declared.Refusal.{Refusal}
 use Rattle.error.specs.declared.Refusal.TheVariants as refusal
 use Rattle.head_words.specs.Words.{header_at}
 use Rattle.load_plan.specs.Plans.{data_of, planned}
 use Rattle.load_plan.specs.declared.Plan.{Plan}
-use Rattle.load_plan.specs.declared.Planned as real
-use Rattle.load_plan.specs.declared.Planned.TheVariants as plan
-use Rattle.load_model.specs.declared.Loaded.{Loaded}
-use Rattle.load_model.specs.declared.Loaded.TheVariants as loaded
 use Rattle.load_model.specs.Load.{filled}
 use Rattle.load_apart.specs.Loads.{Answer, Done, Refused, NoRoom, Overlap, Holding, Linked, linked, unlinked, Model, Planned, refused, model}
 use Rattle.load_shared.specs.Beside.{rows_of, with_work}
@@ -17,11 +13,12 @@ use Rattle.load_bounds.specs.Bounds.{need_of}
 use Rattle.face_record.specs.Answers.{judged_of}
 use Rattle.face_model.specs.declared.Rows.{Rows}
 use Rattle.face_model.specs.Answers.{which_of, no_rows, rows_by}
+use Rattle.load_model.specs.declared.Loaded.{Loaded}
 
 -- how linking ends, by the answer of a fill
-abbrev pub ending_of : Loaded → Linked Refusal
-ending_of (loaded.Done q a t c v) = linked
-ending_of (loaded.Refused z) = unlinked z
+abbrev pub ending_of : Result Loaded Refusal → Linked Refusal
+ending_of (Ok l) = linked
+ending_of (Err z) = unlinked z
 
 -- a plan in the data d, with the work that its call is lent
 abbrev pub model_of : List ℕ → Plan → List ℤ → Model Refusal
@@ -32,9 +29,9 @@ model_of d p w =
       fill = λ t. record { ending = ending_of (filled d p (with_work t w)).answer; tables = rows_of (filled d p (with_work t w)).tables };
     }
 
-abbrev pub planned_by : List ℕ → real.Planned → List ℤ → Planned Refusal
-planned_by d (plan.Refused z) w = refused z
-planned_by d (plan.Model p) w = model (model_of d p w)
+abbrev pub planned_by : List ℕ → Result Plan Refusal → List ℤ → Planned Refusal
+planned_by d (Err z) w = refused z
+planned_by d (Ok p) w = model (model_of d p w)
 
 -- words that are no record: 20 or 16
 abbrev pub unfit : ℕ → Refusal
@@ -47,7 +44,7 @@ planned_of s u n w = cond (eqb (judged_of u) 0) (planned_by (data_of s (header_a
 -- an answer in numbers
 abbrev pub rows_for : Answer Refusal → Rows
 rows_for (Done n) = record { number = 0; place = 0; line = 0; questions = n questions; patterns = n patterns; trees = n trees; records = n records; values = n values }
-rows_for (Refused z) = rows_by (loaded.Refused z)
+rows_for (Refused z) = rows_by (Err z)
 rows_for NoRoom = no_rows 20 0 0
 rows_for Overlap = no_rows 24 0 0
 rows_for Holding = no_rows 29 0 0

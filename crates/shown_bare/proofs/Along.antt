@@ -8,6 +8,11 @@ use borrow.Author.Tests.{ltb-true, ltb-false}
 use lib.Dec.{ltb}
 use lib.IntN.{ℤ}
 use lib.ListN.{length, get_or}
+use Rattle.error.specs.declared.Refusal.{Refusal}
+use Rattle.walk.specs.declared.Walked.{Walked}
+use Rattle.std.specs.declared.result.Result.{Result}
+use Rattle.std.specs.declared.option.Option.{Option}
+use Rattle.std.specs.Prelude.{Some, None, Ok, Err}
 use Rattle.written.specs.Said as said
 use Rattle.written.specs.Said.{Ref, node, pdf, Question, QuestionPlace}
 use Rattle.written.specs.Linking.{Nth, Row, LastLine, LastQuestion, LineRow, row, ToLeaf, asked}
@@ -22,31 +27,26 @@ use Rattle.tree_reference.specs.declared.TreeIndex.{TreeIndex}
 use Rattle.tree_line.specs.declared.Line as code
 use Rattle.link_order.specs.Keys.{id_key}
 use Rattle.text_parts.specs.Parts.{part_inside}
-use Rattle.link_search.specs.declared.Found.{Found}
-use Rattle.link_search.specs.declared.Found.TheVariants.{At, Nothing}
 use Rattle.link_find.specs.Find as find
 use Rattle.link_alone.specs.Alone.{to_line}
 use Rattle.walk.specs.Walking.{walk_from, by_met, one_more}
 use Rattle.walk.specs.Answer as answer
 use Rattle.walk.specs.declared.Met.{Met}
 use Rattle.walk.specs.declared.Met.TheVariants as met
-use Rattle.walk.specs.declared.Walked.{Walked}
-use Rattle.walk.specs.declared.Walked.TheVariants as walked
 use Rattle.walk.proofs.Round.{walk_leaf}
 use Rattle.walk_bare.specs.Bare.{reply_in, reply_found, reply_to, line_number, goal_in, met_reply, meets_in}
-use Rattle.walk_bare.specs.declared.Reply.TheVariants.{Goes, Missing}
 use Rattle.walk_bare.proofs.Laws.{meets_line, meets_leaf}
 use Rattle.shown_accepts.proofs.Lines.{LineSaid, QuestionSaid, RefSmall, Leads, to_line_lem, to_none, leads, Asks, of_row, of_none, asks_said}
 
 -- one question more, of either
-more : (n : ℕ) (e : Metered) (w : Walked) → outcome_of e ≡ answer.outcome_of w → outcome_of (before n e) ≡ answer.outcome_of (one_more w)
-more n (at p a r) (walked.Pdf q b) h = let x : p ≡ q = cc in let y : a ≡ b = cc in ap₂ (λ (i j : ℕ). Outcome.at i (suc j)) x y
-more n (at p a r) (walked.Refused c) h = let z : ◌≡◌ {A = ℕ} 0 1 = cc in absurd (omega arith)
-more n (refused c) (walked.Pdf q b) h = let z : ◌≡◌ {A = ℕ} 0 1 = cc in absurd (omega arith)
-more n (refused c) (walked.Refused d) h = h
+more : (n : ℕ) (e : Metered) (w : Result Walked Refusal) → outcome_of e ≡ answer.outcome_of w → outcome_of (before n e) ≡ answer.outcome_of (one_more w)
+more n (at p a r) (Ok z) h = let x : p ≡ z.number = cc in let y : a ≡ z.asked = cc in ap₂ (λ (i j : ℕ). Outcome.at i (suc j)) x y
+more n (at p a r) (Err c) h = let z : ◌≡◌ {A = ℕ} 0 1 = cc in absurd (omega arith)
+more n (refused c) (Ok r) h = let z : ◌≡◌ {A = ℕ} 0 1 = cc in absurd (omega arith)
+more n (refused c) (Err d) h = h
 
 -- how the walk ends from line k on
-pub record Goes_on (qs : List Question) (bytes : List ℕ) (ls : List said.Line) (k m : ℕ) (w : Walked) : Type 0 where
+pub record Goes_on (qs : List Question) (bytes : List ℕ) (ls : List said.Line) (k m : ℕ) (w : Result Walked Refusal) : Type 0 where
   pub ending : Metered
   pub along : Along qs bytes ls k m ending
   pub same : outcome_of ending ≡ answer.outcome_of w
@@ -70,20 +70,20 @@ module _ (s bytes : List ℕ) {qs : List Question} {ps : List QuestionPlace} (as
       go (row {q = q} a u v) = record { q = q; asks_q = a; to = both u v }
 
   -- its question is found in the text
-  found : {l : said.Line} {c : code.Line} → LineSaid s l c → LinkedLine l → (q : ℕ) × LastQuestion qs l.question q × (find.asked s (part_inside s c.start c.len) ps ≡ At q)
+  found : {l : said.Line} {c : code.Line} → LineSaid s l c → LinkedLine l → (q : ℕ) × LastQuestion qs l.question q × (find.asked s (part_inside s c.start c.len) ps ≡ Some q)
   found {l} {c} t w = go (find.asked s (part_inside s c.start c.len) ps) refl (asks_said s asks lines l.question (part_inside s c.start c.len) t.name)
     where
-      go : (f : Found) → find.asked s (part_inside s c.start c.len) ps ≡ f → Asks s asks lines l.question f → (q : ℕ) × LastQuestion qs l.question q × (find.asked s (part_inside s c.start c.len) ps ≡ At q)
-      go (At k) e (of_row a) = (k, a, e)
-      go Nothing e (of_none n) = absurd (n (asked w.asks_q.stands w.asks_q.true_of))
+      go : (f : Option ℕ) → find.asked s (part_inside s c.start c.len) ps ≡ f → Asks s asks lines l.question f → (q : ℕ) × LastQuestion qs l.question q × (find.asked s (part_inside s c.start c.len) ps ≡ Some q)
+      go (Some k) e (of_row a) = (k, a, e)
+      go None e (of_none n) = absurd (n (asked w.asks_q.stands w.asks_q.true_of))
 
   -- an id leads to the line with its number
-  to_number : (x : ℤ) → RefSmall (node x) → {j : ℕ} → LastLine ls x j → (i : ℕ) × LastLine ls x i × (find.bearer (id_key x) cs ≡ At i)
+  to_number : (x : ℤ) → RefSmall (node x) → {j : ℕ} → LastLine ls x j → (i : ℕ) × LastLine ls x i × (find.bearer (id_key x) cs ≡ Some i)
   to_number x h {j} w = go (find.bearer (id_key x) cs) refl (leads s asks lines (node x) h)
     where
-      go : (f : Found) → find.bearer (id_key x) cs ≡ f → Leads s asks lines (node x) (to_line f) → (i : ℕ) × LastLine ls x i × (find.bearer (id_key x) cs ≡ At i)
-      go (At i) e (to_line_lem l) = (i, l, e)
-      go Nothing e (to_none n) = absurd (n j w.at w.stands w.true_of)
+      go : (f : Option ℕ) → find.bearer (id_key x) cs ≡ f → Leads s asks lines (node x) (to_line f) → (i : ℕ) × LastLine ls x i × (find.bearer (id_key x) cs ≡ Some i)
+      go (Some i) e (to_line_lem l) = (i, l, e)
+      go None e (to_none n) = absurd (n j w.at w.stands w.true_of)
 
   index_chosen : {l : said.Line} {c : code.Line} → LineSaid s l c → (b : Bool) → chosen b c.yes c.no ≡ index_of (chosen b l.yes l.no)
   index_chosen t true = t.yes
@@ -107,9 +107,9 @@ module _ (s bytes : List ℕ) {qs : List Question} {ps : List QuestionPlace} (as
       led {b} n (pdf k) e h = to_pdf a n e
       led {b} n (node x) e h =
           let f = to_number x h (w.to (is_yes b) x e).1 in
-          subst (λ (i : Found). Meets l (met.Line (line_number (length cs) i))) (sym f.2) (to_next a n e f.1)
+          subst (λ (i : Option ℕ). Meets l (met.Line (line_number (length cs) i))) (sym f.2) (to_next a n e f.1)
 
-      go : (y : Bool) → ltb q (length bytes) ≡ y → Meets l (met_reply cs (cond y (Goes (chosen (is_yes (get_or bytes q 0)) c.yes c.no)) Missing))
+      go : (y : Bool) → ltb q (length bytes) ≡ y → Meets l (met_reply cs (cond y (Some (chosen (is_yes (get_or bytes q 0)) c.yes c.no)) None))
       go true z =
           subst (λ (x : TreeIndex). Meets l (met.Line (goal_in cs x))) (sym (index_chosen t (is_yes (get_or bytes q 0))))
           (led (nth_at bytes q 0 (ltb-true q (length bytes) z)) (chosen (is_yes (get_or bytes q 0)) l.yes l.no) refl (small_chosen t (is_yes (get_or bytes q 0))))
@@ -121,14 +121,14 @@ module _ (s bytes : List ℕ) {qs : List Question} {ps : List QuestionPlace} (as
       let p = paired lines h in
       let w = line_linked h in
       let f = found p.2 w in
-      subst (Meets l) (sym (meets_line s ps bytes cs p.1 ∙ ap (λ (x : Found). met_reply cs (reply_found bytes p.0.yes p.0.no x)) f.2)) (reply_met p.2 w f.1)
+      subst (Meets l) (sym (meets_line s ps bytes cs p.1 ∙ ap (λ (x : Option ℕ). met_reply cs (reply_found bytes p.0.yes p.0.no x)) f.2)) (reply_met p.2 w f.1)
 
   -- from line k on
   pub along_from : (m k : ℕ) {l : said.Line} → Nth ls k l → Goes_on qs bytes ls k m (walk_from (meets_in s ps bytes cs) m k)
   unfolding walk_from
   along_from zero k {l} h = go (line_meets h)
     where
-      go : {x : Met} → Meets l x → Goes_on qs bytes ls k zero (by_met (λ j. walked.Refused Steps) x)
+      go : {x : Met} → Meets l x → Goes_on qs bytes ls k zero (by_met (λ j. Err Steps) x)
       go (wrong a n) = record { ending = refused 24; along = Along.unanswered h a n; same = refl }
       go (to_pdf a n e) = record { ending = refused 25; along = Along.met h a n; same = refl }
       go (to_next a n e j) = record { ending = refused 25; along = Along.met h a n; same = refl }
@@ -141,7 +141,7 @@ module _ (s bytes : List ℕ) {qs : List Question} {ps : List QuestionPlace} (as
           record {
             ending = at i 1 0;
             along = Along.ends h a n e;
-            same = sym (ap (λ (w : Walked). answer.outcome_of (one_more w)) (walk_leaf (meets_in s ps bytes cs) m (length cs + suc i) i (meets_leaf s ps bytes cs i)));
+            same = sym (ap (λ (w : Result Walked Refusal). answer.outcome_of (one_more w)) (walk_leaf (meets_in s ps bytes cs) m (length cs + suc i) i (meets_leaf s ps bytes cs i)));
           }
       go (to_next {j = j} a n e u) r =
           let w = r j u.at u.stands in

@@ -5,6 +5,11 @@ use mathlib.Core.List.{List, [], ◌∷◌, Forall₂}
 use Prim.Native.Nat.{ℕ, ◌+◌, ◌-◌, ◌*◌, ◌<◌, min}
 use native.Mathlib.Omega.{arith}
 use lib.ListN.{length}
+use Rattle.error.specs.declared.LineFault.{LineFault}
+use Rattle.walk.specs.declared.Walked.{Walked}
+use Rattle.std.specs.declared.result.Result.{Result}
+use Rattle.error.specs.declared.Refusal.{Refusal}
+use Rattle.std.specs.Prelude.{Some, None, Ok, Err}
 use Rattle.written.specs.Said as said
 use Rattle.written.specs.Said.{Ref, pdf, Body, lone, braces, Question, QuestionPlace}
 use Rattle.written.specs.Linking.{Nth, here, Single, alone, alike, NotSingle, Row, LineRow, ToLeaf, Records, Refused, Linked}
@@ -21,20 +26,12 @@ use Rattle.tree_line.specs.declared.Line as code
 use Rattle.tree_body.specs.Trees.{head_at}
 use Rattle.tree_body.specs.declared.TreeHead.{TreeHead}
 use Rattle.tree_survey_lines.proofs.Counting.{lines_some}
-use Rattle.error.specs.Numbers.{fault_number}
+use Rattle.error.specs.Numbers.{fault_number, line_fault}
 use Rattle.error.specs.declared.LinkFault.{LinkFault}
 use Rattle.link_alone.specs.Alone.{single_in}
-use Rattle.link_alone.specs.declared.Judged.{Judged}
-use Rattle.link_alone.specs.declared.Single.TheVariants.{One, Several}
-use Rattle.link_window.specs.declared.Linking.{Linking}
-use Rattle.link_window.specs.declared.Linking.TheVariants.{Whole}
-use Rattle.link_window.specs.declared.Linking.TheVariants as linking
 use Rattle.link_window.proofs.Joined.{fault_of, head_fault}
 use Rattle.walk.specs.Walking.{walk_from}
 use Rattle.walk.specs.Answer as answer
-use Rattle.walk.specs.declared.Walked.{Walked}
-use Rattle.walk.specs.declared.Walked.TheVariants as walked
-use Rattle.walk_accepts.specs.declared.Choice.{Choice}
 use Rattle.walk_bare.specs.Bare.{meets_in, read_count, ended_of, alone_of, single_of, ending_of, braces_of, head_of, metered_of, linked_as, meter_at, chosen_of, bare_of}
 use Rattle.walk_bare.specs.declared.Meter as told
 use Rattle.shown_accepts.proofs.Lines.{LineSaid, QuestionSaid}
@@ -50,11 +47,11 @@ capped m = record { number = m.number; place = m.place; line = m.line; pdf = m.p
 
 -- ---- linking
 
-data Linkage (qs : List Question) (t : Body) : Linking → Type 0 where
-  whole : {own : List Row} → Records qs t own → Linkage qs t Whole
-  fault_at : {g : LinkFault} {k : ℕ} → Refused qs t (fault_number g) k → Linkage qs t (linking.Refused g k)
+data Linkage (qs : List Question) (t : Body) : Result Unit LineFault → Type 0 where
+  whole : {own : List Row} → Records qs t own → Linkage qs t (Ok tt)
+  fault_at : {g : LinkFault} {k : ℕ} → Refused qs t (fault_number g) k → Linkage qs t (Err (line_fault g k))
 
-linkage : {qs : List Question} {R : List ℕ} {t : Body} {j : Judged} → Verdict qs R t j → Linkage qs t (fault_of j)
+linkage : {qs : List Question} {R : List ℕ} {t : Body} {j : Result Bool LineFault} → Verdict qs R t j → Linkage qs t (fault_of j)
 linkage (fits r l) = whole r
 linkage (other r l) = whole r
 linkage (refused {g = g} f) = fault_at {g = g} f
@@ -76,19 +73,19 @@ single_pdf s (Records.single {n = n} u) = (n, once s u)
 single_pdf {r = r} s (Records.lines leaves o a n f e) = absurd (o r s)
 
 -- what the walk over lines tells
-told_so : {qs : List Question} {bytes : List ℕ} {ls : List said.Line} {m n : ℕ} → length ls ≡ n → (e : Metered) → Over qs bytes (braces ls) m (reading 1 e) → (w : Walked) → outcome_of e ≡ answer.outcome_of w
+told_so : {qs : List Question} {bytes : List ℕ} {ls : List said.Line} {m n : ℕ} → length ls ≡ n → (e : Metered) → Over qs bytes (braces ls) m (reading 1 e) → (w : Result Walked Refusal) → outcome_of e ≡ answer.outcome_of w
     → metered_of (ended_of n w) ≡ capped (meter_of (reading 1 e))
 unfolding read_count
-told_so {ls = ls} {n = n} q (at p a r) o (walked.Pdf p' a') h =
-    let x : p' ≡ p = cc in
-    let y : a' ≡ a = cc in
+told_so {ls = ls} {n = n} q (at p a r) o (Ok w) h =
+    let x : w.number ≡ p = cc in
+    let y : w.asked ≡ a = cc in
     let z : 1 + r ≡ 1 + (length ls * a - length ls) = over_exact o refl in
-    let v : n * a' ≡ length ls * a = ap₂ ◌*◌ (sym q) y in
-    let u : min (1 + (n * a' - n)) 18446744073709551615 ≡ min (1 + r) 18446744073709551615 = ap (λ (i : ℕ). min i 18446744073709551615) (omega (arith, z, v, q)) in
+    let v : n * w.asked ≡ length ls * a = ap₂ ◌*◌ (sym q) y in
+    let u : min (1 + (n * w.asked - n)) 18446744073709551615 ≡ min (1 + r) 18446744073709551615 = ap (λ (i : ℕ). min i 18446744073709551615) (omega (arith, z, v, q)) in
     λ i. record { number = 0; place = 0; line = 0; pdf = x i; asked = y i; read = u i }
-told_so q (at p a r) o (walked.Refused c) h = let z : ◌≡◌ {A = ℕ} 0 1 = cc in absurd (omega arith)
-told_so q (refused c) o (walked.Pdf p a) h = let z : ◌≡◌ {A = ℕ} 0 1 = cc in absurd (omega arith)
-told_so q (refused c) o (walked.Refused d) h = let x : _ ≡ c = told_number h in λ i. record { number = x i; place = 0; line = 0; pdf = 0; asked = 0; read = 0 }
+told_so q (at p a r) o (Err c) h = let z : ◌≡◌ {A = ℕ} 0 1 = cc in absurd (omega arith)
+told_so q (refused c) o (Ok r) h = let z : ◌≡◌ {A = ℕ} 0 1 = cc in absurd (omega arith)
+told_so q (refused c) o (Err d) h = let x : _ ≡ c = told_number h in λ i. record { number = x i; place = 0; line = 0; pdf = 0; asked = 0; read = 0 }
   where
     told_number : {a b : ℕ} → Outcome.refused a ≡ Outcome.refused b → b ≡ a
     told_number e = cc
@@ -123,18 +120,18 @@ module _ (s bytes : List ℕ) {qs : List Question} {ps : List QuestionPlace} (as
       as_said : same_index (index_of l.no) (index_of l.yes) ≡ same_index c.no c.yes
       as_said = ap₂ same_index (sym t.no) (sym t.yes)
 
-      go : (b : Bool) → same_index c.no c.yes ≡ b → Ends qs bytes (braces (l ∷ [])) m (metered_of (single_of s ps bytes m (c ∷ []) (cond (same_index c.no c.yes) (One c.yes) Several)))
+      go : (b : Bool) → same_index c.no c.yes ≡ b → Ends qs bytes (braces (l ∷ [])) m (metered_of (single_of s ps bytes m (c ∷ []) (cond (same_index c.no c.yes) (Some c.yes) None)))
       go true e =
           let i = index_same l.no l.yes (as_said ∙ e) in
           let p = single_pdf (alike i refl) r in
           record {
             ending = at p.0 0 1;
             over = Over.alike (i ∙ p.1) p.1;
-            same = ap (λ (b : Bool). metered_of (single_of s ps bytes m (c ∷ []) (cond b (One c.yes) Several))) e ∙ ap (λ x. metered_of (alone_of 1 x)) (t.yes ∙ ap index_of p.1);
+            same = ap (λ (b : Bool). metered_of (single_of s ps bytes m (c ∷ []) (cond b (Some c.yes) None))) e ∙ ap (λ x. metered_of (alone_of 1 x)) (t.yes ∙ ap index_of p.1);
           }
       go false e =
           let w = several (Forall₂.cons t Forall₂.nil) (not_alike (as_said ∙ e)) (omega arith) (records_linked r) in
-          record { ending = w.ending; over = w.over; same = ap (λ (b : Bool). metered_of (single_of s ps bytes m (c ∷ []) (cond b (One c.yes) Several))) e ∙ w.same }
+          record { ending = w.ending; over = w.over; same = ap (λ (b : Bool). metered_of (single_of s ps bytes m (c ∷ []) (cond b (Some c.yes) None))) e ∙ w.same }
 
   many_lines : {ls : List said.Line} {cs : List code.Line} → Forall₂ (LineSaid s) ls cs → 0 < length ls → {own : List Row} → Records qs (braces ls) own
       → Ends qs bytes (braces ls) m (metered_of (single_of s ps bytes m cs (single_in cs)))
@@ -168,12 +165,12 @@ pub bare_says : (s : List ℕ) (t : ℕ) (bytes : List ℕ) (m : ℕ) → SaysSo
 unfolding bare_of meter_at
 bare_says s t bytes m = go (chosen s t)
   where
-    go : {c : Choice} → Chosen s t c → SaysSo s t bytes m (chosen_of s t bytes m c)
+    go : {c : Result ℕ Refusal} → Chosen s t c → SaysSo s t bytes m (chosen_of s t bytes m c)
     go (breaks_at {p = p} b) = record { meter = meter_refused 17 p 0; said = Meters.breaks b; tells = refl }
     go (negative h n) = record { meter = meter_refused 18 0 0; said = Meters.says h (MetersText.negative n); tells = refl }
     go (missing h w n) = record { meter = meter_refused 24 0 0; said = Meters.says h (MetersText.missing w n); tells = refl }
     go (tree {x = x} {e = e} {i = i} h w n v q g) = linked (subst (Linkage x.questions e.body) (head_fault s (questions_at s 0).items [] (head_at s i)) (linkage (v [])))
       where
-        linked : {l : Linking} → Linkage x.questions e.body l → SaysSo s t bytes m (linked_as t (metered_of (head_of s (questions_at s 0).items bytes m (head_at s i))) l)
+        linked : {l : Result Unit LineFault} → Linkage x.questions e.body l → SaysSo s t bytes m (linked_as t (metered_of (head_of s (questions_at s 0).items bytes m (head_at s i))) l)
         linked (whole r) = let k = walked_tree s bytes q m g r in record { meter = meter_of k.ending; said = Meters.says h (MetersText.walks w n r k.over); tells = k.same }
         linked (fault_at {g = g} {k = k} f) = record { meter = meter_refused (fault_number g) t k; said = Meters.says h (MetersText.unlinked w n f); tells = refl }

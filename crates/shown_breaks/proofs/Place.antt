@@ -8,6 +8,9 @@ use native.Mathlib.Omega.{arith}
 use native.Mathlib.Decide.{ℕ_discrete}
 use borrow.Author.Tests.{lt-ltb, le-ltb, ltb-true, ne_eqb}
 use lib.ListN.{length}
+use Rattle.tree_survey.specs.declared.SurveyError.TheVariants as fault
+use Rattle.std.specs.declared.option.Option.{Option}
+use Rattle.std.specs.Prelude.{Some, None, Err}
 use Rattle.written.specs.Bytes.{blank, space_or_tab}
 use Rattle.written.specs.Said as says
 use Rattle.written.specs.TreeText.{Run, some, Blanks, Parting, QuestionAt, TreeAt, Says}
@@ -20,8 +23,6 @@ use Rattle.laws.proofs.Steps.{read_is}
 use Rattle.laws.proofs.Parted.{onward}
 use Rattle.laws.proofs.Stops.{run-stop, run_is, run₁-stop, run₁_is}
 use Rattle.text_spaces.specs.Spaces.{parting_at}
-use Rattle.text_spaces.specs.declared.Place.{Place}
-use Rattle.text_spaces.specs.declared.Place.TheVariants.{At, Nowhere}
 use Rattle.text_spaces.proofs.Joined.{no_blank, clash, parting_found, found_parting}
 use Rattle.tree_question.specs.Questions.{past_qs, blank_at, starts_question, item_at, item_parted, after_question, question_followed, question_step_at, questions_from, questions_at}
 use Rattle.tree_question.specs.declared.Item.TheVariants as item
@@ -30,7 +31,6 @@ use Rattle.tree_body.specs.Trees.{Tree, tree_of, tree_parted, after_tree, tree_f
 use Rattle.tree_body.specs.declared.TreeStep.TheVariants.{Next, End, Broken}
 use Rattle.tree_body.proofs.Joined.{tree_read_lem, read_tree, reads}
 use Rattle.tree_survey.specs.Survey.{text_read, text_at, survey_ended, survey_of, survey_at}
-use Rattle.tree_survey.specs.declared.Survey.TheVariants as survey
 use Rattle.tree_survey.proofs.Joined.{silent_broken, broken_silent}
 
 module _ (s : List ℕ) where
@@ -46,9 +46,9 @@ module _ (s : List ℕ) where
   unfolding starts_question
   starts_asks i h = go (past_qs s i) refl h
     where
-      go : (p : Place) → past_qs s i ≡ p → blank_at s p ≡ true → Asks s i
-      go (At a) q h = record { past = a; word = past_qs_lem s i a q; then_blank = first (run₁_is blank no_blank s a (ltb-true a (stop blank s a) h)) }
-      go Nowhere q h = clash (cc)
+      go : (p : Option ℕ) → past_qs s i ≡ p → blank_at s p ≡ true → Asks s i
+      go (Some a) q h = record { past = a; word = past_qs_lem s i a q; then_blank = first (run₁_is blank no_blank s a (ltb-true a (stop blank s a) h)) }
+      go None q h = clash (cc)
 
   asks_not : (i : ℕ) → ¬ Asks s i → starts_question s i ≡ false
   asks_not i n = go (starts_question s i) refl
@@ -104,11 +104,11 @@ module _ (s : List ℕ) where
       let h : tree_parted s (stop blank s e) (parting_at s e) ≡ Broken p = parted (parting_at s e) refl ∙ ap Broken (run-stop blank no_blank s r) in
       ap (λ (c : Bool). cond c End (tree_parted s (stop blank s e) (parting_at s e))) n ∙ h
     where
-      parted : (q : Place) → parting_at s e ≡ q → tree_parted s (stop blank s e) (parting_at s e) ≡ Broken (stop blank s e)
-      parted (At k) q =
+      parted : (q : Option ℕ) → parting_at s e ≡ q → tree_parted s (stop blank s e) (parting_at s e) ≡ Broken (stop blank s e)
+      parted (Some k) q =
           ap (tree_parted s (stop blank s e)) q
           ∙ ap (λ (c : Bool). cond c (Next k) (Broken (stop blank s e))) (le-ltb k (length s) (let m = f k (found_parting s e k q) in omega (arith, m)))
-      parted Nowhere q = ap (tree_parted s (stop blank s e)) q
+      parted None q = ap (tree_parted s (stop blank s e)) q
 
   -- ---- where reading ends
 
@@ -143,9 +143,9 @@ module _ (s : List ℕ) where
   unfolding after_question
   first_tree {e} {j} f b = parted (parting_at s e) refl ∙ ap item.Tree (run-stop blank no_blank s b)
     where
-      parted : (q : Place) → parting_at s e ≡ q → item_parted s e (parting_at s e) ≡ item.Tree (stop blank s e)
-      parted (At k) q = ap (item_parted s e) q ∙ ap (λ (c : Bool). cond c (item.Question k) (item.Tree (stop blank s e))) (asks_not k (f k (found_parting s e k q)))
-      parted Nowhere q = ap (item_parted s e) q
+      parted : (q : Option ℕ) → parting_at s e ≡ q → item_parted s e (parting_at s e) ≡ item.Tree (stop blank s e)
+      parted (Some k) q = ap (item_parted s e) q ∙ ap (λ (c : Bool). cond c (item.Question k) (item.Tree (stop blank s e))) (asks_not k (f k (found_parting s e k q)))
+      parted None q = ap (item_parted s e) q
 
   questions_break : {i p : ℕ} → QuestionsBreak s i p → ended (asked i).ending ≡ broken_at p
   questions_break {i} (QuestionsBreak.here n) = ap ended (question_ends i (no_question i n))
@@ -162,16 +162,16 @@ module _ (s : List ℕ) where
 
   -- ---- the survey
 
-  pub breaks_broken : {b p : ℕ} → Breaks s b p → survey_at s b ≡ survey.Broken p
+  pub breaks_broken : {b p : ℕ} → Breaks s b p → survey_at s b ≡ Err (fault.Broken p)
   unfolding survey_at survey_of text_at
   breaks_broken {b} x = ap (survey_ended (text_at s b)) (any_questions (questions_at s b).items (questions_at s b).ending ∙ text_breaks x)
 
-  pub broken_breaks : (b p : ℕ) → survey_at s b ≡ survey.Broken p → Breaks s b p
+  pub broken_breaks : (b p : ℕ) → survey_at s b ≡ Err (fault.Broken p) → Breaks s b p
   broken_breaks b p h = go (says_or_breaks s b)
     where
       go : ((t : says.Text) × (l : says.Layout) × Says s b t l) ⊎ ((q : ℕ) × Breaks s b q) → Breaks s b p
       go (inl (t, l, x)) = absurd (broken_silent s b p h t l x)
-      go (inr (q, x)) = let e : survey.Broken q ≡ survey.Broken p = sym (breaks_broken x) ∙ h in let u : q ≡ p = cc in subst (Breaks s b) u x
+      go (inr (q, x)) = let e : Err (fault.Broken q) ≡ Err (fault.Broken p) = sym (breaks_broken x) ∙ h in let u : q ≡ p = cc in subst (Breaks s b) u x
 
   -- a text that says nothing breaks
   pub silent_breaks : (b : ℕ) → ((t : says.Text) (l : says.Layout) → ¬ Says s b t l) → (p : ℕ) × Breaks s b p

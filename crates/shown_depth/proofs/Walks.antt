@@ -11,6 +11,10 @@ use Prim.Native.Nat.{ℕ, ◌≤◌}
 use native.Mathlib.Omega.{arith}
 use lib.IntN.{ℤ}
 use lib.ListN.{length}
+use Rattle.error.specs.declared.Refusal.{Refusal}
+use Rattle.walk.specs.declared.Walked.{Walked}
+use Rattle.std.specs.declared.result.Result.{Result}
+use Rattle.std.specs.Prelude.{Ok, Err}
 use Rattle.written.specs.Linking.{Nth, Row}
 use Rattle.written.specs.Walks.{Outcome, Loaded, LoadedTree}
 use Rattle.written.specs.Depths as depths
@@ -19,8 +23,6 @@ use Rattle.written_depth.proofs.Paths.{no_walk_more, depth_enough, some_path, tr
 use Rattle.written_depth.proofs.Deepest.{line_records, straight_lines}
 use Rattle.table_rows.specs.Rows.{tree_rows, tree_first, tree_records, tree_row, tree_table, record_table}
 use Rattle.table_rows.proofs.Stand.{row_of}
-use Rattle.walk.specs.declared.Walked.{Walked}
-use Rattle.walk.specs.declared.Walked.TheVariants.{Pdf, Refused}
 use Rattle.walk.specs.Walking.{walk_of}
 use Rattle.walk.specs.Answer.{answer_of, outcome_of}
 use Rattle.walk.proofs.Loaded.{walk_loaded}
@@ -66,18 +68,18 @@ module _ (T R : List ℕ) (t : ℕ) where
     pub walk_asks : (bytes : List ℕ) (limit : ℕ) → (answer_of (walk_of T R t bytes limit)).asked ≤ r.questions
     walk_asks bytes limit = go (walk_of T R t bytes limit) (walked_in (walk_loaded T R t bytes limit))
       where
-        go : (v : Walked) → Loaded bytes records_of_tree 0 limit (outcome_of v) ⊎ (outcome_of v ≡ Outcome.refused 24) → (answer_of v).asked ≤ r.questions
-        go (Pdf n k) (inl l) = no_walk_more deepest l
-        go (Pdf n k) (inr e) = let z : ◌≡◌ {A = ℕ} 0 1 = cc in absurd (omega arith)
-        go (Refused c) l = omega arith
+        go : (v : Result Walked Refusal) → Loaded bytes records_of_tree 0 limit (outcome_of v) ⊎ (outcome_of v ≡ Outcome.refused 24) → (answer_of v).asked ≤ r.questions
+        go (Ok r) (inl l) = no_walk_more deepest l
+        go (Ok r) (inr e) = let z : ◌≡◌ {A = ℕ} 0 1 = cc in absurd (omega arith)
+        go (Err c) l = omega arith
 
     pub walk_ends : (bytes : List ℕ) (limit : ℕ) → r.questions ≤ limit → (answer_of (walk_of T R t bytes limit)).number ≡ 25 → ⊥
     walk_ends bytes limit h e = go (walk_of T R t bytes limit) (walked_in (walk_loaded T R t bytes limit)) e
       where
-        go : (v : Walked) → Loaded bytes records_of_tree 0 limit (outcome_of v) ⊎ (outcome_of v ≡ Outcome.refused 24) → (answer_of v).number ≡ 25 → ⊥
-        go (Pdf n k) l q = omega arith
-        go (Refused c) (inl l) q = depth_enough deepest h (subst (λ (n : ℕ). Loaded bytes records_of_tree 0 limit (Outcome.refused n)) q l)
-        go (Refused c) (inr u) q = let z : ◌≡◌ {A = ℕ} 25 24 = sym q ∙ (cc) in omega arith
+        go : (v : Result Walked Refusal) → Loaded bytes records_of_tree 0 limit (outcome_of v) ⊎ (outcome_of v ≡ Outcome.refused 24) → (answer_of v).number ≡ 25 → ⊥
+        go (Ok r) l q = omega arith
+        go (Err c) (inl l) q = depth_enough deepest h (subst (λ (n : ℕ). Loaded bytes records_of_tree 0 limit (Outcome.refused n)) q l)
+        go (Err c) (inr u) q = let z : ◌≡◌ {A = ℕ} 25 24 = sym q ∙ (cc) in omega arith
 
     pub path_asks : (j : ℕ) × (n : ℕ) × (a : ℕ) × (b : ℕ) × Path records_of_tree 0 j r.questions × Nth records_of_tree j (1 ∷ n ∷ a ∷ b ∷ [])
     path_asks = some_path deepest refl

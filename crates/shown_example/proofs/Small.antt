@@ -1,4 +1,5 @@
 -- Demand 3 used on a small model, by computation: a repeated id, a repeated QS name, a bare leaf, empty braces and a tree that goes round.
+use Rattle.load_model.proofs.Same.{same_loaded}
 use mathlib.Core.Path.{◌≡◌, refl}
 use mathlib.Core.Bool.{true, false}
 use mathlib.Core.List.{List, [], ◌∷◌}
@@ -8,7 +9,6 @@ use lib.ListN.{length, replicate}
 use Rattle.head_record.specs.Empty.{range, empty_global, empty_header}
 use Rattle.head_record.specs.declared.Header.{Header}
 use Rattle.load_choose.specs.declared.Which.TheVariants.{Duration}
-use Rattle.load_model.specs.declared.Loaded.TheVariants as loaded
 use Rattle.written.specs.Blocks.{little_endian, total, rows_from, paired}
 use Rattle.written.specs.Bytes.{bytes, one_of, same, letter, digit, wildcard, mark, in_pattern, in_word, blank, space_or_tab, in_name, byte_at, between, decimal}
 use Rattle.laws.specs.Runs.{run, stop}
@@ -52,7 +52,7 @@ use Rattle.load_tree.specs.Bodies.{link_result}
 use Rattle.load_trees.specs.Trees.{trees_end, tree_words, record_words, work_after}
 use Rattle.load_questions.specs.Words.{span_words, pattern_words, question_words, row_at as row_at_model_questions}
 use Rattle.load_plan.specs.Plans.{text_of, entries_of, plan_of, planned}
-use Rattle.load_model.specs.Load.{room_for, filled as filled_model, load_of}
+use Rattle.load_model.specs.Load.{loaded, room_for, filled as filled_model, load_of}
 use mathlib.Core.Path.{sym, ◌∙◌}
 use mathlib.Core.Bool.{Bool, ◌&&◌}
 use Prim.Native.Nat.{zero, suc, ◌*◌, ◌≤◌}
@@ -116,7 +116,7 @@ before = lent (replicate 12 7) (replicate 6 7) (replicate 23 7) (replicate 28 7)
 abbrev after : After
 after = load_of data_bytes record₁ Duration before
 
-pub loads : after.answer ≡ loaded.Done 3 3 3 7 8
+pub loads : after.answer ≡ loaded 3 3 3 7 8
 unfolding little_endian total rows_from paired bytes one_of same letter digit wildcard mark in_pattern in_word blank space_or_tab in_name byte_at between decimal run stop read_from read larger total_laws largest any_of eq_z class_of unsigned_of unsigned_from unsigned_at signed_at pattern_of pattern_at empty_global empty_stream empty_position empty_header filled global_record stream_record position_record header_record each counted span_fits global_fits stream_fits position_fits record_fits split_of key_row row_at rows_from_groups rows_at row_line_at over no_names names_with known_from known_in rows_from_rows tree_table record_table key_of name_key part_inside name_at id_at side_of insert sorted last_below first_from count_from ref_of lines_from pdfs_of target_of order_from leaf_rows line_rows leaves_of record_rows link_outcome linked_rows step_question outcome goals within_of model_of stream_model gv_model named numbered chosen_of past_qs starts_question head_at after_pattern pattern_step_at item_at after_question patterns_at question_step_at questions_at patterns_counted questions_counted name_of name_at_base_spaces past_byte newline_at parting_at line_parting_at close_at digits_from pdf_of pdf_at bare_at quoted_at reference_at yes_at branches_at line_at after_line line_step_at lines_at records_of lines_counted lines_surveyed past_star number_at state_at body_at head_at_tree after_tree tree_step_at trees_at said_records said_survey text_at trees_counted survey_of survey_at widen_fields widen_of words_at block_at with_blocks pairs_at entry_at values_at asked_at line_words link_result trees_end tree_words record_words work_after span_words pattern_words question_words row_at_model_questions text_of entries_of plan_of planned room_for filled_model load_of
 loads = refl
 
@@ -145,10 +145,9 @@ stored = load_stored data_bytes record₁ Duration (omega arith) (below data_byt
 
 counts : (stored.p.trees ≡ 3) × (stored.p.records ≡ 7)
 counts =
-    let e : loaded.Done stored.p.questions stored.p.patterns stored.p.trees stored.p.records (stored.p.entries * stored.p.width) ≡ loaded.Done 3 3 3 7 8 = sym stored.counts ∙ loads in
-    let t : stored.p.trees ≡ 3 = cc in
-    let r : stored.p.records ≡ 7 = cc in
-    (t, r)
+    let e : loaded stored.p.questions stored.p.patterns stored.p.trees stored.p.records (stored.p.entries * stored.p.width) ≡ loaded 3 3 3 7 8 = sym stored.counts ∙ loads in
+    let same = same_loaded e in
+    (same.2, same.3)
 
 -- each of its three trees, any answers, any limit: the loaded walk ends as the written one
 pub walks_as_written : {i : ℕ} {tree : Tree} → Nth stored.t.trees i tree → (bytes : List ℕ) → length stored.t.questions ≤ length bytes → (m : ℕ)

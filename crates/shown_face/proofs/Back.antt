@@ -9,10 +9,10 @@ use borrow.Author.Tests.{le-ltb, leb-true}
 use lib.Dec.{ltb, eqb}
 use lib.ListN.{length}
 use lib.Seq.{sets, length-sets, take_all}
+use Rattle.std.specs.Prelude.{Ok}
 use Rattle.written.specs.Bytes.{part}
 use Rattle.laws.proofs.Every.{first_of}
 use Rattle.laws.specs.Every.{all}
-use Rattle.head_lines.specs.declared.Verdict.TheVariants.{Accepted}
 use Rattle.head_words.specs.Words.{word_at, is_flag, group_flags, flags_fit, header_words, global_at, header_at}
 use Rattle.shown_words.proofs.Back.{Shaped, read_written, written_flags}
 use Rattle.head_open.specs.Open.{open_of, comment_part, comment_of}
@@ -23,7 +23,7 @@ use Rattle.face_record.proofs.Laws.{judged_fit}
 
 -- ---- opening
 
-module _ (s w : List ℕ) (v : (open_of s).verdict ≡ Accepted) (l : 647 ≤ length w) where
+module _ (s w : List ℕ) (v : (open_of s).verdict ≡ Ok tt) (l : 647 ≤ length w) where
   written : open_words s w ≡ sets w 0 (header_words (open_of s).header)
   unfolding open_words
   written =

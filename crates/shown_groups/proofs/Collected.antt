@@ -9,6 +9,7 @@ use native.Mathlib.Decide.{dec_lt}
 use borrow.Author.Tests.{lt-ltb, le-ltb}
 use lib.Dec.{ltb}
 use lib.ListN.{length, set, length-append}
+use Rattle.std.specs.Prelude.{Result, Ok, Err, ⊤}
 use Rattle.written.specs.Bytes as written
 use Rattle.written.specs.Bytes.{same, part}
 use Rattle.written.specs.HeaderText.{Field, Entry}
@@ -24,8 +25,6 @@ use Rattle.head_record.specs.Empty.{no_span}
 use Rattle.head_record.specs.Lists.{filled, span_of}
 use Rattle.text_parts.specs.declared.Span.{Span}
 use Rattle.head_record.proofs.Filled.{filled_with, filled_past}
-use Rattle.head_lines.specs.declared.Verdict.{Verdict}
-use Rattle.head_lines.specs.declared.Verdict.TheVariants as verdict
 use Rattle.head_brackets.specs.Rows.{Going, on, stop_with, over, names_with, known_from, known_in}
 use Rattle.text_parts.specs.Parts.{bytes_of}
 use Rattle.head_brackets.specs.declared.Row.{Row}
@@ -48,10 +47,10 @@ map_more f (b ∷ l) a = ap (λ (m : List _). f b ∷ m) (map_more f l a)
 abbrev pub group_for : List ℕ → List Row → Row → Group
 group_for s whole r = record { name = name_of (row_said s r); rows = of_group (bytes_of s r.name) (map (row_said s) whole) }
 
-module _ {D E : Type 0} (name : E → written.Span) (made : E → D) (T : List Field) (Say : Group → List Entry → E → Type 0) (s : List ℕ) (whole : List Row) (verdictOf : Span → Verdict) (item_of : Span → D) where
+module _ {D E : Type 0} (name : E → written.Span) (made : E → D) (T : List Field) (Say : Group → List Entry → E → Type 0) (s : List ℕ) (whole : List Row) (verdictOf : Span → (Result ⊤ Refusal)) (item_of : Span → D) where
   pub data OneGroup (r : Row) : Type 0 where
-    one_said : (e : E) → verdictOf r.name ≡ verdict.Accepted → item_of r.name ≡ made e → name e ≡ span_said r.name → GroupSays T Say s (group_for s whole r) e → OneGroup r
-    one_faulty : (q : Refusal) → verdictOf r.name ≡ verdict.Refused q → NoGroup T s (group_for s whole r).rows (error.number_of q) (error.place_of q) → OneGroup r
+    one_said : (e : E) → verdictOf r.name ≡ Ok tt → item_of r.name ≡ made e → name e ≡ span_said r.name → GroupSays T Say s (group_for s whole r) e → OneGroup r
+    one_faulty : (q : Refusal) → verdictOf r.name ≡ Err q → NoGroup T s (group_for s whole r).rows (error.number_of q) (error.place_of q) → OneGroup r
 
 -- ---- a struct x with the names and the items of its groups, the first eight; es are the groups of `written` that it has
 
@@ -121,7 +120,7 @@ module _ {X D E : Type 0} (names : X → Names) (items : X → List D) (name : E
 
     -- ---- the groups of the rows `whole` of a section
 
-    module _ (T : List Field) (Say : Group → List Entry → E → Type 0) (complete : (g : Group) (xs : List Entry) (e : E) → Say g xs e → ¬ Missing T xs) (s : List ℕ) (whole : List Row) (verdictOf : Span → Verdict) (item_of : Span → D) where
+    module _ (T : List Field) (Say : Group → List Entry → E → Type 0) (complete : (g : Group) (xs : List Entry) (e : E) → Say g xs e → ¬ Missing T xs) (s : List ℕ) (whole : List Row) (verdictOf : Span → (Result ⊤ Refusal)) (item_of : Span → D) where
       abbrev said : List Row → List says.Row
       said rs = map (row_said s) rs
 
@@ -129,20 +128,20 @@ module _ {X D E : Type 0} (names : X → Names) (items : X → List D) (name : E
       names_of es = map (λ e. part s (name e).start (name e).len) es
 
       module _ (one-group : (r : Row) → Standing s r → OneGroup name made T Say s whole verdictOf item_of r) (alike : (x y : Span) → bytes_of s x ≡ bytes_of s y → verdictOf x ≡ verdictOf y)
-          (step : X → Row → Going X) (after : X → Verdict → D → Going X)
-          (after-accepted : (x : X) (d : D) → after x verdict.Accepted d ≡ on (with x d)) (after-refused : (x : X) (d : D) (q : Refusal) → after x (verdict.Refused q) d ≡ stop_with q)
+          (step : X → Row → Going X) (after : X → Result ⊤ Refusal → D → Going X)
+          (after-accepted : (x : X) (d : D) → after x (Ok tt) d ≡ on (with x d)) (after-refused : (x : X) (d : D) (q : Refusal) → after x (Err q) d ≡ stop_with q)
           (steps : (x : X) (r : Row) → step x r ≡ cond (known_in s (names x).items (names x).count (bytes_of s r.name)) (on x) (after x (verdictOf r.name) (item_of r.name))) where
         -- the groups that are held were read without fault
         abbrev Accepted : E → Type 0
-        Accepted e = (y : Span) → bytes_of s y ≡ part s (name e).start (name e).len → verdictOf y ≡ verdict.Accepted
+        Accepted e = (y : Span) → bytes_of s y ≡ part s (name e).start (name e).len → verdictOf y ≡ Ok tt
 
-        known_accepted : {es : List E} → All Accepted es → (y : Span) → known (names_of es) (bytes_of s y) ≡ true → verdictOf y ≡ verdict.Accepted
+        known_accepted : {es : List E} → All Accepted es → (y : Span) → known (names_of es) (bytes_of s y) ≡ true → verdictOf y ≡ Ok tt
         unfolding known
         known_accepted All.end y e = differ e refl
         known_accepted (next {a = a} {l = es} p h) y e = go (same (part s (name a).start (name a).len) (bytes_of s y)) refl e (λ f. known_accepted h y f)
           where
-            go : (t : Bool) → same (part s (name a).start (name a).len) (bytes_of s y) ≡ t → cond t true (known (names_of es) (bytes_of s y)) ≡ true → (known (names_of es) (bytes_of s y) ≡ true → verdictOf y ≡ verdict.Accepted)
-                → verdictOf y ≡ verdict.Accepted
+            go : (t : Bool) → same (part s (name a).start (name a).len) (bytes_of s y) ≡ t → cond t true (known (names_of es) (bytes_of s y)) ≡ true → (known (names_of es) (bytes_of s y) ≡ true → verdictOf y ≡ Ok tt)
+                → verdictOf y ≡ Ok tt
             go true f g rec = p y (sym (same_true (part s (name a).start (name a).len) (bytes_of s y) f))
             go false f g rec = rec g
 
@@ -216,7 +215,7 @@ module _ {X D E : Type 0} (names : X → Names) (items : X → List D) (name : E
             again : known (names_of es) w ≡ true → known_in s (names x).items (names x).count w ≡ false → Dec (8 < length es)
                 → ((y : X) (fs : List E) → Holds y fs → All Accepted fs → Before fs rs → GroupsAnswer T Say s fs rs (over step y rs)) → GroupsAnswer T Say s es (r ∷ rs) (over step x (r ∷ rs))
             again e f (yes l) rec =
-                let o : step x r ≡ on (with x (item_of r.name)) = stepped x es h r f ∙ ap (λ (v : Verdict). after x v (item_of r.name)) (known_accepted acc r.name e) ∙ after-accepted x (item_of r.name) in
+                let o : step x r ≡ on (with x (item_of r.name)) = stepped x es h r f ∙ ap (λ (v : Result ⊤ Refusal). after x v (item_of r.name)) (known_accepted acc r.name e) ∙ after-accepted x (item_of r.name) in
                 subst (GroupsAnswer T Say s es (r ∷ rs)) (sym (over_on step x r rs o)) (known_on es r rs e (rec (with x (item_of r.name)) es (holds_again h l (item_of r.name)) acc (before_known es r rs e bf)))
             again e f (no l) rec = differ e (holds_known x es h w f (omega arith))
 
@@ -227,7 +226,7 @@ module _ {X D E : Type 0} (names : X → Names) (items : X → List D) (name : E
                 let q = rec (with x (made d)) (es ++ (d ∷ [])) (holds_more h d) (all_more acc (λ z k. alike z r.name (k ∙ named_so es r rs bf e d n) ∙ v)) (before_new es r rs bf e d n) in
                 subst (GroupsAnswer T Say s es (r ∷ rs)) (sym (over_on step x r rs o)) (new_on es r rs bf e d n y q)
             new e f (one_faulty q v n) rec =
-                let o : step x r ≡ stop_with q = stepped x es h r f ∙ ap (λ (u : Verdict). after x u (item_of r.name)) v ∙ after-refused x (item_of r.name) q in
+                let o : step x r ≡ stop_with q = stepped x es h r f ∙ ap (λ (u : Result ⊤ Refusal). after x u (item_of r.name)) v ∙ after-refused x (item_of r.name) q in
                 let g = grouped_always (unknown (names_of es ++ (w ∷ [])) (said rs)) in
                 subst (GroupsAnswer T Say s es (r ∷ rs)) (sym (over_stop step x r rs o)) (first_faulty (grouped_row es r rs bf e g.1) (NoGroups.here n))
 

@@ -8,6 +8,7 @@ use borrow.Author.Tests.{eqb-true, ne_eqb, eq-eqb, leb-false, lt-leb}
 use lib.Dec.{eqb, leb}
 use lib.ListN.{length, get_or, take, drop, length-append, take-append-drop, drop_of_length-le}
 use lib.Seq.{drop-cons, drop-drop, get_or-take, length-take-le}
+use Rattle.std.specs.Prelude.{Option, None}
 use Rattle.written.specs.Bytes.{bracket, unbracket, one_of, none_of, byte_at, Each, Ends, over, met, part}
 use Rattle.written.specs.Groups.{Bracketed}
 use Rattle.written.proofs.Tests.{differ}
@@ -15,8 +16,8 @@ use Rattle.laws.specs.Runs.{run, stop}
 use Rattle.laws.proofs.Runs.{byte_is}
 use Rattle.laws.proofs.Cursor.{stop_each, stop_ends}
 use Rattle.head_lines.proofs.Moves.{no as never}
-use Rattle.head_brackets.specs.Rows.{split_at, split_of}
-use Rattle.head_brackets.specs.declared.Split.TheVariants as split
+use Rattle.head_brackets.specs.Rows.{bracketed, split_at, split_of}
+use Rattle.head_brackets.specs.declared.Brackets.{Brackets}
 
 -- ---- one byte as a set
 
@@ -61,7 +62,7 @@ bracketed_at w k h e f g =
       first = none_in bracket (take k w) (λ j i. let l : j < k = omega (arith, length-take-le k w (omega arith)) in ap (none_of (bracket ∷ [])) (get_or-take k w j 0 l) ∙ e.passes j (omega arith) l);
     }
 
-pub split_bracketed : (w : List ℕ) {b n : ℕ} → split_of w ≡ split.Bracketed b n → Bracketed w (take b w) (part w (b + 1) n)
+pub split_bracketed : (w : List ℕ) {b n : ℕ} → split_of w ≡ bracketed b n → Bracketed w (take b w) (part w (b + 1) n)
 unfolding split_of
 split_bracketed w {b} {n} e = go (eqb (byte_at w (length w - 1)) unbracket) refl e
   where
@@ -79,16 +80,17 @@ split_bracketed w {b} {n} e = go (eqb (byte_at w (length w - 1)) unbracket) refl
         by true g = refl
         by false g = differ refl g
 
-    at : byte_at w (length w - 1) ≡ unbracket → (t : Bool) → leb (length w) (k + 1) ≡ t → cond t split.Plain (split.Bracketed k (length w - k - 2)) ≡ split.Bracketed b n → Bracketed w (take b w) (part w (b + 1) n)
+    at : byte_at w (length w - 1) ≡ unbracket → (t : Bool) → leb (length w) (k + 1) ≡ t → cond t None (bracketed k (length w - k - 2)) ≡ bracketed b n → Bracketed w (take b w) (part w (b + 1) n)
     at g true f h = never cc
     at g false f h =
-        let p : k ≡ b = cc in
-        let q : length w - k - 2 ≡ n = cc in
+        let x : ◌≡◌ {A = Brackets} (record { field = k; name = length w - k - 2 }) (record { field = b; name = n }) = cc in
+        let p : k ≡ b = ap (λ (y : Brackets). y.field) x in
+        let q : length w - k - 2 ≡ n = ap (λ (y : Brackets). y.name) x in
         let l : k + 1 < length w = leb-false (length w) (k + 1) f in
         let c = bracketed_at w k l (stop_each (none_of (bracket ∷ [])) w 0 (omega arith)) (bracket_at (omega arith) (stop_ends (none_of (bracket ∷ [])) w 0 (omega arith) (one_of (bracket ∷ [])) negate)) (sym (byte_is w (length w - 1) (omega arith)) ∙ g) in
         subst (λ (m : ℕ). Bracketed w (take m w) (part w (m + 1) n)) p (subst (λ (m : ℕ). Bracketed w (take k w) (part w (k + 1) m)) q c)
 
-    go : (t : Bool) → eqb (byte_at w (length w - 1)) unbracket ≡ t → cond t (split_at (length w) k) split.Plain ≡ split.Bracketed b n → Bracketed w (take b w) (part w (b + 1) n)
+    go : (t : Bool) → eqb (byte_at w (length w - 1)) unbracket ≡ t → cond t (split_at (length w) k) None ≡ bracketed b n → Bracketed w (take b w) (part w (b + 1) n)
     go true f h = at (eqb-true _ _ f) (leb (length w) (k + 1)) refl h
     go false f h = never cc
 
@@ -110,7 +112,7 @@ last_of : (a : List ℕ) (c : ℕ) → get_or (a ++ (c ∷ [])) (length a) 0 ≡
 last_of [] c = refl
 last_of (b ∷ a) c = last_of a c
 
-pub bracketed_split : {w f n : List ℕ} → Bracketed w f n → split_of w ≡ split.Bracketed (length f) (length n)
+pub bracketed_split : {w f n : List ℕ} → Bracketed w f n → split_of w ≡ bracketed (length f) (length n)
 unfolding split_of stop
 bracketed_split {w} {f} {n} b =
     let e : w ≡ (f ++ (bracket ∷ n)) ++ (unbracket ∷ []) = b.whole ∙ sym (append_assoc f (bracket ∷ n) (unbracket ∷ [])) in
@@ -124,5 +126,5 @@ bracketed_split {w} {f} {n} b =
     let m : length w - length f - 2 ≡ length n = omega arith in
     rw (g, s, lt-leb (length w) (length f + 1) (omega arith), m)
 
-pub plain_split : (w : List ℕ) → split_of w ≡ split.Plain → (f n : List ℕ) → ¬ Bracketed w f n
-plain_split w e f n b = let g : split.Plain ≡ split.Bracketed (length f) (length n) = sym e ∙ bracketed_split b in never {A = ⊥} cc
+pub plain_split : (w : List ℕ) → split_of w ≡ None → (f n : List ℕ) → ¬ Bracketed w f n
+plain_split w e f n b = let g : ◌≡◌ {A = Option Brackets} None (bracketed (length f) (length n)) = sym e ∙ bracketed_split b in never {A = ⊥} cc

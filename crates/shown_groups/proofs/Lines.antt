@@ -10,6 +10,7 @@ use borrow.Author.Tests.{eqb-true, ne_eqb, eq-eqb}
 use lib.Dec.{eqb, leb}
 use lib.ListN.{length, get_or, take, drop, length-drop}
 use lib.Seq.{drop-drop, length-take-le, take-take, take-nil}
+use Rattle.std.specs.Prelude.{Option, Some, None, Result, Ok, Err}
 use Rattle.written.specs.Bytes.{newline, colon, dash, digit, is_newline, one_of, none_of, byte_at, At, Each, Ends, over, met, part, Span}
 use Rattle.written.specs.HeaderText.{Text, Led, swallowed, plain, Range, Pair, Kind, a_pair, anything, Value, unread, Reads, is_pair, is_unknown, Field, kind_of, Entry, Key, NextLine, Many, none, more, Section}
 use Rattle.written.specs.Faults.{NoText}
@@ -23,17 +24,16 @@ use Rattle.written_apart.proofs.Apart.{text_never}
 use Rattle.laws.specs.Runs.{stop}
 use Rattle.laws.proofs.Runs.{stop_on, stop_here, stop_end, byte_is, byte_out}
 use Rattle.head_record.specs.Empty.{span}
-use Rattle.head_de.specs.Values.{cursor, text_at}
+use Rattle.head_de.specs.Values.{got, text_at}
 use Rattle.head_de.specs.Readings.{of_text}
-use Rattle.head_de.specs.declared.Text as deText
-use Rattle.head_de.specs.declared.Text.TheVariants as text
+use Rattle.error.specs.declared.Refusal.{Refusal}
+use Rattle.text_parts.specs.declared.Span as of-span
+use Rattle.head_de.specs.declared.Read as of-read
 use Rattle.head_de.proofs.Sound.{Answers, right, wrong, Bytes, text_sound}
-use Rattle.head_lines.specs.Lines.{key_of, key_from, key_at}
-use Rattle.head_lines.specs.declared.Key.TheVariants as key
-use Rattle.head_brackets.specs.Rows.{split_of, split_row, key_row, row_of, row_at, onward_row, rows_from, rows_at}
+use Rattle.head_lines.specs.Lines.{some_of, key_from, key_at}
+use Rattle.head_brackets.specs.Rows.{bracketed, split_of, split_row, key_row, row_of, row_at, onward_row, rows_from, rows_at}
 use Rattle.text_parts.specs.Parts.{bytes_of}
-use Rattle.head_brackets.specs.declared.Split.{Split}
-use Rattle.head_brackets.specs.declared.Split.TheVariants as split
+use Rattle.head_brackets.specs.declared.Brackets.{Brackets}
 use Rattle.head_brackets.specs.declared.Row.{Row}
 use Rattle.head_brackets.specs.declared.RowAt.TheVariants as found
 use Rattle.head_brackets.proofs.Rows.{split_whole}
@@ -125,22 +125,22 @@ unread_of {s} {i} {j} (is_unknown {x = x} u) =
 
 -- ---- a key, from what is written to the answer
 
-text_read : {D s : List ℕ} {i j : ℕ} {x : Span} → i ≤ length s → Text D s i x j → text_at D s i ≡ text.Read x.start x.len (cursor j)
+text_read : {D s : List ℕ} {i j : ℕ} {x : Span} → i ≤ length s → Text D s i x j → text_at D s i ≡ got (span x.start x.len) j
 text_read {D} {s} {i} {j} {x} h t = go (text_at D s i) refl (text_sound D s i h)
   where
-    go : (u : deText.Text) → text_at D s i ≡ u → Answers s i (Text D s i) (NoText s i) (of_text u) → text_at D s i ≡ text.Read x.start x.len (cursor j)
-    go (text.Read a n c) e (right p q g) =
-        let o = text_one D s i (record { start = a; len = n }) x c.at j g t in
-        e ∙ (λ k. text.Read (o.0 k).start (o.0 k).len (cursor (o.1 k)))
-    go (text.Refused r) e (wrong n) = absurd (text_never D s _ _ _ _ _ t n)
+    go : (u : Result (of-read.Read of-span.Span) Refusal) → text_at D s i ≡ u → Answers s i (Text D s i) (NoText s i) (of_text u) → text_at D s i ≡ got (span x.start x.len) j
+    go (Ok u) e (right p q g) =
+        let o = text_one D s i (record { start = u.value.start; len = u.value.len }) x u.next.at j g t in
+        e ∙ (λ k. got (span (o.0 k).start (o.0 k).len) (o.1 k))
+    go (Err r) e (wrong n) = absurd (text_never D s _ _ _ _ _ t n)
 
-key_read : {s : List ℕ} → Bytes s → {i k at j : ℕ} {w : List ℕ} → Each is_newline s i k → ¬ Ends is_newline s k → (q : Key s k at w j) → key_at s i ≡ key.Read at q.len (cursor j)
+key_read : {s : List ℕ} → Bytes s → {i k at j : ℕ} {w : List ℕ} → Each is_newline s i k → ¬ Ends is_newline s k → (q : Key s k at w j) → key_at s i ≡ some_of (got (span at q.len) j)
 unfolding key_at
 key_read {s} b {i} {k} {at} {j} e n q =
     let l : k < length s = inside (dec_lt k (length s)) in
     let d : stop is_newline s i ≡ k = stop_is is_newline s (k - i) i k (omega (arith, e.order)) e (λ h. no_newline (is_newline (get_or s k 0)) refl h) in
     let t : eqb (byte_at s k) 256 ≡ false = ne_eqb (byte_at s k) 256 (λ f. omega (arith, b.below k, byte_is s k l)) in
-    ap (key_from s) d ∙ ap (λ (u : Bool). cond u key.End (key_of (text_at (newline ∷ colon ∷ []) s k))) t ∙ ap key_of (text_read e.inside q.string)
+    ap (key_from s) d ∙ ap (λ (u : Bool). cond u (Ok None) (some_of (text_at (newline ∷ colon ∷ []) s k))) t ∙ ap some_of (text_read e.inside q.string)
   where
     inside : Dec (k < length s) → k < length s
     inside (yes l) = l
@@ -202,7 +202,7 @@ module _ (T : List Field) (ungrouped : Ungrouped T) {s : List ℕ} (b : Bytes s)
   row_read {i} {j} {x} l =
       let q = l.line.key in
       let h = l.line.split in
-      let e : key_at s i ≡ key.Read x.at q.len (cursor l.line.k) = key_read b l.blank (line_starts l.line) q in
+      let e : key_at s i ≡ some_of (got (span x.at q.len) l.line.k) = key_read b l.blank (line_starts l.line) q in
       let v = value_on_line (ungrouped.pairs x.name) l.line.value in
       let d : stop (none_of (newline ∷ [])) s (l.line.k + 1) ≡ j = stop_is on_line s (j - (l.line.k + 1)) (l.line.k + 1) j (omega (arith, v.order)) v (λ k. not_on_line l.ends k) in
       let c : eqb (byte_at s l.line.k) colon ≡ true = eq-eqb (byte_at s l.line.k) colon (byte_is s l.line.k h.inside ∙ h.byte) in
@@ -212,7 +212,7 @@ module _ (T : List Field) (ungrouped : Ungrouped T) {s : List ℕ} (b : Bytes s)
 
   -- a line's row
   row_said_lem : {x : Entry} {rs : List Row} {xs : List Entry} (v j : ℕ) → x.value ≡ unread (record { start = v; len = j - v }) → v ≤ j → j ≤ length s → (n : ℕ) → x.name ≡ part s x.at n → x.at + n ≤ length s
-      → (c m : ℕ) → split_of x.name ≡ split.Bracketed c m → RowsSaid s xs rs → RowsSaid s (x ∷ xs) (row_of_lem x.at c m v j ∷ rs)
+      → (c m : ℕ) → split_of x.name ≡ bracketed c m → RowsSaid s xs rs → RowsSaid s (x ∷ xs) (row_of_lem x.at c m v j ∷ rs)
   unfolding row_said row_of_lem
   row_said_lem {x} {rs} {xs} v j e h l n w i c m f r =
       let k : c + m + 2 ≡ length x.name = split_whole x.name f in
@@ -239,20 +239,20 @@ module _ (T : List Field) (ungrouped : Ungrouped T) {s : List ℕ} (b : Bytes s)
       v : ℕ
       v = l.line.k + 1
 
-      go : (d : Split) → split_of x.name ≡ d → RowsSaid s (x ∷ xs) (onward_row (rows_from f s) (split_row x.at v j d))
-      go (split.Bracketed c m) e =
-          let g = split_bracketed x.name e in
-          let k : Reads (newline ∷ []) s v anything x.value j = subst (λ (t : Kind). Reads (newline ∷ []) s v t x.value j) (ungrouped.unknown x.name (take c x.name) (part x.name (c + 1) m) g) l.line.value in
+      go : (d : Option Brackets) → split_of x.name ≡ d → RowsSaid s (x ∷ xs) (onward_row (rows_from f s) (split_row x.at v j d))
+      go (Some d) e =
+          let g = split_bracketed x.name {b = d.field} {n = d.name} e in
+          let k : Reads (newline ∷ []) s v anything x.value j = subst (λ (t : Kind). Reads (newline ∷ []) s v t x.value j) (ungrouped.unknown x.name (take d.field x.name) (part x.name (d.field + 1) d.name) g) l.line.value in
           let o = value_on_line (ungrouped.pairs x.name) l.line.value in
-          row_said_lem v j (unread_of k) o.order o.inside l.line.key.len l.line.key.bytes_of (text_in l.blank.inside l.line.key.string) c m e r
-      go split.Plain e = record { rows = dropped (plain_split x.name e) r.rows; standing = r.standing }
+          row_said_lem v j (unread_of k) o.order o.inside l.line.key.len l.line.key.bytes_of (text_in l.blank.inside l.line.key.string) d.field d.name e r
+      go None e = record { rows = dropped (plain_split x.name e) r.rows; standing = r.standing }
 
   no_rows : {i : ℕ} → Each is_newline s i (length s) → row_at s i ≡ found.End
   unfolding row_at key_at
   no_rows {i} e =
       let d : stop is_newline s i ≡ length s = stop_is is_newline s (length s - i) i (length s) (omega (arith, e.order)) e (λ h. absurd (omega arith)) in
       let t : eqb (byte_at s (length s)) 256 ≡ true = eq-eqb (byte_at s (length s)) 256 (byte_out s (length s) (omega arith)) in
-      ap (λ (k : ℕ). row_of s (key_from s k)) d ∙ ap (λ (u : Bool). row_of s (cond u key.End (key_of (text_at (newline ∷ colon ∷ []) s (length s))))) t
+      ap (λ (k : ℕ). row_of s (key_from s k)) d ∙ ap (λ (u : Bool). row_of s (cond u (Ok None) (some_of (text_at (newline ∷ colon ∷ []) s (length s))))) t
 
   line_moves : {i j : ℕ} {x : Entry} → NextLine T s i x j → i < j
   line_moves {x = x} l = let v = value_on_line (ungrouped.pairs x.name) l.line.value in omega (arith, l.blank.order, v.order, text_on l.line.key.string)

@@ -7,6 +7,8 @@ use Prim.Native.Nat.{ℕ, ◌≤◌, ◌<◌}
 use native.Mathlib.Omega.{arith}
 use borrow.Author.Tests.{eqb-true, eq-eqb}
 use lib.ListN.{length}
+use Rattle.std.specs.declared.option.Option.{Option}
+use Rattle.std.specs.Prelude.{Some, None}
 use Rattle.written.specs.Bytes.{same}
 use Rattle.written.specs.Said.{Question}
 use Rattle.written.specs.Linking.{Nth}
@@ -15,8 +17,6 @@ use Rattle.laws.proofs.Every.{all_each, each_all}
 use Rattle.laws.proofs.Nth.{nth_inside, nth_of}
 use Rattle.link_order.specs.Keys.{name_at}
 use Rattle.link_sort.proofs.Order.{le_or_lt}
-use Rattle.link_search.specs.declared.Found.{Found}
-use Rattle.link_search.specs.declared.Found.TheVariants.{At, Nothing}
 use Rattle.link_search.proofs.Ids.{same_true, true_same}
 use Rattle.link_search.proofs.Last.{last_is_lem, last_found}
 use Rattle.house_names.specs.Names.{last_is, is_last, all_last}
@@ -26,9 +26,9 @@ module _ (s q : List ℕ) (qs : List Question) (named : (e : ℕ) (x : Question)
   abbrev alike : ℕ → ℕ → Bool
   alike k e = same (name_at s q e) (name_at s q k)
 
-  found_so : (f : Found) (k : ℕ) → last_is f k ≡ true → f ≡ At k
-  found_so (At row) k e = ap At (eqb-true row k e)
-  found_so Nothing k e = absurd (true≢false (sym e))
+  found_so : (f : Option ℕ) (k : ℕ) → last_is f k ≡ true → f ≡ Some k
+  found_so (Some row) k e = ap Some (eqb-true row k e)
+  found_so None k e = absurd (true≢false (sym e))
 
   -- no later row has the name of row k
   none_later : all_last s q (length qs) ≡ true → (k m : ℕ) → k < m → m < length qs → alike k m ≡ false
@@ -61,5 +61,5 @@ module _ (s q : List ℕ) (qs : List Question) (named : (e : ℕ) (x : Question)
 
       row : (k : ℕ) → k < length qs → is_last s q (length qs) k ≡ true
       row k l =
-          ap (λ (g : Found). last_is g k) (last_is_lem (alike k) (length qs) k l (same_true (name_at s q k)) (λ m a b. other k m a b (alike k m) refl))
+          ap (λ (g : Option ℕ). last_is g k) (last_is_lem (alike k) (length qs) k l (same_true (name_at s q k)) (λ m a b. other k m a b (alike k m) refl))
           ∙ eq-eqb k k refl

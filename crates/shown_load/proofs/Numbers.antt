@@ -8,6 +8,9 @@ use native.Mathlib.Omega.{arith}
 use lib.Dec.{ltb}
 use lib.IntN.{pos}
 use lib.ListN.{length, get_or, replicate, take}
+use Rattle.tree_survey.specs.declared.SurveyError.TheVariants as fault
+use Rattle.tree_survey.specs.declared.SurveyError.{SurveyError}
+use Rattle.tree_survey.specs.declared.Survey.{Survey}
 use Rattle.error.specs.Numbers.{fault_number, number_of}
 use Rattle.error.specs.declared.LinkFault.{LinkFault}
 use Rattle.error.specs.declared.LinkFault.TheVariants.{NodeRef, QuestionRef, LoneNode}
@@ -20,48 +23,36 @@ use Rattle.head_record.specs.declared.PositionData.{PositionData}
 use Rattle.head_record.specs.Empty.{no_span}
 use Rattle.text_parts.specs.Parts.{bytes_of}
 use Rattle.head_record_fits.specs.Fits.{record_fits}
-use Rattle.link_search.specs.declared.Found.{Found}
-use Rattle.link_search.specs.declared.Found.TheVariants as found
 use Rattle.tree_survey.specs.Survey.{survey_at}
-use Rattle.tree_survey.specs.declared.Survey.{Survey}
-use Rattle.tree_survey.specs.declared.Survey.TheVariants as survey
 use Rattle.laws.specs.Steps.{Ending, done_at, broken_at}
 use Rattle.tree_question.specs.Questions.{questions_at}
 use Rattle.pdf_blocks.specs.Values.{block_at}
-use Rattle.pdf_blocks.specs.declared.Block.{Block}
-use Rattle.pdf_blocks.specs.declared.Block.TheVariants as block
-use Rattle.load_choose.specs.Chosen.{model_of, stream_model, gv_model, position_named, stream_named, with_position, with_stream, named, numbered, asked, chosen_of}
+use Rattle.load_choose.specs.Chosen.{chosen, model_of, stream_model, gv_model, position_named, stream_named, with_position, with_stream, named, numbered, asked, chosen_of}
 use Rattle.load_range.specs.Ranges.{within_of}
 use Rattle.load_choose.specs.declared.Which.{Which}
 use Rattle.load_choose.specs.declared.Which.TheVariants.{Duration, Stream, Gv}
-use Rattle.load_choose.specs.declared.Chosen.{Chosen}
-use Rattle.load_choose.specs.declared.Chosen.TheVariants as chosen
-use Rattle.load_range.specs.declared.Bounds.{Bounds}
-use Rattle.load_range.specs.declared.Bounds.TheVariants as bounds
-use Rattle.load_trees.specs.declared.Linked.{Linked}
-use Rattle.load_trees.specs.declared.Linked.TheVariants as linked
 use Rattle.load_text.specs.Text.{end_at}
 use Rattle.load_plan.specs.Plans.{placed, text_of, entries_for, entries_of, plan_for, block_in, block_of, plan_in, plan_of, data_of, planned_for, planned}
 use Rattle.load_plan.specs.declared.Plan.{Plan}
-use Rattle.load_plan.specs.declared.Text.{Text}
-use Rattle.load_plan.specs.declared.Text.TheVariants as text
-use Rattle.load_plan.specs.declared.Planned.{Planned}
-use Rattle.load_plan.specs.declared.Planned.TheVariants.{Model, Refused}
 use Rattle.load_model.specs.Load.{Tables, After, room_in, answer_for, filled_by, filled, untouched, load_for, load_of, Loads}
+use Rattle.load_range.specs.declared.Bounds.{Bounds}
+use Rattle.load_choose.specs.declared.Chosen.{Chosen}
 use Rattle.load_model.specs.declared.Loaded.{Loaded}
-use Rattle.load_model.specs.declared.Loaded.TheVariants as loaded
+use Rattle.load_plan.specs.declared.Text.{Text}
+use Rattle.load_trees.specs.declared.TreeFault.{TreeFault}
+use Rattle.std.specs.Prelude.{Err, None, Ok, Some, Option, Result, ⊤}
 
 -- ---- before the tables are looked at, no number is above 19
 
-abbrev Early : Chosen → Type 0
-Early (chosen.Model u v x y w) = Unit {0}
-Early (chosen.Refused r) = number_of r ≤ 19
+abbrev Early : Result Chosen Refusal → Type 0
+Early (Ok m) = Unit {0}
+Early (Err r) = number_of r ≤ 19
 
 model_early : (t p : Range) (w : ℕ) → Early (model_of t p w)
 unfolding model_of
 model_early t p w = go (ltb 4096 w)
   where
-    go : (c : Bool) → Early (cond c (chosen.Refused refusal.Limit) (chosen.Model t.from t.to p.from p.to w))
+    go : (c : Bool) → Early (cond c (Err refusal.Limit) (chosen t.from t.to p.from p.to w))
     go true = omega arith
     go false = tt
 
@@ -73,7 +64,7 @@ gv_early : (d : StreamData) (p : PositionData) → Early (gv_model d p)
 unfolding gv_model
 gv_early d p = go (d.use_gv && p.has_gv_tree && p.has_gv_pdf)
   where
-    go : (c : Bool) → Early (cond c (model_of p.gv_tree p.gv_pdf (2 * d.vector_length)) (chosen.Refused refusal.UseGv))
+    go : (c : Bool) → Early (cond c (model_of p.gv_tree p.gv_pdf (2 * d.vector_length)) (Err refusal.UseGv))
     go true = model_early _ _ _
     go false = omega arith
 
@@ -83,24 +74,24 @@ fault_between NodeRef = (omega arith, omega arith)
 fault_between QuestionRef = (omega arith, omega arith)
 fault_between LoneNode = (omega arith, omega arith)
 
-module _ (make : StreamData → PositionData → Chosen) (early : (d : StreamData) (p : PositionData) → Early (make d p)) where
+module _ (make : StreamData → PositionData → Result Chosen Refusal) (early : (d : StreamData) (p : PositionData) → Early (make d p)) where
   named_early : (s : List ℕ) (h : Header) (w : List ℕ) → Early (named make s h w)
   unfolding named
   named_early s h w = go (position_named s h.positions h.position_count w)
     where
-      of_stream : (p : PositionData) (f : Found) → Early (with_stream (λ d. make d p) h.streams f)
-      of_stream p (found.At k) = early _ p
-      of_stream p found.Nothing = omega arith
+      of_stream : (p : PositionData) (f : Option ℕ) → Early (with_stream (λ d. make d p) h.streams f)
+      of_stream p (Some k) = early _ p
+      of_stream p None = omega arith
 
-      go : (f : Found) → Early (with_position (λ p. with_stream (λ d. make d p) h.streams (stream_named s h.streams h.stream_count w)) h.positions f)
-      go (found.At k) = of_stream _ (stream_named s h.streams h.stream_count w)
-      go found.Nothing = omega arith
+      go : (f : Option ℕ) → Early (with_position (λ p. with_stream (λ d. make d p) h.streams (stream_named s h.streams h.stream_count w)) h.positions f)
+      go (Some k) = of_stream _ (stream_named s h.streams h.stream_count w)
+      go None = omega arith
 
   numbered_early : (s : List ℕ) (h : Header) (i : ℕ) → Early (numbered make s h i)
   unfolding numbered
   numbered_early s h i = go (ltb i h.global.stream_type_count) (named make s h (bytes_of s (get_or h.global.stream_type i no_span))) (named_early s h _)
     where
-      go : (c : Bool) (x : Chosen) → Early x → Early (cond c x (chosen.Refused refusal.NoPosition))
+      go : (c : Bool) (x : Result Chosen Refusal) → Early x → Early (cond c x (Err refusal.NoPosition))
       go true x e = e
       go false x e = omega arith
 
@@ -113,57 +104,57 @@ chosen_early s h which = go (record_fits (length s) h) (asked s h which) (of whi
     of (Stream i) = numbered_early stream_model stream_early s h i
     of (Gv i) = numbered_early gv_model gv_early s h i
 
-    go : (c : Bool) (x : Chosen) → Early x → Early (cond c x (chosen.Refused refusal.Range))
+    go : (c : Bool) (x : Result Chosen Refusal) → Early x → Early (cond c x (Err refusal.Range))
     go true x e = e
     go false x e = omega arith
 
-abbrev pub Before : Planned → Type 0
-Before (Model p) = Unit {0}
-Before (Refused r) = number_of r ≤ 19
+abbrev pub Before : Result Plan Refusal → Type 0
+Before (Ok p) = Unit {0}
+Before (Err r) = number_of r ≤ 19
 
-text_before : (s : List ℕ) (i : ℕ) {r : Refusal} → text_of s i ≡ text.Refused r → number_of r ≤ 19
+text_before : (s : List ℕ) (i : ℕ) {r : Refusal} → text_of s i ≡ Err r → number_of r ≤ 19
 unfolding text_of
 text_before s i {r} e = go (questions_at s i).ending (survey_at s i) e
   where
-    go : (d : Ending) (x : Survey) → placed d x ≡ text.Refused r → number_of r ≤ 19
-    go (done_at f) (survey.Counted q p t n l) e = let u : ◌≡◌ {A = ℕ} 0 1 = cc in absurd (omega arith)
-    go (broken_at f) (survey.Counted q p t n l) e = let u : refusal.Text f ≡ r = cc in subst (λ (x : Refusal). number_of x ≤ 19) u (omega arith)
-    go (done_at f) (survey.Broken k) e = let u : refusal.Text k ≡ r = cc in subst (λ (x : Refusal). number_of x ≤ 19) u (omega arith)
-    go (broken_at f) (survey.Broken k) e = let u : refusal.Text k ≡ r = cc in subst (λ (x : Refusal). number_of x ≤ 19) u (omega arith)
-    go (done_at f) survey.Negative e = let u : refusal.State ≡ r = cc in subst (λ (x : Refusal). number_of x ≤ 19) u (omega arith)
-    go (broken_at f) survey.Negative e = let u : refusal.State ≡ r = cc in subst (λ (x : Refusal). number_of x ≤ 19) u (omega arith)
+    go : (d : Ending) (x : Result Survey SurveyError) → placed d x ≡ Err r → number_of r ≤ 19
+    go (done_at f) (Ok r) e = let u : ◌≡◌ {A = ℕ} 0 1 = cc in absurd (omega arith)
+    go (broken_at f) (Ok y) e = let u : refusal.Text f ≡ r = cc in subst (λ (x : Refusal). number_of x ≤ 19) u (omega arith)
+    go (done_at f) (Err (fault.Broken k)) e = let u : refusal.Text k ≡ r = cc in subst (λ (x : Refusal). number_of x ≤ 19) u (omega arith)
+    go (broken_at f) (Err (fault.Broken k)) e = let u : refusal.Text k ≡ r = cc in subst (λ (x : Refusal). number_of x ≤ 19) u (omega arith)
+    go (done_at f) (Err fault.Negative) e = let u : refusal.State ≡ r = cc in subst (λ (x : Refusal). number_of x ≤ 19) u (omega arith)
+    go (broken_at f) (Err fault.Negative) e = let u : refusal.State ≡ r = cc in subst (λ (x : Refusal). number_of x ≤ 19) u (omega arith)
 
 entries_before : (s : List ℕ) (p : Plan) → Before (entries_of s p)
 unfolding entries_of
 entries_before s p = go (block_at p.trees p.width s p.block)
   where
-    go : (b : Block) → Before (entries_for p b)
-    go (block.Fits n) = tt
-    go block.Wrong = omega arith
+    go : (b : Option ℕ) → Before (entries_for p b)
+    go (Some n) = tt
+    go None = omega arith
 
 plan_before : (d : List ℕ) (u v x y w : ℕ) → Before (plan_of d u v x y w)
 unfolding plan_of
 plan_before d u v x y w = go (within_of u v (length d))
   where
-    in_block : (a e f q p t r l : ℕ) (b : Bounds) → Before (block_in d a e f q p t r l w b)
-    in_block a e f q p t r l (bounds.Inside b c) = entries_before (take c d) (plan_for a e f q p t r l w b c)
-    in_block a e f q p t r l bounds.Outside = omega arith
+    in_block : (a e f q p t r l : ℕ) (b : Option Bounds) → Before (block_in d a e f q p t r l w b)
+    in_block a e f q p t r l (Some m) = let record { start = b; end = c } = m in entries_before (take c d) (plan_for a e f q p t r l w b c)
+    in_block a e f q p t r l None = omega arith
 
-    in_text : (a e : ℕ) (t : Text) → text_of (take e d) a ≡ t → Before (block_of d a e t x y w)
-    in_text a e (text.Read f q p t r l) k = in_block a e f q p t r l (within_of x y (length d))
-    in_text a e (text.Refused r) k = text_before (take e d) a k
+    in_text : (a e : ℕ) (t : Result Text Refusal) → text_of (take e d) a ≡ t → Before (block_of d a e t x y w)
+    in_text a e (Ok b) k = let record { first = f; questions = q; patterns = p; trees = t; records = r; lines = l } = b in in_block a e f q p t r l (within_of x y (length d))
+    in_text a e (Err r) k = text_before (take e d) a k
 
-    go : (b : Bounds) → Before (plan_in d x y w b)
-    go (bounds.Inside a e) = in_text a e (text_of (take e d) a) refl
-    go bounds.Outside = omega arith
+    go : (b : Option Bounds) → Before (plan_in d x y w b)
+    go (Some b) = let record { start = a; end = e } = b in in_text a e (text_of (take e d) a) refl
+    go None = omega arith
 
 pub planned_before : (s : List ℕ) (h : Header) (which : Which) → Before (planned s h which)
 unfolding planned
 planned_before s h which = go (chosen_of s h which) (chosen_early s h which)
   where
-    go : (c : Chosen) → Early c → Before (planned_for (data_of s h) c)
-    go (chosen.Model u v x y w) e = plan_before (data_of s h) u v x y w
-    go (chosen.Refused r) e = e
+    go : (c : Result Chosen Refusal) → Early c → Before (planned_for (data_of s h) c)
+    go (Ok m) e = let record { tree_from = u; tree_to = v; pdf_from = x; pdf_to = y; width = w } = m in plan_before (data_of s h) u v x y w
+    go (Err r) e = e
 
 -- ---- the three ways of a load
 
@@ -172,15 +163,15 @@ module _ (s : List ℕ) (h : Header) (which : Which) (L : Tables) where
     -- refused before anything is written
     kept : (x : Refusal) → number_of x ≤ 20 → Way (untouched x L)
     -- the rows of a plan, linked or zero
-    written : (p : Plan) → Model p ≡ planned s h which → room_in p L ≡ true → Way (filled (data_of s h) p L)
+    written : (p : Plan) → Ok p ≡ planned s h which → room_in p L ≡ true → Way (filled (data_of s h) p L)
 
   pub way : Way (load_of s h which L)
   unfolding load_of
   way = go (planned s h which) refl (planned_before s h which)
     where
-      go : (o : Planned) → o ≡ planned s h which → Before o → Way (load_for (data_of s h) o L)
-      go (Refused x) e k = kept x (omega arith)
-      go (Model p) e k = room (room_in p L) refl
+      go : (o : Result Plan Refusal) → o ≡ planned s h which → Before o → Way (load_for (data_of s h) o L)
+      go (Err x) e k = kept x (omega arith)
+      go (Ok p) e k = room (room_in p L) refl
         where
           room : (c : Bool) → room_in p L ≡ c
               → Way (cond c (filled (data_of s h) p L) (untouched refusal.Room L))
@@ -203,15 +194,16 @@ module _ (s : List ℕ) (h : Header) (which : Which) (L : Tables) where
   abbrev pub ByNumber : After → Refusal → Type 0
   ByNumber x y = (number_of y ≤ 23) × (number_of y ≤ 20 → Untouched x) × (20 < number_of y → AllZero x)
 
-  linked_number : (p : Plan) (e : Linked) → (y : Refusal) → answer_for p e ≡ loaded.Refused y → (c : List ℕ) (i f : ℕ) (d : List ℕ) → ByNumber (filled_by p c i f d e L) y
-  linked_number p linked.Done y h c i f d = let u : ◌≡◌ {A = ℕ} 0 1 = cc in absurd (omega arith)
-  linked_number p (linked.Refused g x k) y h c i f d =
+  linked_number : (p : Plan) (e : Result ⊤ TreeFault) → (y : Refusal) → answer_for p e ≡ Err y → (c : List ℕ) (i f : ℕ) (d : List ℕ) → ByNumber (filled_by p c i f d e L) y
+  linked_number p (Ok _) y h c i f d = let u : ◌≡◌ {A = ℕ} 0 1 = cc in absurd (omega arith)
+  linked_number p (Err m) y h c i f d =
+      let record { fault = g; tree = x; line = k } = m in
       let u : refusal.Unlinked g x k ≡ y = cc in
       let n : fault_number g ≡ number_of y = ap number_of u in
       let b = fault_between g in
       (omega (arith, n, b.1), λ l. absurd (omega (arith, n, b.0)), λ l. (refl, refl, refl, refl, refl, refl))
 
-  way_number : (x : After) → Way x → (y : Refusal) → x.answer ≡ loaded.Refused y → ByNumber x y
+  way_number : (x : After) → Way x → (y : Refusal) → x.answer ≡ Err y → ByNumber x y
   unfolding filled
   way_number x (kept z n) y k =
       let u : z ≡ y = cc in
@@ -221,13 +213,13 @@ module _ (s : List ℕ) (h : Header) (which : Which) (L : Tables) where
       linked_number p (end_at (take p.text_end (data_of s h)) p.text p.first) y k (take p.text_end (data_of s h)) p.text p.first (take p.block_end (data_of s h))
 
   -- every refusal of a load has a number up to 23; up to 20 it changes nothing that is lent; above, everything lent is zero
-  pub demand₁ : (y : Refusal) → (load_of s h which L).answer ≡ loaded.Refused y → ByNumber (load_of s h which L) y
+  pub demand₁ : (y : Refusal) → (load_of s h which L).answer ≡ Err y → ByNumber (load_of s h which L) y
   demand₁ y e = way_number (load_of s h which L) way y e
 
   -- ---- the contract determines the outcome: the answer and all that is lent
 
-  pub load_once : {l l' : Loaded} {L₁ L₂ : Tables} → Loads s h which L l L₁ → Loads s h which L l' L₂ → (l ≡ l') × (L₁ ≡ L₂)
+  pub load_once : {l l' : Result Loaded Refusal} {L₁ L₂ : Tables} → Loads s h which L l L₁ → Loads s h which L l' L₂ → (l ≡ l') × (L₁ ≡ L₂)
   load_once e k = (e.0 ∙ sym k.0, e.1 ∙ sym k.1)
 
-  pub needs_once : {o o' : Planned} → o ≡ planned s h which → o' ≡ planned s h which → o ≡ o'
+  pub needs_once : {o o' : Result Plan Refusal} → o ≡ planned s h which → o' ≡ planned s h which → o ≡ o'
   needs_once e k = e ∙ sym k

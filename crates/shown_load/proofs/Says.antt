@@ -30,15 +30,11 @@ use Rattle.pdf_blocks.specs.Values.{words_at, values_at}
 use Rattle.pdf_blocks.proofs.Joined.{Small, length_rows, length_words, fits_block}
 use Rattle.pdf_values.specs.Folded.{with_blocks}
 use Rattle.pdf_values.proofs.Folded.{fold_stored}
-use Rattle.load_trees.specs.declared.Linked.{Linked}
-use Rattle.load_trees.specs.declared.Linked.TheVariants as linked
 use Rattle.load_text.specs.Text.{words_at as question_words_at, end_at, trees_stored, records_stored, kept}
 use Rattle.load_plan.specs.Plans.{data_of, planned}
 use Rattle.load_plan.specs.declared.Plan.{Plan}
-use Rattle.load_plan.specs.declared.Planned.TheVariants.{Model}
 use Rattle.load_plan.proofs.Laws.{Was, was, needs_sound}
-use Rattle.load_model.specs.Load.{Tables, After, answer_for, blocks_of, kept_trees, filled, load_of}
-use Rattle.load_model.specs.declared.Loaded.TheVariants as loaded
+use Rattle.load_model.specs.Load.{loaded, Tables, After, answer_for, blocks_of, kept_trees, filled, load_of}
 use Rattle.load_model.proofs.Laws.{part_short, take_short}
 use Rattle.shown_text.specs.Refusals as IsRefused-as
 use Rattle.shown_text.proofs.Text.{text_questions, text_patterns, text_done, text_refused}
@@ -53,11 +49,13 @@ use Rattle.shown_load.specs.Stored.{Chose, Stored, Unlinked}
 use Rattle.shown_load.proofs.Texts as text
 use Rattle.shown_load.proofs.Texts.{small_take, small_drop}
 use Rattle.shown_load.proofs.Numbers.{Way, kept as untouched, written, way}
+use Rattle.load_trees.specs.declared.TreeFault.{TreeFault}
+use Rattle.std.specs.Prelude.{Err, Ok, Result, ⊤}
 
 module _ (s : List ℕ) (h : Header) (which : Which) (short : length s < 2 ^ 63) (small : Small s) where
   -- ---- the text of a plan
 
-  module _ (p : Plan) (e : Model p ≡ planned s h which) where
+  module _ (p : Plan) (e : Ok p ≡ planned s h which) where
     abbrev pub S : List ℕ
     S = take p.text_end (data_of s h)
 
@@ -94,8 +92,8 @@ module _ (s : List ℕ) (h : Header) (which : Which) (short : length s < 2 ^ 63)
   -- ---- the ways of linking
 
   module _ (L : Tables) where
-    module _ (p : Plan) (e : Model p ≡ planned s h which) where
-      stored : end_at (S p e) p.text p.first ≡ linked.Done → Stored s h which L (filled (data_of s h) p L)
+    module _ (p : Plan) (e : Ok p ≡ planned s h which) where
+      stored : end_at (S p e) p.text p.first ≡ Ok tt → Stored s h which L (filled (data_of s h) p L)
       unfolding filled
       stored d =
           let m = read p e in
@@ -117,15 +115,15 @@ module _ (s : List ℕ) (h : Header) (which : Which) (short : length s < 2 ^ 63)
             block_count = blocks k.2;
             record_count = (counted p e).2 ∙ sym (rows_counted k.2).1;
             counts = ap (answer_for p) d;
-            at_questions = ap (λ (o : Linked). kept o L.questions (question_words_at (S p e) p.text)) d ∙ ap (sets L.questions 0) (text_questions T.says m.begins (S-short p e));
-            at_patterns = ap (λ (o : Linked). kept o L.patterns (pattern_words (questions_at (S p e) p.text).items)) d ∙ ap (sets L.patterns 0) (text_patterns T.says m.begins (S-short p e));
+            at_questions = ap (λ (o : Result ⊤ TreeFault). kept o L.questions (question_words_at (S p e) p.text)) d ∙ ap (sets L.questions 0) (text_questions T.says m.begins (S-short p e));
+            at_patterns = ap (λ (o : Result ⊤ TreeFault). kept o L.patterns (pattern_words (questions_at (S p e) p.text).items)) d ∙ ap (sets L.patterns 0) (text_patterns T.says m.begins (S-short p e));
             at_trees =
-                ap (λ (o : Linked). kept_trees o L.trees (trees_stored (S p e) p.text p.first) (blocks_of p (B p e))) d
+                ap (λ (o : Result ⊤ TreeFault). kept_trees o L.trees (trees_stored (S p e) p.text p.first) (blocks_of p (B p e))) d
                 ∙ ap (λ (l : List ℕ). with_blocks (sets L.trees 0 l) 0 (blocks_of p (B p e))) k.3
                 ∙ fold_stored L.trees 0 k.0 (blocks_of p (B p e)) (wide_text k.2) (blocks k.2);
-            at_records = ap (λ (o : Linked). kept o L.records (records_stored (S p e) p.text p.first)) d ∙ ap (sets L.records 0) k.4;
+            at_records = ap (λ (o : Result ⊤ TreeFault). kept o L.records (records_stored (S p e) p.text p.first)) d ∙ ap (sets L.records 0) k.4;
             at_values =
-                ap (λ (o : Linked). kept o L.values (values_at (B p e) (p.block + 4 * p.trees) p.width p.entries)) d
+                ap (λ (o : Result ⊤ TreeFault). kept o L.values (values_at (B p e) (p.block + 4 * p.trees) p.width p.entries)) d
                 ∙ ap (λ (j : ℕ). sets L.values 0 (values_at (B p e) (p.block + 4 * p.trees) p.width j)) z.0;
             at_work = refl;
           }
@@ -138,36 +136,36 @@ module _ (s : List ℕ) (h : Header) (which : Which) (short : length s < 2 ^ 63)
       of y = ModelRefused (spoken p e).text.questions (spoken p e).text.trees (number_of y) (place_of y) (line_of y)
 
       -- what linking refuses, in the text's words
-      pub refused : (o : Linked) → end_at (S p e) p.text p.first ≡ o → (y : Refusal) → answer_for p o ≡ loaded.Refused y
+      pub refused : (o : Result ⊤ TreeFault) → end_at (S p e) p.text p.first ≡ o → (y : Refusal) → answer_for p o ≡ Err y
           → ModelRefused (spoken p e).text.questions (spoken p e).text.trees (number_of y) (place_of y) (line_of y)
-      refused linked.Done d y k = let u : ◌≡◌ {A = ℕ} 0 1 = cc in absurd (omega arith)
-      refused (linked.Refused g i j) d y k = let u : refusal.Unlinked g i j ≡ y = cc in subst of u (text_refused (spoken p e).says (read p e).begins (S-short p e) (natural p e) d IsRefused-as.refused)
+      refused (Ok _) d y k = let u : ◌≡◌ {A = ℕ} 0 1 = cc in absurd (omega arith)
+      refused (Err l) d y k = let record { fault = g; tree = i; line = j } = l in let u : refusal.Unlinked g i j ≡ y = cc in subst of u (text_refused (spoken p e).says (read p e).begins (S-short p e) (natural p e) d IsRefused-as.refused)
 
-      unlinked : (o : Linked) → end_at (S p e) p.text p.first ≡ o → (y : Refusal) → answer_for p o ≡ loaded.Refused y → Unlinked s h which y
+      unlinked : (o : Result ⊤ TreeFault) → end_at (S p e) p.text p.first ≡ o → (y : Refusal) → answer_for p o ≡ Err y → Unlinked s h which y
       unlinked o d y k = record { p = p; t = (spoken p e).text; l = (spoken p e).layout; chose = chose p e; refused = refused o d y k }
 
     -- ---- every load
 
     -- where it is done, the tables hold what the text and the block say
-    pub load_stored : {n₁ n₂ n₃ n₄ n₅ : ℕ} → (load_of s h which L).answer ≡ loaded.Done n₁ n₂ n₃ n₄ n₅ → Stored s h which L (load_of s h which L)
+    pub load_stored : {n₁ n₂ n₃ n₄ n₅ : ℕ} → (load_of s h which L).answer ≡ loaded n₁ n₂ n₃ n₄ n₅ → Stored s h which L (load_of s h which L)
     unfolding filled
     load_stored {n₁} {n₂} {n₃} {n₄} {n₅} k = go (load_of s h which L) (way s h which L) k
       where
-        ended : (p : Plan) (e : Model p ≡ planned s h which) (o : Linked) → end_at (S p e) p.text p.first ≡ o → answer_for p o ≡ loaded.Done n₁ n₂ n₃ n₄ n₅
+        ended : (p : Plan) (e : Ok p ≡ planned s h which) (o : Result ⊤ TreeFault) → end_at (S p e) p.text p.first ≡ o → answer_for p o ≡ loaded n₁ n₂ n₃ n₄ n₅
             → Stored s h which L (filled (data_of s h) p L)
-        ended p e linked.Done d k = stored p e d
-        ended p e (linked.Refused g i j) d k = let u : ◌≡◌ {A = ℕ} 0 1 = cc in absurd (omega arith)
+        ended p e (Ok _) d k = stored p e d
+        ended p e (Err l) d k = let u : ◌≡◌ {A = ℕ} 0 1 = cc in absurd (omega arith)
 
-        go : (x : After) → Way s h which L x → x.answer ≡ loaded.Done n₁ n₂ n₃ n₄ n₅ → Stored s h which L x
+        go : (x : After) → Way s h which L x → x.answer ≡ loaded n₁ n₂ n₃ n₄ n₅ → Stored s h which L x
         go x (untouched y n) k = let u : ◌≡◌ {A = ℕ} 0 1 = cc in absurd (omega arith)
         go x (written p e m) k = ended p e (end_at (S p e) p.text p.first) refl k
 
     -- where linking is refused, so is what the text says
-    pub load_unlinked : (y : Refusal) → (load_of s h which L).answer ≡ loaded.Refused y → 20 < number_of y → Unlinked s h which y
+    pub load_unlinked : (y : Refusal) → (load_of s h which L).answer ≡ Err y → 20 < number_of y → Unlinked s h which y
     unfolding filled
     load_unlinked y k l = go (load_of s h which L) (way s h which L) k
       where
-        go : (x : After) → Way s h which L x → x.answer ≡ loaded.Refused y → Unlinked s h which y
+        go : (x : After) → Way s h which L x → x.answer ≡ Err y → Unlinked s h which y
         go x (untouched z n) k = let u : z ≡ y = cc in let m : number_of z ≡ number_of y = ap number_of u in absurd (omega arith)
         go x (written p e m) k = unlinked p e (end_at (S p e) p.text p.first) refl y k
 

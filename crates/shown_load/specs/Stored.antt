@@ -1,6 +1,6 @@
 -- What stands in the tables after a load that is done, and what a load is refused for, in the words of `written`: the tree text and the block of the model that was
 -- chosen say what they say, and every row and value is theirs.
-use Rattle.std.specs.Prelude.{◌≡◌, ℕ, ◌*◌, pos, length, take, drop, replicate}
+use Rattle.std.specs.Prelude.{◌≡◌, ℕ, ◌*◌, pos, length, take, drop, replicate, Ok}
 use mathlib.Core.List.{List, flatten}
 use Rattle.std.proofs.lemmas.List.Edits.{sets}
 use Rattle.written.specs.Said.{Text, Layout}
@@ -15,13 +15,11 @@ use Rattle.head_record.specs.declared.Header.{Header}
 use Rattle.load_choose.specs.declared.Which.{Which}
 use Rattle.load_plan.specs.Plans.{data_of, planned}
 use Rattle.load_plan.specs.declared.Plan.{Plan}
-use Rattle.load_plan.specs.declared.Planned.TheVariants.{Model}
-use Rattle.load_model.specs.Load.{Tables, After}
-use Rattle.load_model.specs.declared.Loaded.TheVariants.{Done}
+use Rattle.load_model.specs.Load.{loaded, Tables, After}
 
 -- the plan p is that of the model asked for; its tree text says t, laid out as l, and no state is negative
 pub record Chose (s : List ℕ) (h : Header) (which : Which) (p : Plan) (t : Text) (l : Layout) : Type 0 where
-  pub plan : Model p ≡ planned s h which
+  pub plan : Ok p ≡ planned s h which
   pub says : Says (take p.text_end (data_of s h)) p.text t l
   pub natural : ¬ Negative t.trees
   pub questions : p.questions ≡ length t.questions
@@ -43,7 +41,7 @@ pub record Stored (s : List ℕ) (h : Header) (which : Which) (L : Tables) (x : 
   pub tree_count : p.trees ≡ length tree_rows
   pub block_count : length block_rows ≡ length tree_rows
   pub record_count : p.records ≡ length record_rows
-  pub counts : x.answer ≡ Done p.questions p.patterns p.trees p.records (p.entries * p.width)
+  pub counts : x.answer ≡ loaded p.questions p.patterns p.trees p.records (p.entries * p.width)
   pub at_questions : x.tables.questions ≡ sets L.questions 0 (flatten (question_rows 0 l.questions))
   pub at_patterns : x.tables.patterns ≡ sets L.patterns 0 (flatten (pattern_rows l.questions))
   pub at_trees : x.tables.trees ≡ sets L.trees 0 (flatten (folded tree_rows block_rows))

@@ -27,17 +27,17 @@ use Rattle.head_record.specs.declared.PositionData.{PositionData}
 use Rattle.head_record_fits.specs.Fits.{record_fits}
 use Rattle.head_record_fits.proofs.Said.{says_fits}
 use Rattle.text_parts.specs.Parts.{bytes_of}
-use Rattle.load_choose.specs.Chosen.{model_of, stream_model, gv_model}
+use Rattle.load_choose.specs.Chosen.{chosen, model_of, stream_model, gv_model}
 use Rattle.load_choose.specs.Entries as code
 use Rattle.load_choose.specs.Entries.{Numbered, no_number, no_position, no_stream, entries, Choice, unfit, duration, stream, gv}
 use Rattle.load_choose.specs.declared.Which.{Which}
 use Rattle.load_choose.specs.declared.Which.TheVariants.{Duration, Stream, Gv}
-use Rattle.load_choose.specs.declared.Chosen.{Chosen}
-use Rattle.load_choose.specs.declared.Chosen.TheVariants as chosen
 use Rattle.load_plan.specs.Plans.{data_of}
 use Rattle.shown_words.proofs.Shaped.{record_shaped}
 use Rattle.written.specs.Models as models
 use Rattle.written.specs.Models.{Model, OfName, a_stream, a_gv, LastNamed, Unnamed, stream_name, position_name, EntriesOf, Placed, of_duration, of_stream, of_gv, NoGv, Unplaced}
+use Rattle.load_choose.specs.declared.Chosen.{Chosen}
+use Rattle.std.specs.Prelude.{Err, Result}
 
 -- ---- lists in arrays: what counts is the list
 
@@ -112,17 +112,17 @@ which_of (models.stream i) = Stream i
 which_of (models.gv i) = Gv i
 
 -- where the record has a model, or why nowhere: 12 for its width, 13 to 15
-pub data Placing (s : List ℕ) (h : record_of.Header) (m : Model) : Chosen → Type 0 where
-  at : {t b : says.Range} {w : ℕ} → Placed s h m t b w → w ≤ 4096 → Placing s h m (chosen.Model t.from t.to b.from b.to w)
-  wide : {t b : says.Range} {w : ℕ} → Placed s h m t b w → 4096 < w → Placing s h m (chosen.Refused refusal.Limit)
-  nowhere : {z : Refusal} → Unplaced s h m (number_of z) → (place_of z ≡ 0) × (line_of z ≡ 0) → Placing s h m (chosen.Refused z)
+pub data Placing (s : List ℕ) (h : record_of.Header) (m : Model) : Result Chosen Refusal → Type 0 where
+  at : {t b : says.Range} {w : ℕ} → Placed s h m t b w → w ≤ 4096 → Placing s h m (chosen t.from t.to b.from b.to w)
+  wide : {t b : says.Range} {w : ℕ} → Placed s h m t b w → 4096 < w → Placing s h m (Err refusal.Limit)
+  nowhere : {z : Refusal} → Unplaced s h m (number_of z) → (place_of z ≡ 0) × (line_of z ≡ 0) → Placing s h m (Err z)
 
 module _ (s : List ℕ) (h : record_of.Header) (r : Says s h) where
   of_width : {m : Model} {t b : says.Range} {w : ℕ} → Placed s h m t b w → Placing s h m (model_of (range_of t) (range_of b) w)
   unfolding model_of
   of_width {m} {t} {b} {w} p = go (ltb 4096 w) refl
     where
-      go : (c : Bool) → ltb 4096 w ≡ c → Placing s h m (cond c (chosen.Refused refusal.Limit) (chosen.Model t.from t.to b.from b.to w))
+      go : (c : Bool) → ltb 4096 w ≡ c → Placing s h m (cond c (Err refusal.Limit) (chosen t.from t.to b.from b.to w))
       go true e = wide p (ltb-true 4096 w e)
       go false e = at p (ltb-false 4096 w e)
 
@@ -152,10 +152,10 @@ module _ (s : List ℕ) (h : record_of.Header) (r : Says s h) where
   type_is i n = ap (bytes_of s) (at_place span_of no_span 8 h.global.stream_type no_span r.global_fits.names n)
 
   -- what holds of what the entries of the i-th name make, and of 13 and 14
-  module _ (make : StreamData → PositionData → Chosen) (m : Model) (i : ℕ) (of : OfName m i) (P : Chosen → Type 0)
-      (none : (z : Refusal) → Unplaced s h m (number_of z) → (place_of z ≡ 0) × (line_of z ≡ 0) → P (chosen.Refused z))
+  module _ (make : StreamData → PositionData → Result Chosen Refusal) (m : Model) (i : ℕ) (of : OfName m i) (P : Result Chosen Refusal → Type 0)
+      (none : (z : Refusal) → Unplaced s h m (number_of z) → (place_of z ≡ 0) × (line_of z ≡ 0) → P (Err z))
       (made : (d : record_of.Stream) (p : record_of.Position) → EntriesOf s h i d p → P (make (stream_record d) (position_record p))) where
-    pub numbered : {c : Chosen} → Numbered make s (header_record h) i c → P c
+    pub numbered : {c : Result Chosen Refusal} → Numbered make s (header_record h) i c → P c
     numbered (no_number l) = none refusal.NoPosition (Unplaced.no_name of (λ x n. let k = nth_inside n in omega (arith, types))) (refl, refl)
     numbered (no_position l u) =
         let n = nth_of h.global.stream_type i (omega (arith, types)) in
@@ -176,7 +176,7 @@ module _ (s : List ℕ) (h : record_of.Header) (r : Says s h) where
   a_gv_model i d p e = go d.use_gv refl p.gv_tree refl p.gv_pdf refl
     where
       go : (c : Bool) → d.use_gv ≡ c → (t : Option says.Range) → p.gv_tree ≡ t → (b : Option says.Range) → p.gv_pdf ≡ b
-          → Placing s h (models.gv i) (cond (c && present t && present b) (model_of (range_or t) (range_or b) (2 * d.vector_length)) (chosen.Refused refusal.UseGv))
+          → Placing s h (models.gv i) (cond (c && present t && present b) (model_of (range_or t) (range_or b) (2 * d.vector_length)) (Err refusal.UseGv))
       go false u t k b j = nowhere (Unplaced.no_gv e (NoGv.unused u)) (refl, refl)
       go true u option.none k b j = nowhere (Unplaced.no_gv e (NoGv.no_tree k)) (refl, refl)
       go true u (some t) k option.none j = nowhere (Unplaced.no_gv e (NoGv.no_block j)) (refl, refl)
@@ -189,7 +189,7 @@ module _ (s : List ℕ) (h : record_of.Header) (r : Says s h) where
   unfitting : {A : Type 0} → record_fits (length s) (header_record h) ≡ false → A
   unfitting e = absurd (true≢false (sym (says_fits s h r) ∙ e))
 
-  pub choice-placed : (m : Model) {c : Chosen} → Choice s (header_record h) (which_of m) c → Placing s h m c
+  pub choice-placed : (m : Model) {c : Result Chosen Refusal} → Choice s (header_record h) (which_of m) c → Placing s h m c
   unfolding header_record global_record
   choice-placed models.duration (unfit e) = unfitting e
   choice-placed models.duration (duration e) = of_width of_duration

@@ -34,19 +34,14 @@ use Rattle.pdf_values.proofs.Folded.{fold_stored}
 use Rattle.text_parts.specs.Parts.{nat_of}
 use Rattle.load_choose.specs.declared.Which.{Which}
 use Rattle.load_questions.specs.Words.{pattern_words}
-use Rattle.load_tree.specs.Bodies.{Result, body_result}
+use Rattle.load_tree.specs.Bodies.{filled, TreeResult, body_result}
 use Rattle.load_tree.proofs.Laws.{lone_size, lines_size}
-use Rattle.load_tree.specs.declared.Filled.{Filled}
-use Rattle.load_tree.specs.declared.Filled.TheVariants as filled
 use Rattle.load_trees.specs.Trees.{head_state, head_body, row_words, ended_at}
-use Rattle.load_trees.specs.declared.Linked.{Linked}
-use Rattle.load_trees.specs.declared.Linked.TheVariants as linked
 use Rattle.load_text.specs.Text.{words_at as question_words_at, kept}
 use Rattle.load_plan.specs.Plans.{data_of}
 use Rattle.load_plan.specs.declared.Plan.{Plan}
 use Rattle.load_plan.proofs.Laws.{Was, was, needs_sound}
-use Rattle.load_model.specs.Load.{Tables, After, answer_for, kept_trees}
-use Rattle.load_model.specs.declared.Loaded.TheVariants as loaded
+use Rattle.load_model.specs.Load.{loaded, Tables, After, answer_for, kept_trees}
 use Rattle.load_model.proofs.Laws.{part_short, take_short}
 use Rattle.trail_link.specs.One.{one_result, one_end, one_row}
 use Rattle.trail_plan.specs.Plans.{values_from}
@@ -66,6 +61,10 @@ use Rattle.shown_one.specs.One.{OneStored}
 use Rattle.shown_one.proofs.Steps.{Stepped, facts_of}
 use Rattle.shown_one.proofs.Values.{values_part, block_row}
 use Rattle.shown_one.proofs.Plan.{one_plan, at_tree}
+use Rattle.load_tree.specs.declared.Filled.{Filled}
+use Rattle.error.specs.declared.LineFault.{LineFault}
+use Rattle.load_trees.specs.declared.TreeFault.{TreeFault}
+use Rattle.std.specs.Prelude.{Err, Ok, Result, ⊤}
 
 clash : {A : Type 0} → ◌≡◌ {A = ℕ} 0 1 → A
 clash e = absurd (omega arith)
@@ -73,15 +72,15 @@ clash e = absurd (omega arith)
 -- ---- one tree linked alone
 
 -- what linking makes of it is what the model has for it
-record Alone (R : Result) (state first count lines : ℕ) (x : said.Tree) (table : List Row) : Type 0 where
-  pub ends : R.ends ≡ filled.Done count lines
+record Alone (R : TreeResult) (state first count lines : ℕ) (x : said.Tree) (table : List Row) : Type 0 where
+  pub ends : R.ends ≡ filled count lines
   pub rows : R.rows ≡ flatten (take count (drop first table))
   pub state_is : nat_of x.state ≡ state
 
 natural_state : {qs : List Question} {f n : ℕ} {x : said.Tree} {trees records : List Row} {m c l : ℕ} → TreeRows qs f (x ∷ []) ((n ∷ m ∷ c ∷ l ∷ []) ∷ trees) records → x.state ≡ pos n
 natural_state (TreeRows.more s r l w) = s
 
-alone : {qs : List Question} {x : said.Tree} {trees table : List Row} {k : ℕ} (a : LinkedAlone qs trees table k x) (R : Result) → Verdict qs x.body R.ends R.rows
+alone : {qs : List Question} {x : said.Tree} {trees table : List Row} {k : ℕ} (a : LinkedAlone qs trees table k x) (R : TreeResult) → Verdict qs x.body R.ends R.rows
     → Alone R a.state a.first a.count a.lines x table
 alone {qs} {x} {trees} {table} a R v = go R.ends refl v
   where
@@ -91,20 +90,21 @@ alone {qs} {x} {trees} {table} a R v = go R.ends refl v
     refused : {c j : ℕ} → Refused qs x.body c j → Alone R a.state a.first a.count a.lines x table
     refused r = absurd (model_never_both a.by_itself (ModelRefused.here r))
 
-    go : (e : Filled) → R.ends ≡ e → Verdict qs x.body e R.rows → Alone R a.state a.first a.count a.lines x table
-    go (filled.Refused g j) e r = refused r
-    go (filled.Done m n) e (rows, r, f, l, d) =
+    go : (e : Result Filled LineFault) → R.ends ≡ e → Verdict qs x.body e R.rows → Alone R a.state a.first a.count a.lines x table
+    go (Err f) e r = refused r
+    go (Ok b) e (rows, r, f, l, d) =
+        let record { records = m; lines = n } = b in
         let z = model_rows_once (TreeRows.more {f = 0} s r d TreeRows.none) a.by_itself refl in
         let p = z.0 in
         let u : length rows ≡ a.count = cc in
         let w : n ≡ a.lines = cc in
         record {
-          ends = e ∙ ap₂ filled.Done (sym l ∙ u) w;
+          ends = e ∙ ap₂ filled (sym l ∙ u) w;
           rows = sym f ∙ ap flatten (sym (append-nil rows) ∙ z.1);
           state_is = ap nat_of s;
         }
 
-body_records_lem : (s q : List ℕ) (n : ℕ) (b : Body) {a k : ℕ} → (body_result s q n b).ends ≡ filled.Done a k → a ≡ body_records b
+body_records_lem : (s q : List ℕ) (n : ℕ) (b : Body) {a k : ℕ} → (body_result s q n b).ends ≡ filled a k → a ≡ body_records b
 body_records_lem s q n (lone r) h = (lone_size s q n r h).0
 body_records_lem s q n (braces ls) h = (lines_size s q n ls h).0
 
@@ -147,7 +147,7 @@ module _ (s : List ℕ) (h : Header) (which : Which) (short : length s < 2 ^ 63)
     abbrev T : List ℕ
     T = take p.text_end (data_of s h)
 
-    abbrev R : Result
+    abbrev R : TreeResult
     R = one_result T p.text y.star
 
     -- tree k linked alone
@@ -155,7 +155,7 @@ module _ (s : List ℕ) (h : Header) (which : Which) (short : length s < 2 ^ 63)
     tree_alone = linked_alone K.linked i
 
     A : Alone R tree_alone.state tree_alone.first tree_alone.count tree_alone.lines x K.record_rows
-    A = subst (λ (r : Result). Alone r tree_alone.state tree_alone.first tree_alone.count tree_alone.lines x K.record_rows) (sym (result_is K.chose i j))
+    A = subst (λ (r : TreeResult). Alone r tree_alone.state tree_alone.first tree_alone.count tree_alone.lines x K.record_rows) (sym (result_is K.chose i j))
         (alone tree_alone (result_of K.chose.says (W K.chose).begins (S-short K.chose) x y) (tree_said K.chose.says (W K.chose).begins (S-short K.chose) i j))
 
     -- the block
@@ -180,12 +180,12 @@ module _ (s : List ℕ) (h : Header) (which : Which) (short : length s < 2 ^ 63)
         values_part B (p.block + 4 * p.trees) p.width before own (total (words_at B p.block p.trees)) (total-part B p.block k p.trees within)
         ∙ ap₂ (λ (n : ℕ) (l : List ℕ). take (own * p.width) (drop n l)) (sym (zero-add (before * p.width))) (sym said_block.2)
 
-    one_ends : one_end T p.text y.star k ≡ linked.Done
+    one_ends : one_end T p.text y.star k ≡ Ok tt
     one_ends = ap (ended_at k) A.ends
 
     row_is : one_row T p.text y.star ≡ flatten (map begun ((tree_alone.state ∷ 0 ∷ tree_alone.count ∷ tree_alone.lines ∷ []) ∷ []))
     unfolding flatten map
-    row_is = ap₂ (λ (n : ℕ) (e : Filled). row_words n 0 e) (state_at K.chose i j ∙ A.state_is) A.ends
+    row_is = ap₂ (λ (n : ℕ) (e : Result Filled LineFault). row_words n 0 e) (state_at K.chose i j ∙ A.state_is) A.ends
 
     -- the load of tree k, in any tables
     pub as_full : (L : Tables) → OneStored K k L (tree_filled (data_of s h) k (one_plan (data_of s h) p (tree_of x y) k) L)
@@ -201,15 +201,15 @@ module _ (s : List ℕ) (h : Header) (which : Which) (short : length s < 2 ^ 63)
           value = 0 + before * p.width;
           entries = own;
           stands = folded-nth tree_alone.stands (subst (λ (l : List block.Row). Nth l k (record { first = 0 + before * p.width; entries = own })) (sym said_block.1) (block_row B p.block p.width k p.trees 0 within));
-          counts = ap (answer_for P) E ∙ ap (λ (n : ℕ). loaded.Done p.questions p.patterns 1 n (own * p.width)) records_are;
-          at_questions = ap (λ (o : Linked). kept o L.questions (question_words_at T p.text)) E ∙ ap (sets L.questions 0) (text_questions K.chose.says (W K.chose).begins (S-short K.chose));
-          at_patterns = ap (λ (o : Linked). kept o L.patterns (pattern_words (questions_at T p.text).items)) E ∙ ap (sets L.patterns 0) (text_patterns K.chose.says (W K.chose).begins (S-short K.chose));
+          counts = ap (answer_for P) E ∙ ap (λ (n : ℕ). loaded p.questions p.patterns 1 n (own * p.width)) records_are;
+          at_questions = ap (λ (o : Result ⊤ TreeFault). kept o L.questions (question_words_at T p.text)) E ∙ ap (sets L.questions 0) (text_questions K.chose.says (W K.chose).begins (S-short K.chose));
+          at_patterns = ap (λ (o : Result ⊤ TreeFault). kept o L.patterns (pattern_words (questions_at T p.text).items)) E ∙ ap (sets L.patterns 0) (text_patterns K.chose.says (W K.chose).begins (S-short K.chose));
           at_trees =
-              ap (λ (o : Linked). kept_trees o L.trees (one_row T p.text y.star) (only_block P)) E
+              ap (λ (o : Result ⊤ TreeFault). kept_trees o L.trees (one_row T p.text y.star) (only_block P)) E
               ∙ ap (λ (l : List ℕ). with_blocks (sets L.trees 0 l) 0 (only_block P)) row_is
               ∙ fold_stored L.trees 0 ((tree_alone.state ∷ 0 ∷ tree_alone.count ∷ tree_alone.lines ∷ []) ∷ []) (only_block P) (wide_text tree_alone.by_itself) refl;
-          at_records = ap (λ (o : Linked). kept o L.records R.rows) E ∙ ap (sets L.records 0) A.rows;
-          at_values = ap (λ (o : Linked). kept o L.values (values_at B P.block P.width P.entries)) E ∙ ap (sets L.values 0) values_are;
+          at_records = ap (λ (o : Result ⊤ TreeFault). kept o L.records R.rows) E ∙ ap (sets L.records 0) A.rows;
+          at_values = ap (λ (o : Result ⊤ TreeFault). kept o L.values (values_at B P.block P.width P.entries)) E ∙ ap (sets L.values 0) values_are;
           at_work = refl;
         }
       where

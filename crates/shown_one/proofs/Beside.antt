@@ -17,13 +17,8 @@ use Rattle.head_record.specs.declared.Header.{Header}
 use Rattle.tree_body.specs.Trees.{tree_of}
 use Rattle.pdf_blocks.proofs.Joined.{Small}
 use Rattle.load_choose.specs.declared.Which.{Which}
-use Rattle.load_trees.specs.declared.Linked.{Linked}
-use Rattle.load_trees.specs.declared.Linked.TheVariants as linked
 use Rattle.load_plan.specs.Plans.{data_of}
 use Rattle.load_plan.specs.declared.Plan.{Plan}
-use Rattle.load_plan.specs.declared.Planned.{Planned}
-use Rattle.load_plan.specs.declared.Planned.TheVariants as plan
-use Rattle.load_model.specs.declared.Loaded.TheVariants as loaded
 use Rattle.load_model.specs.Load.{Tables, lent, After, answer_for, untouched}
 use Rattle.load_shared.specs.Beside.{rows_of, with_work, put_back, room_by}
 use Rattle.load_bounds.specs.Bounds.{need_of}
@@ -34,6 +29,8 @@ use Rattle.shown_load.specs.Stored.{Stored}
 use Rattle.shown_one.specs.One.{Reaching, OneStored}
 use Rattle.shown_one.proofs.Plan.{one_plan, tree_planned_lem}
 use Rattle.shown_one.proofs.AsFull.{S-short, as_full}
+use Rattle.load_trees.specs.declared.TreeFault.{TreeFault}
+use Rattle.std.specs.Prelude.{Err, Ok, Result, ⊤}
 
 clash : {A : Type 0} → ◌≡◌ {A = ℕ} 0 1 → A
 clash e = absurd (omega arith)
@@ -59,7 +56,7 @@ module _ (s : List ℕ) (h : Header) (which : Which) (short : length s < 2 ^ 63)
       let e = tree_planned_lem s h which K.chose i j (S-short s h which short K.chose) r in
       record {
         filled = tree_filled d k P (own side P T);
-        placed = sym (ap (λ (o : Planned). tree_beside_for side other d k o T) e) ∙ ap (λ (b : Bool). cond b (tree_placed_in side d k P T) (untouched refusal.Room T)) room;
+        placed = sym (ap (λ (o : Result Plan Refusal). tree_beside_for side other d k o T) e) ∙ ap (λ (b : Bool). cond b (tree_placed_in side d k P T) (untouched refusal.Room T)) room;
         stored = as_full s h which short small K i j (own side P T);
       }
 
@@ -73,23 +70,23 @@ pub data OfLinking : Refusal → Type 0 where
 pub data Refuses (x : Side) (T : Tables) : Refusal → Tables → Type 0 where
   kept : {z : Refusal} → Refuses x T z T
   zeroed : {z : Refusal} (p : Plan) (L : Tables) → OfLinking z → L ≡ lent (replicate (length (own x p T).questions) 0) (replicate (length (own x p T).patterns) 0) (replicate (length (own x p T).trees) 0) (replicate (length (own x p T).records) 0) (replicate (length (own x p T).values) 0) (replicate (length T.work) (pos 0))
-      → Refuses x T z (put_back x p T (record { answer = loaded.Refused z; tables = L })).tables
+      → Refuses x T z (put_back x p T (record { answer = Err z; tables = L })).tables
 
 module _ (x : Side) (d : List ℕ) (k : ℕ) (p : Plan) (T : Tables) where
-  by_end : (o : Linked) {z : Refusal} → answer_for p o ≡ loaded.Refused z → (a : List ℕ) (b c : ℕ) (g : List ℕ)
+  by_end : (o : Result ⊤ TreeFault) {z : Refusal} → answer_for p o ≡ Err z → (a : List ℕ) (b c : ℕ) (g : List ℕ)
       → Refuses x T z (put_back x p T (tree_filled_by p a b c g o (own x p T))).tables
-  by_end linked.Done e a b c g = clash cc
-  by_end (linked.Refused f q j) {z} e a b c g = let u : refusal.Unlinked f q j ≡ z = cc in subst (λ (z : Refusal). Refuses x T z (put_back x p T (tree_filled_by p a b c g (linked.Refused f q j) (own x p T))).tables) u (zeroed p _ unlinked refl)
+  by_end (Ok _) e a b c g = clash cc
+  by_end (Err l) {z} e a b c g = let record { fault = f; tree = q; line = j } = l in let u : refusal.Unlinked f q j ≡ z = cc in subst (λ (z : Refusal). Refuses x T z (put_back x p T (tree_filled_by p a b c g (Err l) (own x p T))).tables) u (zeroed p _ unlinked refl)
 
-pub tree_refuses : (x : Side) (s : List ℕ) (h : Header) (which : Which) (m k : ℕ) (other : Held) (T : Tables) {z : Refusal} → (tree_beside x s h which m k other T).answer ≡ loaded.Refused z
+pub tree_refuses : (x : Side) (s : List ℕ) (h : Header) (which : Which) (m k : ℕ) (other : Held) (T : Tables) {z : Refusal} → (tree_beside x s h which m k other T).answer ≡ Err z
     → Refuses x T z (tree_beside x s h which m k other T).tables
 unfolding tree_beside tree_placed_in tree_filled
 tree_refuses x s h which m k other T {z} e = go (tree_planned s h which m k) e
   where
-    go : (o : Planned) → (tree_beside_for x other (data_of s h) k o T).answer ≡ loaded.Refused z → Refuses x T z (tree_beside_for x other (data_of s h) k o T).tables
-    go (plan.Refused y) e = kept
-    go (plan.Model p) e = by (room_by p other T) e
+    go : (o : Result Plan Refusal) → (tree_beside_for x other (data_of s h) k o T).answer ≡ Err z → Refuses x T z (tree_beside_for x other (data_of s h) k o T).tables
+    go (Err y) e = kept
+    go (Ok p) e = by (room_by p other T) e
       where
-        by : (b : Bool) → (cond b (tree_placed_in x (data_of s h) k p T) (untouched refusal.Room T)).answer ≡ loaded.Refused z → Refuses x T z (cond b (tree_placed_in x (data_of s h) k p T) (untouched refusal.Room T)).tables
+        by : (b : Bool) → (cond b (tree_placed_in x (data_of s h) k p T) (untouched refusal.Room T)).answer ≡ Err z → Refuses x T z (cond b (tree_placed_in x (data_of s h) k p T) (untouched refusal.Room T)).tables
         by false e = kept
         by true e = by_end x (data_of s h) k p T (one_end (take p.text_end (data_of s h)) p.text p.first k) e (take p.text_end (data_of s h)) p.text p.first (take p.block_end (data_of s h))

@@ -8,10 +8,8 @@ use Rattle.written.specs.Linking.{Nth}
 use Rattle.written.specs.Tables.{folded, question_rows, pattern_rows}
 use Rattle.head_record.specs.declared.Header.{Header}
 use Rattle.load_choose.specs.declared.Which.{Which}
-use Rattle.load_model.specs.Load.{Tables, After}
-use Rattle.load_model.specs.declared.Loaded.TheVariants.{Done}
-use Rattle.trail_find.specs.Rows.{trail_at, offsets_at}
-use Rattle.trail_find.specs.declared.Trail.TheVariants as trail
+use Rattle.load_model.specs.Load.{loaded, Tables, After}
+use Rattle.trail_find.specs.Rows.{rows_from, trail_at, offsets_at}
 use Rattle.shown_load.specs.Stored.{Stored}
 
 abbrev pub star_of : TreePlace → ℕ
@@ -21,7 +19,7 @@ star_of u = u.star
 pub record Reaching (s : List ℕ) (h : Header) (m : ℕ) (l : Layout) : Type 0 where
   pub begin : ℕ
   pub count : ℕ
-  pub rows : trail.Rows begin count ≡ trail_at s h.data_len
+  pub rows : rows_from begin count ≡ trail_at s h.data_len
   pub stars : offsets_at s m begin count ≡ map star_of l.trees
 
 -- the load of tree k in tables L, by a full load K of the model: the same question and pattern rows, and of row k of the trees (state, first record, records, lines, first value,
@@ -34,7 +32,7 @@ pub record OneStored {s : List ℕ} {h : Header} {which : Which} {F : Tables} {X
   pub value : ℕ
   pub entries : ℕ
   pub stands : Nth (folded K.tree_rows K.block_rows) k (state ∷ first ∷ count ∷ lines ∷ value ∷ entries ∷ [])
-  pub counts : x.answer ≡ Done K.p.questions K.p.patterns 1 count (entries * K.p.width)
+  pub counts : x.answer ≡ loaded K.p.questions K.p.patterns 1 count (entries * K.p.width)
   pub at_questions : x.tables.questions ≡ sets L.questions 0 (flatten (question_rows 0 K.l.questions))
   pub at_patterns : x.tables.patterns ≡ sets L.patterns 0 (flatten (pattern_rows K.l.questions))
   pub at_trees : x.tables.trees ≡ sets L.trees 0 (state ∷ 0 ∷ count ∷ lines ∷ 0 ∷ entries ∷ [])

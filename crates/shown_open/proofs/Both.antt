@@ -3,6 +3,7 @@ use mathlib.Core.Path.{◌≡◌, refl, ap, ◌∙◌}
 use mathlib.Core.List.{List, map}
 use Prim.Native.Nat.{ℕ, ◌+◌, ◌≤◌}
 use lib.ListN.{length}
+use Rattle.std.specs.Prelude.{Ok}
 use Rattle.written.specs.HeaderText.{Range}
 use Rattle.written.specs.Record.{GlobalText, GlobalFits, StreamText, StreamsFit, PositionText, PositionsFit}
 use Rattle.written.specs.Record as record_of
@@ -13,7 +14,6 @@ use Rattle.head_record.specs.Lists.{filled, range_of}
 use Rattle.head_record.specs.Record.{global_record, stream_record, position_record}
 use Rattle.text_parts.specs.declared.Span.{Span}
 use Rattle.head_de.proofs.Sound.{Bytes}
-use Rattle.head_lines.specs.declared.Verdict.TheVariants as verdict
 use Rattle.head_global.specs.Global as global
 use Rattle.head_global.specs.declared.GlobalRead.{GlobalRead}
 use Rattle.head_streams.specs.declared.GroupsRead as streams-read
@@ -24,23 +24,23 @@ use Rattle.shown_open.proofs.Parts.{GlobalAnswer, global_text, no_global, global
 
 -- how streams stand in the struct
 pub record StreamsStand (z : streams-read.GroupsRead) (ds : List record_of.Stream) : Type 0 where
-  pub accepted : z.verdict ≡ verdict.Accepted
+  pub accepted : z.verdict ≡ Ok tt
   pub items : z.streams.items ≡ filled 8 empty_stream (map stream_record ds)
   pub count : z.streams.names.count ≡ length ds
 
 pub record PositionsStand (z : PositionRead) (pdf tree : Range) (ds : List record_of.Position) : Type 0 where
-  pub accepted : z.verdict ≡ verdict.Accepted
+  pub accepted : z.verdict ≡ Ok tt
   pub duration_pdf : z.durations.pdf ≡ range_of pdf
   pub duration_tree : z.durations.tree ≡ range_of tree
   pub items : z.positions.items ≡ filled 8 empty_position (map position_record ds)
   pub count : z.positions.names.count ≡ length ds
 
 module _ {s : List ℕ} (bytes : Bytes s) (x : Span) (inside : x.start + x.len ≤ length s) where
-  pub global_accepted : {g : record_of.Global} → GlobalText s (span_said x) g → GlobalFits g → global_of s x ≡ global.made verdict.Accepted (global_record g)
+  pub global_accepted : {g : record_of.Global} → GlobalText s (span_said x) g → GlobalFits g → global_of s x ≡ global.made (Ok tt) (global_record g)
   global_accepted {g} a f = go (global_of s x) (global_part bytes x inside)
     where
-      go : (z : GlobalRead) → GlobalAnswer s x z → z ≡ global.made verdict.Accepted (global_record g)
-      go z (global_text b h) = ap (λ (k : record_of.Global). global.made verdict.Accepted (global_record k)) (global_text_one b a)
+      go : (z : GlobalRead) → GlobalAnswer s x z → z ≡ global.made (Ok tt) (global_record g)
+      go z (global_text b h) = ap (λ (k : record_of.Global). global.made (Ok tt) (global_record k)) (global_text_one b a)
       go z (no_global n) = absurd (no_global_never a f n)
 
   pub streams_accepted : {ds : List record_of.Stream} → StreamText s (span_said x) ds → StreamsFit ds → StreamsStand (streams_of s x) ds

@@ -5,6 +5,7 @@ use Prim.Native.Nat.{ℕ, ◌+◌, ◌≤◌}
 use native.Mathlib.Omega.{arith}
 use lib.ListN.{length}
 use lib.Seq.{length-take-le}
+use Rattle.std.specs.Prelude.{Result, Ok, Err, ⊤}
 use Rattle.written.specs.Bytes.{part}
 use Rattle.written.specs.Rfc3629.{Octets, FirstBad}
 use Rattle.written.specs.HeaderText.{Range, Field, Entry, Section}
@@ -15,8 +16,6 @@ use Rattle.error.specs.Numbers as error
 use Rattle.error.specs.declared.Refusal.{Refusal}
 use Rattle.error.specs.declared.Refusal.TheVariants as refusal
 use Rattle.text_utf8.specs.Check.{check_of}
-use Rattle.text_utf8.specs.declared.Answer.{Answer}
-use Rattle.text_utf8.specs.declared.Answer.TheVariants as answer
 use Rattle.text_utf8.proofs.Valid.{valid, bad}
 use Rattle.head_record.specs.Empty.{empty_stream, empty_position}
 use Rattle.head_record.specs.Lists.{filled, range_of}
@@ -24,8 +23,6 @@ use Rattle.head_record.specs.Record.{global_record, stream_record, position_reco
 use Rattle.text_parts.specs.declared.Span.{Span}
 use Rattle.head_de.proofs.Sound.{Bytes}
 use Rattle.head_lines.specs.Lines.{Lines, whole, faulty, lines_at}
-use Rattle.head_lines.specs.declared.Verdict.{Verdict}
-use Rattle.head_lines.specs.declared.Verdict.TheVariants as verdict
 use Rattle.head_lines.proofs.Sound.{LinesAnswer, a_section, no_section, lines_sound}
 use Rattle.head_global.specs.Global as global
 use Rattle.head_global.specs.declared.GlobalRead.{GlobalRead}
@@ -39,7 +36,6 @@ use Rattle.head_positions.specs.declared.Positions.{Positions}
 use Rattle.head_positions.specs.declared.GroupsRead as positions-read
 use Rattle.head_ungrouped.specs.Ungrouped.{durations_in, verdict_in}
 use Rattle.head_ungrouped.specs.declared.Durations.{Durations}
-use Rattle.head_ungrouped.specs.declared.DurationsRead.{DurationsRead}
 use Rattle.shown_groups.specs.Said.{span_said}
 use Rattle.shown_groups.proofs.Reading.{bytes-front}
 use Rattle.shown_streams.proofs.Sound as streams-said
@@ -50,32 +46,32 @@ use Rattle.head_open.specs.declared.PositionRead.{PositionRead}
 
 -- ---- UTF-8
 
-pub data Utf8Answer (s : List ℕ) (x : Span) : Verdict → Type 0 where
-  characters : Octets (part s x.start x.len) → Utf8Answer s x verdict.Accepted
-  first_bad : (q : ℕ) → FirstBad (part s x.start x.len) q → Utf8Answer s x (verdict.Refused (refusal.Utf8 (x.start + q)))
+pub data Utf8Answer (s : List ℕ) (x : Span) : Result ⊤ Refusal → Type 0 where
+  characters : Octets (part s x.start x.len) → Utf8Answer s x (Ok tt)
+  first_bad : (q : ℕ) → FirstBad (part s x.start x.len) q → Utf8Answer s x (Err (refusal.Utf8 (x.start + q)))
 
 pub utf8_sound : (s : List ℕ) (x : Span) → Utf8Answer s x (utf8_of s x)
 unfolding utf8_of
 utf8_sound s x = go (check_of (part s x.start x.len)) refl
   where
-    go : (a : Answer) → check_of (part s x.start x.len) ≡ a → Utf8Answer s x (utf8_verdict x.start a)
-    go answer.Valid e = characters ((valid (part s x.start x.len)).0 e)
-    go (answer.Bad q) e = first_bad q ((bad (part s x.start x.len) q).0 e)
+    go : (a : Result Unit ℕ) → check_of (part s x.start x.len) ≡ a → Utf8Answer s x (utf8_verdict x.start a)
+    go (Ok tt) e = characters ((valid (part s x.start x.len)).0 e)
+    go (Err q) e = first_bad q ((bad (part s x.start x.len) q).0 e)
 
 -- ---- the answers of the sections
 
 pub data GlobalAnswer (s : List ℕ) (x : Span) : GlobalRead → Type 0 where
-  global_text : {g : record_of.Global} → GlobalText s (span_said x) g → GlobalFits g → GlobalAnswer s x (global.made verdict.Accepted (global_record g))
+  global_text : {g : record_of.Global} → GlobalText s (span_said x) g → GlobalFits g → GlobalAnswer s x (global.made (Ok tt) (global_record g))
   no_global : {r : Refusal} → NoGlobal s (span_said x) (error.number_of r) (error.place_of r) → GlobalAnswer s x (global.refused_with r)
 
 pub data StreamAnswer (s : List ℕ) (x : Span) : streams-read.GroupsRead → Type 0 where
   stream_text : {t : Streams} (ds : List record_of.Stream) → StreamText s (span_said x) ds → StreamsFit ds → t.items ≡ filled 8 empty_stream (map stream_record ds) → t.names.count ≡ length ds
-      → StreamAnswer s x (streams.made verdict.Accepted t)
+      → StreamAnswer s x (streams.made (Ok tt) t)
   no_streams : {r : Refusal} → NoStreams s (span_said x) (error.number_of r) (error.place_of r) → StreamAnswer s x (no_streams_for r)
 
 pub data PositionAnswer (s : List ℕ) (x : Span) : PositionRead → Type 0 where
   position_text : {d : Durations} {t : Positions} (pdf tree : Range) (ds : List record_of.Position) → PositionText s (span_said x) pdf tree ds → PositionsFit ds → d.pdf ≡ range_of pdf → d.tree ≡ range_of tree
-      → t.items ≡ filled 8 empty_position (map position_record ds) → t.names.count ≡ length ds → PositionAnswer s x (made_position verdict.Accepted d t)
+      → t.items ≡ filled 8 empty_position (map position_record ds) → t.names.count ≡ length ds → PositionAnswer s x (made_position (Ok tt) d t)
   no_positions : (r : Refusal) → NoPositions s (span_said x) (error.number_of r) (error.place_of r) → PositionAnswer s x (no_positions_for r)
 
 module _ {s : List ℕ} (bytes : Bytes s) (x : Span) (inside : x.start + x.len ≤ length s) where
@@ -97,9 +93,9 @@ module _ {s : List ℕ} (bytes : Bytes s) (x : Span) (inside : x.start + x.len �
       lines o z (answers.missing c m) = no_global (NoGlobal.wrong (Wrong.missing o c m))
       lines o z (answers.too_many {xs = xs} c y f) = no_global (NoGlobal.too_many (record { xs = xs; utf8 = o; lines = c; says = y }) f)
 
-      go : (v : Verdict) → Utf8Answer s x v → GlobalAnswer s x (global_for (up_to s x) x.start v)
-      go verdict.Accepted (characters o) = lines o (global.global_in (lines_at global_fields (up_to s x) x.start)) (global_sound upto_bytes x.start start_in)
-      go (verdict.Refused r) (first_bad q f) = no_global (NoGlobal.wrong (Wrong.utf8 f))
+      go : (v : Result ⊤ Refusal) → Utf8Answer s x v → GlobalAnswer s x (global_for (up_to s x) x.start v)
+      go (Ok _) (characters o) = lines o (global.global_in (lines_at global_fields (up_to s x) x.start)) (global_sound upto_bytes x.start start_in)
+      go (Err r) (first_bad q f) = no_global (NoGlobal.wrong (Wrong.utf8 f))
 
   -- ---- [STREAM]
 
@@ -127,9 +123,9 @@ module _ {s : List ℕ} (bytes : Bytes s) (x : Span) (inside : x.start + x.len �
       lines o (whole m xs) (a_section c k) = groups o c (streams.groups_in (over (streams.with_group (up_to s x) x.start) streams.no_streams (rows_at (up_to s x) x.start))) (streams-said.streams_sound upto_bytes x.start c)
       lines o (faulty r) (no_section n) = no_streams (NoStreams.wrong (Wrong.lines o n))
 
-      go : (v : Verdict) → Utf8Answer s x v → StreamAnswer s x (streams_for (up_to s x) x.start v)
-      go verdict.Accepted (characters o) = lines o (lines_at stream_fields (up_to s x) x.start) (lines_sound stream_fields stream_room upto_bytes x.start start_in)
-      go (verdict.Refused r) (first_bad q f) = no_streams (NoStreams.wrong (Wrong.utf8 f))
+      go : (v : Result ⊤ Refusal) → Utf8Answer s x v → StreamAnswer s x (streams_for (up_to s x) x.start v)
+      go (Ok _) (characters o) = lines o (lines_at stream_fields (up_to s x) x.start) (lines_sound stream_fields stream_room upto_bytes x.start start_in)
+      go (Err r) (first_bad q f) = no_streams (NoStreams.wrong (Wrong.utf8 f))
 
   -- ---- [POSITION]
 
@@ -145,12 +141,12 @@ module _ {s : List ℕ} (bytes : Bytes s) (x : Span) (inside : x.start + x.len �
       groups o {xs} c m pdf tree y d a b z (positions-said.too_many {gs = gs} ds g p f) =
           no_positions refusal.Limit (NoPositions.too_many (record { xs = xs; gs = gs; utf8 = o; lines = c; durations = y; groups = g; say = p }) f)
 
-      lines : Octets (part s x.start x.len) → (z : DurationsRead) → DurationsAnswer (up_to s x) x.start z → PositionAnswer s x (after_durations (up_to s x) x.start z.verdict z.durations)
+      lines : Octets (part s x.start x.len) → (z : Result Durations Refusal) → DurationsAnswer (up_to s x) x.start z → PositionAnswer s x (after_durations (up_to s x) x.start z)
       lines o z (durations_say {pdf = pdf} {tree = tree} {d = d} c y m a b) =
           groups o c m pdf tree y d a b (groups_read (up_to s x) x.start) (positions-said.positions_sound upto_bytes x.start c)
       lines o z (lines_wrong {r = r} n) = no_positions r (NoPositions.wrong (Wrong.lines o n))
       lines o z (field_missing c m) = no_positions refusal.Field (NoPositions.wrong (Wrong.missing o c m))
 
-      go : (v : Verdict) → Utf8Answer s x v → PositionAnswer s x (positions_for (up_to s x) x.start v)
-      go verdict.Accepted (characters o) = lines o (durations_in (lines_at position_fields (up_to s x) x.start)) (durations_sound upto_bytes x.start start_in)
-      go (verdict.Refused r) (first_bad q f) = no_positions (refusal.Utf8 (x.start + q)) (NoPositions.wrong (Wrong.utf8 f))
+      go : (v : Result ⊤ Refusal) → Utf8Answer s x v → PositionAnswer s x (positions_for (up_to s x) x.start v)
+      go (Ok _) (characters o) = lines o (durations_in (lines_at position_fields (up_to s x) x.start)) (durations_sound upto_bytes x.start start_in)
+      go (Err r) (first_bad q f) = no_positions (refusal.Utf8 (x.start + q)) (NoPositions.wrong (Wrong.utf8 f))

@@ -13,9 +13,7 @@ use Rattle.written.proofs.Tests.{both}
 use Rattle.laws.proofs.Ranges.{all, at}
 use Rattle.head_record.specs.Lists.{range_of}
 use Rattle.head_ungrouped.specs.declared.Durations as of-durations
-use Rattle.head_de.specs.Values.{cursor}
 use Rattle.head_de_lists.specs.Lists.{spans_of, ranges_of}
-use Rattle.head_de_lists.specs.declared.Outcome.TheVariants as outcome
 use Rattle.head_de_values.specs.Values.{value_of}
 use Rattle.head_de_values.specs.declared.Value as values
 use Rattle.head_fields.specs.Fields.{field_index}
@@ -25,7 +23,7 @@ use Rattle.shown_groups.proofs.Fields.{once_made}
 use Rattle.head_ungrouped.specs.Ungrouped.{no_durations, stored, with_line}
 
 abbrev in_value : Value → values.Value
-in_value v = value_of (outcome.Read (cursor 0)) v
+in_value v = value_of v
 
 -- the required fields of the table are its first 2
 pub durations_leads : Leads position_fields 2

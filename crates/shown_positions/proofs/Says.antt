@@ -17,9 +17,7 @@ use Rattle.head_record.specs.Empty.{empty_position, no_range}
 use Rattle.head_record.specs.Lists.{filled, span_of, range_of}
 use Rattle.head_record.specs.Record.{position_record, range_or, there as is_there}
 use Rattle.head_record.specs.declared.PositionData.{PositionData}
-use Rattle.head_de.specs.Values.{cursor}
 use Rattle.head_de_lists.specs.Lists.{spans_of, ranges_of}
-use Rattle.head_de_lists.specs.declared.Outcome.TheVariants as outcome
 use Rattle.head_de_values.specs.Values.{value_of}
 use Rattle.head_de_values.specs.declared.Value as values
 use Rattle.head_fields.specs.Fields.{field_index}
@@ -29,7 +27,7 @@ use Rattle.shown_groups.proofs.Fields.{once_made, Optional, not_there, stands, p
 use Rattle.head_position.specs.Group.{stored, with_line, empty_of}
 
 abbrev in_value : Value → values.Value
-in_value v = value_of (outcome.Read (cursor 0)) v
+in_value v = value_of v
 
 -- the required fields of the table are its first 3
 pub position_leads : Leads position_group 3

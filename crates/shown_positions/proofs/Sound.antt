@@ -10,6 +10,7 @@ use native.Mathlib.Decide.{dec_lt}
 use borrow.Author.Tests.{ltb-true, ltb-false}
 use lib.Dec.{ltb}
 use lib.ListN.{length}
+use Rattle.std.specs.Prelude.{Result, Ok, Err, ⊤}
 use Rattle.written.specs.Bytes.{bytes, unbracket, one_of, same}
 use Rattle.written.specs.HeaderText.{anything, a_pair, kind_of, Field, Entry, Section}
 use Rattle.written.specs.Groups as says
@@ -30,8 +31,6 @@ use Rattle.text_parts.specs.declared.Span.{Span}
 use Rattle.head_record.specs.declared.PositionData.{PositionData}
 use Rattle.head_de.proofs.Sound.{Bytes}
 use Rattle.head_fields.specs.Fields.{any_missing}
-use Rattle.head_lines.specs.declared.Verdict.{Verdict}
-use Rattle.head_lines.specs.declared.Verdict.TheVariants as verdict
 use Rattle.head_lines.proofs.Kept.{missing_so, missing_not}
 use Rattle.head_brackets.specs.Rows.{rows_at, Going, on, stop_with, over, no_names}
 use Rattle.text_parts.specs.Parts.{bytes_of}
@@ -78,7 +77,7 @@ group m d = record { seen = m; item = d }
 -- ---- a group
 
 module _ {s : List ℕ} (of-bytes : Bytes s) (i : ℕ) (st : All (Standing s) (rows_at s i)) where
-  abbrev verdict_of : Span → Verdict
+  abbrev verdict_of : Span → Result ⊤ Refusal
   verdict_of x = (group_of s i x).verdict
 
   abbrev item_of : Span → PositionData
@@ -100,12 +99,12 @@ module _ {s : List ℕ} (of-bytes : Bytes s) (i : ℕ) (st : All (Standing s) (r
       judged_so : (g : of-group.Group) → reading r.name ≡ on g → Keeps position_group s (λ (g : of-group.Group). g.seen) (λ (g : of-group.Group). g.item) with_line (empty_of r.name) (group_for s (rows_at s i) r).rows g
           → (t : Bool) → any_missing g.seen 3 ≡ t → OneGroup (λ (d : record_of.Position). d.name) position_record position_group PositionSays s (rows_at s i) verdict_of item_of r
       judged_so g e k true f =
-          let v : group_in (reading r.name) ≡ one.made (verdict.Refused refusal.Field) empty_position =
-          ap group_in e ∙ ap (λ (t : Bool). cond t (one.made (verdict.Refused refusal.Field) empty_position) (one.made verdict.Accepted g.item)) f in
+          let v : group_in (reading r.name) ≡ one.made (Err refusal.Field) empty_position =
+          ap group_in e ∙ ap (λ (t : Bool). cond t (one.made (Err refusal.Field) empty_position) (one.made (Ok tt) g.item)) f in
           one_faulty refusal.Field (ap (λ (u : GroupRead). u.verdict) v) (NoGroup.missing k.entries (missing_so k.marks 3 position_leads f))
       judged_so g e k false f =
-          let v : group_in (reading r.name) ≡ one.made verdict.Accepted g.item =
-          ap group_in e ∙ ap (λ (t : Bool). cond t (one.made (verdict.Refused refusal.Field) empty_position) (one.made verdict.Accepted g.item)) f in
+          let v : group_in (reading r.name) ≡ one.made (Ok tt) g.item =
+          ap group_in e ∙ ap (λ (t : Bool). cond t (one.made (Err refusal.Field) empty_position) (one.made (Ok tt) g.item)) f in
           let y = position_says (entries_kinded k.entries.says) k.entries.distinct (missing_not k.marks 3 position_leads f) (span_said r.name) in
           one_said y.0 (ap (λ (u : GroupRead). u.verdict) v) (ap (λ (u : GroupRead). u.item) v ∙ k.item_is ∙ y.3) y.1
           (record { xs = k.xs; entries = k.entries; says = (y.1 ∙ sym (name_said s r h), y.2) })
@@ -116,7 +115,7 @@ module _ {s : List ℕ} (of-bytes : Bytes s) (i : ℕ) (st : All (Standing s) (r
       go (on g) e (keeps k) = judged_so g e k (any_missing g.seen 3) refl
       go (stop_with q) e (no_group n) = one_faulty q (ap (λ (z : Going of-group.Group). (group_in z).verdict) e) n
 
-  item_free : (t : Bool) (d e : PositionData) → (cond t (one.made (verdict.Refused refusal.Field) empty_position) (one.made verdict.Accepted d)).verdict ≡ (cond t (one.made (verdict.Refused refusal.Field) empty_position) (one.made verdict.Accepted e)).verdict
+  item_free : (t : Bool) (d e : PositionData) → (cond t (one.made (Err refusal.Field) empty_position) (one.made (Ok tt) d)).verdict ≡ (cond t (one.made (Err refusal.Field) empty_position) (one.made (Ok tt) e)).verdict
   item_free true d e = refl
   item_free false d e = refl
 
@@ -130,7 +129,7 @@ module _ {s : List ℕ} (of-bytes : Bytes s) (i : ℕ) (st : All (Standing s) (r
       ∙ ap (λ (w : List ℕ). (group_in (over (with_row s w) (named y) (rows_at s i))).verdict) e
     where
       go : (a b : Going of-group.Group) → Alike (λ (g : of-group.Group). g.seen) a b → (group_in a).verdict ≡ (group_in b).verdict
-      go (on g) (on h) (both_on f) = ap (λ (m : List Bool). (cond (any_missing m 3) (one.made (verdict.Refused refusal.Field) empty_position) (one.made verdict.Accepted g.item)).verdict) f ∙ item_free (any_missing h.seen 3) g.item h.item
+      go (on g) (on h) (both_on f) = ap (λ (m : List Bool). (cond (any_missing m 3) (one.made (Err refusal.Field) empty_position) (one.made (Ok tt) g.item)).verdict) f ∙ item_free (any_missing h.seen 3) g.item h.item
       go (stop_with q) (stop_with r) (both_stop p) = refl
       go (on g) (stop_with r) x3 = elim x3 [ ]
       go (stop_with q) (on h) x4 = elim x4 [ ]
@@ -140,9 +139,9 @@ module _ {s : List ℕ} (of-bytes : Bytes s) (i : ℕ) (st : All (Standing s) (r
 -- the positions of the groups gs, in the struct; or the first group with a fault; or a count that passes its limit
 pub data PositionsAnswer (s : List ℕ) (xs : List Entry) : GroupsRead → Type 0 where
   positions_say : {x : Positions} {gs : List Group} (ds : List record_of.Position) → GroupsOf xs gs → Pointwise (GroupSays position_group PositionSays s) gs ds → PositionsFit ds
-      → x.items ≡ filled 8 empty_position (map position_record ds) → x.names.count ≡ length ds → PositionsAnswer s xs (made verdict.Accepted x)
-  group_wrong : {q : Refusal} {gs : List Group} → GroupsOf xs gs → NoGroups position_group s gs (error.number_of q) (error.place_of q) → PositionsAnswer s xs (made (verdict.Refused q) no_positions)
-  too_many : {gs : List Group} (ds : List record_of.Position) → GroupsOf xs gs → Pointwise (GroupSays position_group PositionSays s) gs ds → ¬ PositionsFit ds → PositionsAnswer s xs (made (verdict.Refused refusal.Limit) no_positions)
+      → x.items ≡ filled 8 empty_position (map position_record ds) → x.names.count ≡ length ds → PositionsAnswer s xs (made (Ok tt) x)
+  group_wrong : {q : Refusal} {gs : List Group} → GroupsOf xs gs → NoGroups position_group s gs (error.number_of q) (error.place_of q) → PositionsAnswer s xs (made (Err q) no_positions)
+  too_many : {gs : List Group} (ds : List record_of.Position) → GroupsOf xs gs → Pointwise (GroupSays position_group PositionSays s) gs ds → ¬ PositionsFit ds → PositionsAnswer s xs (made (Err refusal.Limit) no_positions)
 
 abbrev Held : Positions → List record_of.Position → Type 0
 Held x ds = Holds (λ (y : Positions). y.names) (λ (y : Positions). y.items) (λ (d : record_of.Position). d.name) position_record empty_position x ds
@@ -191,7 +190,7 @@ module _ {s : List ℕ} (of-bytes : Bytes s) (i : ℕ) {xs : List Entry} (sectio
 
       limited : (x : Positions) {gs : List Group} (ds : List record_of.Position) → GroupsOf xs gs → Pointwise (GroupSays position_group PositionSays s) gs ds → Held x ds
           → (t : Bool) → ltb 8 x.names.count ≡ t → (u : Bool) → many_over x.items 8 ≡ u
-          → PositionsAnswer s xs (cond t (made (verdict.Refused refusal.Limit) no_positions) (cond u (made (verdict.Refused refusal.Limit) no_positions) (made verdict.Accepted x)))
+          → PositionsAnswer s xs (cond t (made (Err refusal.Limit) no_positions) (cond u (made (Err refusal.Limit) no_positions) (made (Ok tt) x)))
       limited x ds g p h true e u f = too_many ds g p (λ z. let k = length_past x ds h (ltb-true 8 x.names.count e) (dec_lt 8 (length ds)) in omega (arith, z.names))
       limited x ds g p h false e true f = too_many ds g p (λ z. windows_past x.items ds h.stored f z.windows)
       limited x ds g p h false e false f =

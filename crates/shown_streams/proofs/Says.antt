@@ -16,9 +16,7 @@ use Rattle.head_record.specs.Empty.{empty_stream, no_span}
 use Rattle.head_record.specs.Lists.{filled, span_of}
 use Rattle.head_record.specs.Record.{stream_record}
 use Rattle.head_record.specs.declared.StreamData.{StreamData}
-use Rattle.head_de.specs.Values.{cursor}
 use Rattle.head_de_lists.specs.Lists.{firsts, spans_of, ranges_of}
-use Rattle.head_de_lists.specs.declared.Outcome.TheVariants as outcome
 use Rattle.head_de_lists.proofs.Firsts.{first16}
 use Rattle.head_de_values.specs.Values.{value_of}
 use Rattle.head_de_values.specs.declared.Value as values
@@ -29,7 +27,7 @@ use Rattle.shown_groups.proofs.Fields.{once_made, Optional, not_there, stands, p
 use Rattle.head_stream.specs.Group.{stored, with_line, empty_of}
 
 abbrev in_value : Value → values.Value
-in_value v = value_of (outcome.Read (cursor 0)) v
+in_value v = value_of v
 
 -- the required fields of the table are its first 3
 pub stream_leads : Leads stream_group 3

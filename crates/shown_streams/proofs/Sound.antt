@@ -10,6 +10,7 @@ use native.Mathlib.Decide.{dec_lt}
 use borrow.Author.Tests.{ltb-true, ltb-false}
 use lib.Dec.{ltb}
 use lib.ListN.{length}
+use Rattle.std.specs.Prelude.{Result, Ok, Err, ⊤}
 use Rattle.written.specs.HeaderText.{kind_of, Field, Entry, Section}
 use Rattle.written.specs.Groups as says
 use Rattle.written.specs.Groups.{Group, Grouped, of_group, Pointwise}
@@ -27,8 +28,6 @@ use Rattle.text_parts.specs.declared.Span.{Span}
 use Rattle.head_record.specs.declared.StreamData.{StreamData}
 use Rattle.head_de.proofs.Sound.{Bytes}
 use Rattle.head_fields.specs.Fields.{any_missing}
-use Rattle.head_lines.specs.declared.Verdict.{Verdict}
-use Rattle.head_lines.specs.declared.Verdict.TheVariants as verdict
 use Rattle.head_lines.proofs.Kept.{missing_so, missing_not}
 use Rattle.head_brackets.specs.Rows.{rows_at, Going, on, stop_with, over, no_names}
 use Rattle.text_parts.specs.Parts.{bytes_of}
@@ -59,7 +58,7 @@ group m d = record { seen = m; item = d }
 -- ---- a group
 
 module _ {s : List ℕ} (bytes : Bytes s) (i : ℕ) (st : All (Standing s) (rows_at s i)) where
-  abbrev verdict_of : Span → Verdict
+  abbrev verdict_of : Span → Result ⊤ Refusal
   verdict_of x = (group_of s i x).verdict
 
   abbrev item_of : Span → StreamData
@@ -81,12 +80,12 @@ module _ {s : List ℕ} (bytes : Bytes s) (i : ℕ) (st : All (Standing s) (rows
       judged_so : (g : of-group.Group) → reading r.name ≡ on g → Keeps stream_group s (λ (g : of-group.Group). g.seen) (λ (g : of-group.Group). g.item) with_line (empty_of r.name) (group_for s (rows_at s i) r).rows g
           → (t : Bool) → any_missing g.seen 3 ≡ t → OneGroup (λ (d : record_of.Stream). d.name) stream_record stream_group StreamSays s (rows_at s i) verdict_of item_of r
       judged_so g e k true f =
-          let v : group_in (reading r.name) ≡ one.made (verdict.Refused refusal.Field) empty_stream =
-          ap group_in e ∙ ap (λ (t : Bool). cond t (one.made (verdict.Refused refusal.Field) empty_stream) (one.made verdict.Accepted g.item)) f in
+          let v : group_in (reading r.name) ≡ one.made (Err refusal.Field) empty_stream =
+          ap group_in e ∙ ap (λ (t : Bool). cond t (one.made (Err refusal.Field) empty_stream) (one.made (Ok tt) g.item)) f in
           one_faulty refusal.Field (ap (λ (u : GroupRead). u.verdict) v) (NoGroup.missing k.entries (missing_so k.marks 3 stream_leads f))
       judged_so g e k false f =
-          let v : group_in (reading r.name) ≡ one.made verdict.Accepted g.item =
-          ap group_in e ∙ ap (λ (t : Bool). cond t (one.made (verdict.Refused refusal.Field) empty_stream) (one.made verdict.Accepted g.item)) f in
+          let v : group_in (reading r.name) ≡ one.made (Ok tt) g.item =
+          ap group_in e ∙ ap (λ (t : Bool). cond t (one.made (Err refusal.Field) empty_stream) (one.made (Ok tt) g.item)) f in
           let y = stream_says (entries_kinded k.entries.says) k.entries.distinct (missing_not k.marks 3 stream_leads f) (span_said r.name) in
           one_said y.0 (ap (λ (u : GroupRead). u.verdict) v) (ap (λ (u : GroupRead). u.item) v ∙ k.item_is ∙ y.3) y.1
           (record { xs = k.xs; entries = k.entries; says = (y.1 ∙ sym (name_said s r h), y.2) })
@@ -97,7 +96,7 @@ module _ {s : List ℕ} (bytes : Bytes s) (i : ℕ) (st : All (Standing s) (rows
       go (on g) e (keeps k) = judged_so g e k (any_missing g.seen 3) refl
       go (stop_with q) e (no_group n) = one_faulty q (ap (λ (z : Going of-group.Group). (group_in z).verdict) e) n
 
-  item_free : (t : Bool) (d e : StreamData) → (cond t (one.made (verdict.Refused refusal.Field) empty_stream) (one.made verdict.Accepted d)).verdict ≡ (cond t (one.made (verdict.Refused refusal.Field) empty_stream) (one.made verdict.Accepted e)).verdict
+  item_free : (t : Bool) (d e : StreamData) → (cond t (one.made (Err refusal.Field) empty_stream) (one.made (Ok tt) d)).verdict ≡ (cond t (one.made (Err refusal.Field) empty_stream) (one.made (Ok tt) e)).verdict
   item_free true d e = refl
   item_free false d e = refl
 
@@ -111,7 +110,7 @@ module _ {s : List ℕ} (bytes : Bytes s) (i : ℕ) (st : All (Standing s) (rows
       ∙ ap (λ (w : List ℕ). (group_in (over (with_row s w) (named y) (rows_at s i))).verdict) e
     where
       go : (a b : Going of-group.Group) → Alike (λ (g : of-group.Group). g.seen) a b → (group_in a).verdict ≡ (group_in b).verdict
-      go (on g) (on h) (both_on f) = ap (λ (m : List Bool). (cond (any_missing m 3) (one.made (verdict.Refused refusal.Field) empty_stream) (one.made verdict.Accepted g.item)).verdict) f ∙ item_free (any_missing h.seen 3) g.item h.item
+      go (on g) (on h) (both_on f) = ap (λ (m : List Bool). (cond (any_missing m 3) (one.made (Err refusal.Field) empty_stream) (one.made (Ok tt) g.item)).verdict) f ∙ item_free (any_missing h.seen 3) g.item h.item
       go (stop_with q) (stop_with r) (both_stop p) = refl
       go (on g) (stop_with r) x3 = elim x3 [ ]
       go (stop_with q) (on h) x4 = elim x4 [ ]
@@ -121,9 +120,9 @@ module _ {s : List ℕ} (bytes : Bytes s) (i : ℕ) (st : All (Standing s) (rows
 -- the streams of the groups gs, in the struct; or the first group with a fault; or a count that passes its limit
 pub data StreamsAnswer (s : List ℕ) (xs : List Entry) : GroupsRead → Type 0 where
   streams_say : {x : Streams} {gs : List Group} (ds : List record_of.Stream) → GroupsOf xs gs → Pointwise (GroupSays stream_group StreamSays s) gs ds → StreamsFit ds
-      → x.items ≡ filled 8 empty_stream (map stream_record ds) → x.names.count ≡ length ds → StreamsAnswer s xs (made verdict.Accepted x)
-  group_wrong : {q : Refusal} {gs : List Group} → GroupsOf xs gs → NoGroups stream_group s gs (error.number_of q) (error.place_of q) → StreamsAnswer s xs (made (verdict.Refused q) no_streams)
-  too_many : {gs : List Group} (ds : List record_of.Stream) → GroupsOf xs gs → Pointwise (GroupSays stream_group StreamSays s) gs ds → ¬ StreamsFit ds → StreamsAnswer s xs (made (verdict.Refused refusal.Limit) no_streams)
+      → x.items ≡ filled 8 empty_stream (map stream_record ds) → x.names.count ≡ length ds → StreamsAnswer s xs (made (Ok tt) x)
+  group_wrong : {q : Refusal} {gs : List Group} → GroupsOf xs gs → NoGroups stream_group s gs (error.number_of q) (error.place_of q) → StreamsAnswer s xs (made (Err q) no_streams)
+  too_many : {gs : List Group} (ds : List record_of.Stream) → GroupsOf xs gs → Pointwise (GroupSays stream_group StreamSays s) gs ds → ¬ StreamsFit ds → StreamsAnswer s xs (made (Err refusal.Limit) no_streams)
 
 abbrev Held : Streams → List record_of.Stream → Type 0
 Held x ds = Holds (λ (y : Streams). y.names) (λ (y : Streams). y.items) (λ (d : record_of.Stream). d.name) stream_record empty_stream x ds
@@ -172,7 +171,7 @@ module _ {s : List ℕ} (bytes : Bytes s) (i : ℕ) {xs : List Entry} (section :
 
       limited : (x : Streams) {gs : List Group} (ds : List record_of.Stream) → GroupsOf xs gs → Pointwise (GroupSays stream_group StreamSays s) gs ds → Held x ds
           → (t : Bool) → ltb 8 x.names.count ≡ t → (u : Bool) → many_over x.items 8 ≡ u
-          → StreamsAnswer s xs (cond t (made (verdict.Refused refusal.Limit) no_streams) (cond u (made (verdict.Refused refusal.Limit) no_streams) (made verdict.Accepted x)))
+          → StreamsAnswer s xs (cond t (made (Err refusal.Limit) no_streams) (cond u (made (Err refusal.Limit) no_streams) (made (Ok tt) x)))
       limited x ds g p h true e u f = too_many ds g p (λ z. let k = length_past x ds h (ltb-true 8 x.names.count e) (dec_lt 8 (length ds)) in omega (arith, z.names))
       limited x ds g p h false e true f = too_many ds g p (λ z. options_past x.items ds h.stored f z.options)
       limited x ds g p h false e false f =

@@ -1,20 +1,23 @@
 -- 01's thirteen sums ('Sums to be proved'), each with what it is to come to, by the answers that the calls' contracts cite.
-use Rattle.std.specs.Prelude.{◌≡◌, List, [], ◌∷◌, ℕ, pos, negsuc, length}
+use Rattle.tree_reference.specs.declared.TreeIndex.{TreeIndex}
+use Rattle.text_parts.specs.declared.Read.{Read as Found}
+use Rattle.text_parts.specs.Parts.{read_to}
+use Rattle.std.specs.declared.option.Option.{Option}
+use Rattle.std.specs.Prelude.{◌≡◌, List, [], ◌∷◌, ℕ, pos, negsuc, length, Result, Ok, Err, Some, None}
 use Rattle.written.specs.Bytes.{bytes, Span, comma, newline}
 use Rattle.laws.specs.Steps.{Ending, done_at, broken_at}
 use Rattle.pdf_widen.specs.Widening.{widen_of}
+use Rattle.error.specs.declared.Refusal.{Refusal}
 use Rattle.error.specs.declared.Refusal.TheVariants.{Eof}
-use Rattle.head_de.specs.Values.{cursor, text_at, pair_at}
+use Rattle.head_record.specs.declared.Range.{Range}
+use Rattle.head_record.specs.Empty.{range}
+use Rattle.head_de.specs.Values.{got, text_at, pair_at}
 use Rattle.head_de.specs.Readings.{read, of_text}
-use Rattle.head_de.specs.declared.Pair.{Pair}
-use Rattle.head_de.specs.declared.Pair.TheVariants as pair
+use Rattle.head_de.specs.declared.Read.{Read}
 use Rattle.head_de_lists.specs.Lists.{list_at}
 use Rattle.tree_reference.specs.References.{reference_at}
-use Rattle.tree_reference.specs.declared.Reference.{Reference}
-use Rattle.tree_reference.specs.declared.Reference.TheVariants as reference
 use Rattle.tree_reference.specs.declared.TreeIndex.TheVariants.{Node, Pdf}
 use Rattle.tree_question.specs.Questions.{questions_at}
-use Rattle.load_trees.specs.declared.Linked.TheVariants.{Done}
 use Rattle.load_text.specs.Text.{end_at, records_stored}
 
 pub data Sum : Type 0 where
@@ -23,9 +26,9 @@ pub data Sum : Type 0 where
   -- a list of strings that is the whole text, and its items
   items : List ℕ → List Span → Sum
   -- a pair that begins a text, and what is read of it
-  pair_of : List ℕ → Pair → Sum
+  pair_of : List ℕ → Result (Read Range) Refusal → Sum
   -- a reference that begins a text, and what is read of it
-  reference_of : List ℕ → Reference → Sum
+  reference_of : List ℕ → Option (Found TreeIndex) → Sum
   -- a tree text, and the records of its trees
   tree : List ℕ → List ℕ → Sum
 
@@ -39,7 +42,7 @@ Holds (widening x y) = widen_of 8 23 11 52 x ≡ y
 Holds (items s l) = list_at (λ i. of_text (text_at (comma ∷ newline ∷ []) s i)) (newline ∷ []) s 0 ≡ read l (length s)
 Holds (pair_of s p) = pair_at (newline ∷ []) s 0 ≡ p
 Holds (reference_of s r) = reference_at s 0 ≡ r
-Holds (tree s rows) = (end_at s 0 (first_tree (questions_at s 0).ending) ≡ Done) × (records_stored s 0 (first_tree (questions_at s 0).ending) ≡ rows)
+Holds (tree s rows) = (end_at s 0 (first_tree (questions_at s 0).ending) ≡ (Ok tt)) × (records_stored s 0 (first_tree (questions_at s 0).ending) ≡ rows)
 
 abbrev pub span : ℕ → ℕ → Span
 span i n = record { start = i; len = n }
@@ -58,11 +61,11 @@ sums =
     ∷ items (bytes ",A") (span 1 1 ∷ [])
     ∷ items (bytes "A,") (span 0 1 ∷ span 2 0 ∷ [])
     ∷ items (bytes ",") (span 1 0 ∷ [])
-    ∷ pair_of (bytes "-1-2") (pair.Read 1 2 (cursor 4))
-    ∷ pair_of (bytes "5-") (pair.Refused (Eof 2))
-    ∷ reference_of (bytes "dur_s2_1") (reference.Found (Pdf (pos 1)) 8)
-    ∷ reference_of (bytes "-7") (reference.Found (Node (negsuc 6)) 2)
-    ∷ reference_of (bytes "99999999999999999999_1") (reference.Found (Pdf (pos 1)) 22)
-    ∷ reference_of (bytes "abc") reference.NoReference
+    ∷ pair_of (bytes "-1-2") (got (range 1 2) 4)
+    ∷ pair_of (bytes "5-") (Err (Eof 2))
+    ∷ reference_of (bytes "dur_s2_1") (Some (read_to (Pdf (pos 1)) 8))
+    ∷ reference_of (bytes "-7") (Some (read_to (Node (negsuc 6)) 2))
+    ∷ reference_of (bytes "99999999999999999999_1") (Some (read_to (Pdf (pos 1)) 22))
+    ∷ reference_of (bytes "abc") None
     ∷ five_records
     ∷ []

@@ -18,23 +18,22 @@ use Rattle.link_order.specs.Keys.{name_at}
 use Rattle.error.specs.Numbers.{fault_number}
 use Rattle.tree_body.specs.Trees.{tree_of}
 use Rattle.text_parts.specs.Parts.{nat_of}
-use Rattle.load_tree.specs.Bodies.{body_result}
-use Rattle.load_tree.specs.declared.Filled.{Filled}
-use Rattle.load_tree.specs.declared.Filled.TheVariants as filled
+use Rattle.load_tree.specs.Bodies.{filled, body_result}
 use Rattle.load_trees.specs.Trees.{row_words, ended_at, then_rest, trees_end, tree_words, record_words}
-use Rattle.load_trees.specs.declared.Linked.{Linked}
-use Rattle.load_trees.specs.declared.Linked.TheVariants.{Done}
-use Rattle.load_trees.specs.declared.Linked.TheVariants as linked
 use Rattle.shown_text.proofs.OneTree.{Verdict, tree_verdict}
+use Rattle.load_tree.specs.declared.Filled.{Filled}
+use Rattle.error.specs.declared.LineFault.{LineFault}
+use Rattle.load_trees.specs.declared.TreeFault.{TreeFault}
+use Rattle.std.specs.Prelude.{Err, Ok, Result, ⊤}
 
 -- refused at tree a, where k is the number of the first
 abbrev Refusal : List Question → List Tree → ℕ → ℕ → ℕ → ℕ → Type 0
 Refusal qs ts k c a j = (i : ℕ) × (a ≡ k + i) × ModelRefused qs ts c i j
 
 -- what `written` says of trees that end so, with these words, where k is the number of the first and f its first record
-abbrev pub ModelVerdict : List Question → List Tree → ℕ → ℕ → Linked → List ℕ → List ℕ → Type 0
-ModelVerdict qs ts k f Done trees records = (t : List Row) × (r : List Row) × TreeRows qs f ts t r × (flatten (map begun t) ≡ trees) × (flatten r ≡ records)
-ModelVerdict qs ts k f (linked.Refused g a j) trees records = Refusal qs ts k (fault_number g) a j
+abbrev pub ModelVerdict : List Question → List Tree → ℕ → ℕ → Result ⊤ TreeFault → List ℕ → List ℕ → Type 0
+ModelVerdict qs ts k f (Ok _) trees records = (t : List Row) × (r : List Row) × TreeRows qs f ts t r × (flatten (map begun t) ≡ trees) × (flatten r ≡ records)
+ModelVerdict qs ts k f (Err l) trees records = let record { fault = g; tree = a; line = j } = l in Refusal qs ts k (fault_number g) a j
 
 -- ---- one tree, and then the others
 
@@ -52,23 +51,23 @@ module _ (qs : List Question) (x : Tree) (ts : List Tree) where
       go (pos n) e = refl
       go (negsuc n) e = absurd (h (negative L.Nth.here e))
 
-  then : (¬ Negative (x ∷ ts)) → (k f m n : ℕ) (w : List ℕ) → Verdict qs x.body (filled.Done m n) w → (o : Linked) (trees records : List ℕ) → ModelVerdict qs ts (suc k) (f + m) o trees records
+  then : (¬ Negative (x ∷ ts)) → (k f m n : ℕ) (w : List ℕ) → Verdict qs x.body (filled m n) w → (o : Result ⊤ TreeFault) (trees records : List ℕ) → ModelVerdict qs ts (suc k) (f + m) o trees records
       → ModelVerdict qs (x ∷ ts) k f o (nat_of x.state ∷ f ∷ m ∷ n ∷ 0 ∷ 0 ∷ trees) (w ++ records)
   unfolding flatten
-  then h k f m n w (rows, r, e, l, d) Done trees records (t, u, v, a, b) = (
+  then h k f m n w (rows, r, e, l, d) (Ok _) trees records (t, u, v, a, b) = (
     (nat_of x.state ∷ f ∷ length rows ∷ n ∷ []) ∷ t,
     rows ++ u,
     T.TreeRows.more (natural h) r d (subst (λ (i : ℕ). TreeRows qs (f + i) ts t u) (sym l) v),
     ap₂ (λ (i : ℕ) (y : List ℕ). nat_of x.state ∷ f ∷ i ∷ n ∷ 0 ∷ 0 ∷ y) l a,
     flatten-append rows u ∙ ap₂ ◌++◌ e b,
   )
-  then h k f m n w (rows, r, e, l, d) (linked.Refused b a j) trees records g = further k r g
+  then h k f m n w (rows, r, e, l, d) (Err t) trees records g = further k r g
 
-  one_more : (¬ Negative (x ∷ ts)) → (k f : ℕ) (e : Filled) (w : List ℕ) → Verdict qs x.body e w
-      → (o : Linked) (trees : ℕ → List ℕ) (records : List ℕ) → ((g : ℕ) → ModelVerdict qs ts (suc k) g o (trees g) records)
+  one_more : (¬ Negative (x ∷ ts)) → (k f : ℕ) (e : Result Filled LineFault) (w : List ℕ) → Verdict qs x.body e w
+      → (o : Result ⊤ TreeFault) (trees : ℕ → List ℕ) (records : List ℕ) → ((g : ℕ) → ModelVerdict qs ts (suc k) g o (trees g) records)
       → ModelVerdict qs (x ∷ ts) k f (then_rest e (ended_at k e) (λ m. o)) (row_words (nat_of x.state) f e ++ then_rest e [] (λ m. trees (f + m))) (w ++ then_rest e [] (λ m. records))
-  one_more h k f (filled.Done m n) w v o trees records rest = then h k f m n w v o (trees (f + m)) records (rest (f + m))
-  one_more h k f (filled.Refused g j) w v o trees records rest = at_once k v
+  one_more h k f (Ok b) w v o trees records rest = let record { records = m; lines = n } = b in then h k f m n w v o (trees (f + m)) records (rest (f + m))
+  one_more h k f (Err b) w v o trees records rest = at_once k v
 
 -- ---- all trees
 

@@ -9,6 +9,7 @@ use native.Mathlib.Omega.{arith}
 use lib.IntN.{ℤ, pos}
 use lib.Signed.{mag}
 use lib.ListN.{length, get_or}
+use Rattle.error.specs.declared.LineFault.{LineFault}
 use Rattle.written.specs.Bytes.{Span}
 use Rattle.written.specs.Said.{Ref, node, pdf, Line, Body, braces, Tree, TreePlace, Question}
 use Rattle.written.specs.TreeText.{Parted, last, next, LineParting, LineAt, line, BodyAt, one, none, lines, TreeAt, tree}
@@ -25,28 +26,25 @@ use Rattle.tree_body.specs.Trees.{body_of, tree_of}
 use Rattle.tree_survey_lines.specs.Counts.{records_of}
 use Rattle.error.specs.Numbers.{fault_number}
 use Rattle.link_tree.specs.Linked.{link_outcome, linked_rows, rows_after}
-use Rattle.link_tree.specs.declared.Link.{Link}
-use Rattle.link_tree.specs.declared.Link.TheVariants as link
 use Rattle.link_tree.proofs.Joined.{link_done, link_refused}
 use Rattle.load_lines.specs.Words.{line_words}
 use Rattle.load_lines.proofs.Decoded.{words_length}
-use Rattle.load_tree.specs.Bodies.{Result, leaf_result, link_ends, link_result, lines_result, body_result}
-use Rattle.load_tree.specs.declared.Filled.{Filled}
-use Rattle.load_tree.specs.declared.Filled.TheVariants.{Done}
-use Rattle.load_tree.specs.declared.Filled.TheVariants as filled
+use Rattle.load_tree.specs.Bodies.{filled, TreeResult, leaf_result, link_ends, link_result, lines_result, body_result}
 use Rattle.load_tree.proofs.Laws.{lines_size}
 use Rattle.load_tree.proofs.Joined as joined
 use Rattle.load_tree.proofs.Joined.{Stand, work_says}
 use Rattle.table_rows.proofs.Stand.{length-flat}
 use Rattle.table_rows.proofs.Fours.{fours_records}
 use Rattle.shown_text.proofs.Words.{zipped_length, name_stands, words_small}
+use Rattle.load_tree.specs.declared.Filled.{Filled}
+use Rattle.std.specs.Prelude.{Err, Ok, Result}
 
 -- what `written` says of a tree that ends so, with these words
-abbrev pub Verdict : List Question → Body → Filled → List ℕ → Type 0
-Verdict qs t (Done m k) words = (rows : List Row) × Records qs t rows × (flatten rows ≡ words) × (length rows ≡ m) × LinesOf t k
-Verdict qs t (filled.Refused g k) words = Refused qs t (fault_number g) k
+abbrev pub Verdict : List Question → Body → Result Filled LineFault → List ℕ → Type 0
+Verdict qs t (Ok f) words = let record { records = m; lines = k } = f in (rows : List Row) × Records qs t rows × (flatten rows ≡ words) × (length rows ≡ m) × LinesOf t k
+Verdict qs t (Err f) words = let record { fault = g; line = k } = f in Refused qs t (fault_number g) k
 
-abbrev ResultVerdict : List Question → Body → Result → Type 0
+abbrev ResultVerdict : List Question → Body → TreeResult → Type 0
 ResultVerdict qs t r = Verdict qs t r.ends r.rows
 
 -- ---- a tree without lines to link
@@ -56,7 +54,7 @@ unfolding flatten
 leaf_verdict qs (node x) s = L.Refused.single s
 leaf_verdict qs (pdf n) s = (leaf n ∷ [], L.Records.single s, refl, refl, T.LinesOf.single s)
 
-empty_verdict : (qs : List Question) → Verdict qs (braces []) (Done 0 0) []
+empty_verdict : (qs : List Question) → Verdict qs (braces []) (filled 0 0) []
 unfolding flatten pdfs times
 empty_verdict qs = ([], L.Records.lines [] (λ r h. no_single h) L.Ascending.none (λ n. refl) Forall₂.nil refl, refl, refl, T.LinesOf.lines (λ r h. no_single h))
 
@@ -97,14 +95,14 @@ module _ (s words : List ℕ) (qs : List Question) (named : (e : ℕ) (q : Quest
         small : (i : ℕ) → mag (get_or W i (pos 0)) < 2 ^ 63
         small = words_small s words (length qs) few p
 
-        go : (r : Link) → link_outcome W N ≡ r → Verdict qs (braces ls) (link_ends N M r) (rows_after r (linked_rows W N) (4 * M))
-        go link.Done e =
+        go : (r : Result Unit LineFault) → link_outcome W N ≡ r → Verdict qs (braces ls) (link_ends N M r) (rows_after r (linked_rows W N) (4 * M))
+        go (Ok tt) e =
             let d = link_done qs W N room small ls (work_says s words qs named ls ws (stand p)) e o in
-            let z = lines_size s words (length qs) (zip_with line_of ls ws) {a = M} {b = N} (ap (λ (r : Result). r.ends) same ∙ ap (link_ends N M) e) in
-            let w : length (lines_result s words (length qs) (zip_with line_of ls ws)).rows ≡ length (linked_rows W N) = ap (λ (r : Result). length r.rows) same ∙ ap (λ (r : Link). length (rows_after r (linked_rows W N) (4 * M))) e in
+            let z = lines_size s words (length qs) (zip_with line_of ls ws) {a = M} {b = N} (ap (λ (r : TreeResult). r.ends) same ∙ ap (link_ends N M) e) in
+            let w : length (lines_result s words (length qs) (zip_with line_of ls ws)).rows ≡ length (linked_rows W N) = ap (λ (r : TreeResult). length r.rows) same ∙ ap (λ (r : Result Unit LineFault). length (rows_after r (linked_rows W N) (4 * M))) e in
             let many : length d.0 ≡ M = omega (arith, length-flat d.0 (fours_records d.1), ap length d.2, w, z.1) in
             (d.0, d.1, d.2, many, subst (LinesOf (braces ls)) (sym (zipped_length line_of p)) (T.LinesOf.lines o))
-        go (link.Refused g k) e = link_refused qs W N room small ls (work_says s words qs named ls ws (stand p)) g k e o
+        go (Err r) e = link_refused qs W N room small ls (work_says s words qs named ls ws (stand p)) r.fault r.line e o
 
   lines_verdict : {b c : ℕ} {ls : List Line} {ws : List Span} → Parted (LineParting s) (LineAt s) b c ls ws → ResultVerdict qs (braces ls) (lines_result s words (length qs) (zip_with line_of ls ws))
   unfolding zip_with

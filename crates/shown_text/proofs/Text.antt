@@ -25,19 +25,18 @@ use Rattle.tree_survey.proofs.Said.{same_length}
 use Rattle.pdf_values.specs.Folded.{begun}
 use Rattle.load_questions.specs.Words.{pattern_words, question_words}
 use Rattle.load_questions.proofs.Rows.{questions_joined, patterns_joined}
-use Rattle.load_tree.specs.Bodies.{Result, body_result}
-use Rattle.load_tree.specs.declared.Filled.{Filled}
-use Rattle.load_tree.specs.declared.Filled.TheVariants as filled
+use Rattle.load_tree.specs.Bodies.{unfilled, filled, TreeResult, body_result}
 use Rattle.load_trees.specs.Trees.{trees_end, tree_words, record_words}
-use Rattle.load_trees.specs.declared.Linked.{Linked}
-use Rattle.load_trees.specs.declared.Linked.TheVariants.{Done}
-use Rattle.load_trees.specs.declared.Linked.TheVariants as linked
 use Rattle.load_text.specs.Text.{words_at, end_at, trees_stored, records_stored}
 use Rattle.shown_text.specs.Refusals.{RefusedAs, refused}
 use Rattle.shown_text.proofs.Words.{parted_nth, question_named, questions_few}
 use Rattle.shown_text.proofs.OneTree.{Verdict, tree_verdict}
 use Rattle.written.proofs.ModelOnce.{model_rows_once, model_refused_once, model_never_both}
 use Rattle.shown_text.proofs.AllTrees.{ModelVerdict, trees_verdict}
+use Rattle.load_tree.specs.declared.Filled.{Filled}
+use Rattle.error.specs.declared.LineFault.{LineFault}
+use Rattle.load_trees.specs.declared.TreeFault.{TreeFault}
+use Rattle.std.specs.Prelude.{Err, Ok, Result, ⊤}
 
 -- ---- what a text that says something has
 
@@ -66,7 +65,7 @@ says_begins {s} {i} says = go (questions_at s i).ending refl (ap (λ (r : survey
         let z : broken_at k ≡ done_at (length s) = sym (ap (λ (e : Ending). (text_read s (questions_at s i).items e).ending) q) ∙ h in
         let u : ◌≡◌ {A = ℕ} 0 1 = cc in absurd (omega arith)
 
-refused_as : {o : Linked} {c d a b k m : ℕ} → RefusedAs o c a k → c ≡ d → a ≡ b → k ≡ m → RefusedAs o d b m
+refused_as : {o : Result ⊤ TreeFault} {c d a b k m : ℕ} → RefusedAs o c a k → c ≡ d → a ≡ b → k ≡ m → RefusedAs o d b m
 refused_as {o} {c} {d} {a} {b} {k} {m} r p q e = subst (λ (j : ℕ). RefusedAs o d b j) e (subst (λ (j : ℕ). RefusedAs o d j k) q (subst (λ (j : ℕ). RefusedAs o j a k) p r))
 
 module _ {s : List ℕ} {i f : ℕ} {t : Text} {l : Layout} (says : Says s i t l) (begins : (questions_at s i).ending ≡ done_at f) (short : length s < 2 ^ 63) where
@@ -92,7 +91,7 @@ module _ {s : List ℕ} {i f : ℕ} {t : Text} {l : Layout} (says : Says s i t l
   -- ---- 1. one tree
 
   -- what is done with tree a of the text
-  abbrev pub result_of : said.Tree → said.TreePlace → Result
+  abbrev pub result_of : said.Tree → said.TreePlace → TreeResult
   result_of x y = body_result s (words_at s i) (length (questions_at s i).items) (tree_of x y).body
 
   module _ {a : ℕ} {x : said.Tree} {y : said.TreePlace} (h : Nth t.trees a x) (g : Nth l.trees a y) where
@@ -105,16 +104,16 @@ module _ {s : List ℕ} {i f : ℕ} {t : Text} {l : Layout} (says : Says s i t l
         subst (λ (ws : List QuestionPlace). (let r = body_result s (question_words 0 ws) (length ws) (tree_of x y).body in Verdict t.questions x.body r.ends r.rows)) (sym questions_are)
         (subst (λ (k : ℕ). (let r = body_result s (question_words 0 l.questions) k (tree_of x y).body in Verdict t.questions x.body r.ends r.rows)) (sym p.asked) v)
 
-    as_ended : {e : Filled} → (result_of x y).ends ≡ e → Verdict t.questions x.body e (result_of x y).rows
-    as_ended e = subst (λ (r : Filled). Verdict t.questions x.body r (result_of x y).rows) e tree_said
+    as_ended : {e : Result Filled LineFault} → (result_of x y).ends ≡ e → Verdict t.questions x.body e (result_of x y).rows
+    as_ended e = subst (λ (r : Result Filled LineFault). Verdict t.questions x.body r (result_of x y).rows) e tree_said
 
     -- a tree that has its records has those of `written`
-    pub tree_done : {m k : ℕ} → (result_of x y).ends ≡ filled.Done m k
+    pub tree_done : {m k : ℕ} → (result_of x y).ends ≡ filled m k
         → (rows : List Row) × Records t.questions x.body rows × (flatten rows ≡ (result_of x y).rows) × (length rows ≡ m) × LinesOf x.body k
     tree_done e = as_ended e
 
     -- 21: an id that no line bears; 22: a question that no QS line has; 23: a node as the one reference
-    pub tree_refused : {g : LinkFault} {k : ℕ} → (result_of x y).ends ≡ filled.Refused g k → Refused t.questions x.body (fault_number g) k
+    pub tree_refused : {g : LinkFault} {k : ℕ} → (result_of x y).ends ≡ unfilled g k → Refused t.questions x.body (fault_number g) k
     tree_refused e = as_ended e
 
   -- ---- all trees
@@ -131,34 +130,34 @@ module _ {s : List ℕ} {i f : ℕ} {t : Text} {l : Layout} (says : Says s i t l
         As : List QuestionPlace → ℕ → List Tree → Type 0
         As ws n zs = ModelVerdict t.questions t.trees 0 0 (trees_end s (question_words 0 ws) n 0 zs) (tree_words s (question_words 0 ws) n 0 zs) (record_words s (question_words 0 ws) n zs)
 
-    all_ended : {e : Linked} → end_at s i f ≡ e → ModelVerdict t.questions t.trees 0 0 e (trees_stored s i f) (records_stored s i f)
-    all_ended e = subst (λ (o : Linked). ModelVerdict t.questions t.trees 0 0 o (trees_stored s i f) (records_stored s i f)) e text_said
+    all_ended : {e : Result ⊤ TreeFault} → end_at s i f ≡ e → ModelVerdict t.questions t.trees 0 0 e (trees_stored s i f) (records_stored s i f)
+    all_ended e = subst (λ (o : Result ⊤ TreeFault). ModelVerdict t.questions t.trees 0 0 o (trees_stored s i f) (records_stored s i f)) e text_said
 
     -- 2. what is stored is what the text says of the model's rows
-    pub text_done : end_at s i f ≡ Done
+    pub text_done : end_at s i f ≡ Ok tt
         → (trees : List Row) × (records : List Row) × TreeRows t.questions 0 t.trees trees records × (trees_stored s i f ≡ flatten (map begun trees)) × (records_stored s i f ≡ flatten records)
     text_done e = let v = all_ended e in (v.0, v.1, v.2, sym v.3, sym v.4)
 
     -- 3. where linking is refused, so is the model, with that number, tree and line
-    pub text_refused : {e : Linked} {c a k : ℕ} → end_at s i f ≡ e → RefusedAs e c a k → ModelRefused t.questions t.trees c a k
+    pub text_refused : {e : Result ⊤ TreeFault} {c a k : ℕ} → end_at s i f ≡ e → RefusedAs e c a k → ModelRefused t.questions t.trees c a k
     text_refused q r = go r (all_ended q)
       where
         at : {c a k : ℕ} → (j : ℕ) × (a ≡ 0 + j) × ModelRefused t.questions t.trees c j k → ModelRefused t.questions t.trees c a k
         at {c} {a} {k} (j, e, m) = let z : j ≡ a = omega (arith, e) in subst (λ (n : ℕ). ModelRefused t.questions t.trees c n k) z m
 
-        go : {e : Linked} {c a k : ℕ} → RefusedAs e c a k → ModelVerdict t.questions t.trees 0 0 e (trees_stored s i f) (records_stored s i f) → ModelRefused t.questions t.trees c a k
+        go : {e : Result ⊤ TreeFault} {c a k : ℕ} → RefusedAs e c a k → ModelVerdict t.questions t.trees 0 0 e (trees_stored s i f) (records_stored s i f) → ModelRefused t.questions t.trees c a k
         go refused v = at v
 
     -- ---- 4. conversely
 
     -- a linking is done or refused
-    done_or_refused : (o : Linked) → end_at s i f ≡ o → {A : Type 0} → (end_at s i f ≡ Done → A) → ((c a k : ℕ) → RefusedAs o c a k → ModelRefused t.questions t.trees c a k → A) → A
-    done_or_refused Done e d r = d e
-    done_or_refused (linked.Refused g a k) e d r = r (fault_number g) a k refused (text_refused e refused)
+    done_or_refused : (o : Result ⊤ TreeFault) → end_at s i f ≡ o → {A : Type 0} → (end_at s i f ≡ Ok tt → A) → ((c a k : ℕ) → RefusedAs o c a k → ModelRefused t.questions t.trees c a k → A) → A
+    done_or_refused (Ok _) e d r = d e
+    done_or_refused (Err l) e d r = let record { fault = g; tree = a; line = k } = l in r (fault_number g) a k refused (text_refused e refused)
 
     -- a model that has rows is linked, and its rows are stored
     pub rows_stored : {trees records : List Row} → TreeRows t.questions 0 t.trees trees records
-        → (end_at s i f ≡ Done) × (trees_stored s i f ≡ flatten (map begun trees)) × (records_stored s i f ≡ flatten records)
+        → (end_at s i f ≡ (Ok tt)) × (trees_stored s i f ≡ flatten (map begun trees)) × (records_stored s i f ≡ flatten records)
     rows_stored rs = done_or_refused (end_at s i f) refl
         (λ e.
         let d = text_done e in

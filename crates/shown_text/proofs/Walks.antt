@@ -8,6 +8,9 @@ use native.Mathlib.Omega.{arith}
 use lib.Dec.{ltb}
 use lib.ListN.{length, get_or, take}
 use lib.Seq.{take_all, drop_at}
+use Rattle.error.specs.declared.Refusal.{Refusal}
+use Rattle.walk.specs.declared.Walked.{Walked}
+use Rattle.std.specs.declared.result.Result.{Result}
 use Rattle.written.specs.Said as said
 use Rattle.written.specs.Blocks as block
 use Rattle.written.specs.Linking.{Nth, here, there, Row, Records, Linked}
@@ -22,7 +25,6 @@ use Rattle.table_rows.proofs.Stand.{nth_at, cut_nth, length-flat, flat-stands, t
 use Rattle.table_rows.proofs.Fours.{fours_model}
 use Rattle.walk.specs.Walking.{walk_of}
 use Rattle.walk.specs.Answer.{answer_of, ending_answer}
-use Rattle.walk.specs.declared.Walked.{Walked}
 use Rattle.walk.proofs.Demand.{walk_demand₃}
 use Rattle.shown_text.proofs.Tables.{Front}
 
@@ -111,7 +113,7 @@ module _ {qs : List said.Question} {ts : List said.Tree} {trees records : List R
       (g.rows, has_tree bs many (trees_stand T (folded trees bs) wide (front_cut T (folded trees bs) wide front)) (flat-stands R 0 records fours (front_cut R records fours front-records)) g, records_linked g.linked)
 
   -- (i) and (ii) how the written walk ends, so the loaded one ends; and the written one ends in one way
-  pub loaded_walks : {answer : ℕ → Bool} {bytes : List ℕ} → Answers qs answer bytes → (m : ℕ) {r : Walked} → r ≡ walk_of T R a bytes m
+  pub loaded_walks : {answer : ℕ → Bool} {bytes : List ℕ} → Answers qs answer bytes → (m : ℕ) {r : Result Walked Refusal} → r ≡ walk_of T R a bytes m
       → (e : Ending) × Written qs answer x.body m e × (answer_of r ≡ ending_answer e) × ((g : Ending) → Written qs answer x.body m g → g ≡ e)
   loaded_walks given m q = let k = loaded_linked in walk_demand₃ given k.1 k.2 m q
 

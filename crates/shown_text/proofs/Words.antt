@@ -11,6 +11,8 @@ use lib.IntN.{ℤ, pos, neg_ℤ}
 use lib.Signed.{mag}
 use lib.ListN.{length, get_or, drop_of_length-le}
 use lib.Seq.{sets}
+use Rattle.std.specs.declared.option.Option.{Option}
+use Rattle.std.specs.Prelude.{Some, None}
 use Rattle.written.specs.Bytes.{in_name, between, same, Span}
 use Rattle.written.specs.Said as said
 use Rattle.written.specs.Said.{Ref, Question, QuestionPlace}
@@ -24,8 +26,6 @@ use Rattle.text_spaces.proofs.Joined.{no_name, run_inside}
 use Rattle.link_order.specs.Keys.{name_at}
 use Rattle.text_parts.specs.Parts.{part_inside}
 use Rattle.link_search.specs.Found.{last_below}
-use Rattle.link_search.specs.declared.Found.{Found}
-use Rattle.link_search.specs.declared.Found.TheVariants.{At, Nothing}
 use Rattle.tree_reference.specs.References.{index_of}
 use Rattle.tree_reference.specs.declared.TreeIndex.{TreeIndex}
 use Rattle.tree_reference.specs.declared.TreeIndex.TheVariants.{Node, Pdf}
@@ -119,9 +119,9 @@ module _ (s : List ℕ) where
   unfolding asked_at
   asked_small words n start len h = go (last_below (λ e. same (name_at s words e) (part_inside s start len)) n) refl
     where
-      go : (f : Found) → last_below (λ e. same (name_at s words e) (part_inside s start len)) n ≡ f → mag (asked_of f) < 2 ^ 63
-      go (At k) e = let f = last_found (λ e. same (name_at s words e) (part_inside s start len)) n k e in omega (arith, f.0)
-      go Nothing e = omega arith
+      go : (f : Option ℕ) → last_below (λ e. same (name_at s words e) (part_inside s start len)) n ≡ f → mag (asked_of f) < 2 ^ 63
+      go (Some k) e = let f = last_found (λ e. same (name_at s words e) (part_inside s start len)) n k e in omega (arith, f.0)
+      go None e = omega arith
 
   -- ---- the words of lines
 

@@ -28,7 +28,6 @@ use Rattle.pdf_blocks.specs.Values.{word_at}
 use Rattle.load_plan.specs.Plans.{data_of}
 use Rattle.load_voice.specs.Voice.{models_of}
 use Rattle.trail_voice.specs.Voice.{voice_rows, voice_trees}
-use Rattle.trail_voice.specs.declared.VoiceTrees.{VoiceTrees}
 use Rattle.trail_voice.proofs.Laws.{counted}
 use Rattle.face_open.specs.Answers.{open_said_by, open_said, open_words_by, open_words}
 use Rattle.face_record.specs.Answers.{said}
@@ -46,6 +45,8 @@ use Rattle.shown_voice.proofs.Order.{models_so}
 use Rattle.shown_trail.proofs.Ends.{below_front, summed_so, so_summed, stand_ends, ends_stand}
 use Rattle.shown_trail.proofs.Rows.{Counts, counts, all_are, the_trailer}
 use Rattle.shown_trail.proofs.Rows as rows
+use Rattle.error.specs.declared.Refusal.{Refusal}
+use Rattle.std.specs.Prelude.{Result}
 
 -- where the file opens, the words have room for its record
 abbrev pub Roomy : List ℕ → List ℕ → Type 0
@@ -90,7 +91,7 @@ module _ (s : List ℕ) (bytes : Bytes s) (h : Header) (o : Says s h) (w : List 
   unfolding written_of written_left
   writes_opened t = go (voice_trees s (header_record h) (models_of s (header_record h)) 0) refl the_counts
     where
-      go : (v : VoiceTrees) → v ≡ voice_trees s (header_record h) (models_of s (header_record h)) 0 → Counts s h o the_models.0 v
+      go : (v : Result ℕ Refusal) → v ≡ voice_trees s (header_record h) (models_of s (header_record h)) 0 → Counts s h o the_models.0 v
           → WritesSaid s w t (written_by (length s) (length t) v) (left_by s (header_record h) t v)
       go v q (rows.none y) = told roomy (Writes.opened o the_models.1 (WritesOf.no_text y))
       go v q (rows.rows {n = n} y) = room (has_room (12 * n + 12) (length t) (length s)) refl
@@ -116,7 +117,7 @@ module _ (s : List ℕ) (bytes : Bytes s) (h : Header) (o : Says s h) (w : List 
       ap length (data_is s h)
       ∙ length-take-le h.datum.len (drop h.datum.start s) (omega (arith, data_ends o, length-drop h.datum.start s))
 
-  finds_by : 12 ≤ h.datum.len → summed_of s ≡ true → (v : VoiceTrees) → v ≡ voice_trees s (header_record h) (models_of s (header_record h)) 0 → Counts s h o the_models.0 v
+  finds_by : 12 ≤ h.datum.len → summed_of s ≡ true → (v : Result ℕ Refusal) → v ≡ voice_trees s (header_record h) (models_of s (header_record h)) 0 → Counts s h o the_models.0 v
       → FindsSaid s w (found_by s (header_record h) v)
   unfolding rows_found rows_stand
   finds_by l e v q (rows.none y) = told roomy (Finds.opened o the_models.1 (FindsOf.no_text l (summed_so s bytes.below (omega (arith, data_ends o)) e) y)) refl
@@ -158,7 +159,7 @@ module _ (s : List ℕ) (bytes : Bytes s) (h : Header) (o : Says s h) (w : List 
       sum l false e = tell (FindsOf.sum l (λ p. let u : ◌≡◌ {A = Bool} true false = sym (so_summed s bytes.below p) ∙ e in let x : ◌≡◌ {A = ℕ} 0 1 = cc in omega arith)) refl
       sum l true e = go (voice_trees s (header_record h) (models_of s (header_record h)) 0) refl the_counts
         where
-          go : (v : VoiceTrees) → v ≡ voice_trees s (header_record h) (models_of s (header_record h)) 0 → Counts s h o the_models.0 v → FindsSaid s w (found_by s (header_record h) v)
+          go : (v : Result ℕ Refusal) → v ≡ voice_trees s (header_record h) (models_of s (header_record h)) 0 → Counts s h o the_models.0 v → FindsSaid s w (found_by s (header_record h) v)
           go v q c = finds_by l e v q c
 
       start : (b : Bool) → ltb (length (data_of s (header_record h))) 12 ≡ b

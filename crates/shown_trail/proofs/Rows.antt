@@ -21,19 +21,17 @@ use Rattle.tree_body.specs.Trees.{tree_of, trees_at}
 use Rattle.tree_survey.specs.Survey.{Text, text_read, text_at}
 use Rattle.tree_survey.proofs.Joined.{says_read}
 use Rattle.load_plan.specs.Plans.{data_of}
-use Rattle.load_voice.specs.Voice.{models_of, voice_text}
-use Rattle.load_voice.specs.declared.VoiceText.{VoiceText}
-use Rattle.load_voice.specs.declared.VoiceText.TheVariants as text
+use Rattle.load_voice.specs.Voice.{text_as, models_of, voice_text}
 use Rattle.trail_rows.specs.Rows.{rows_of}
 use Rattle.trail_rows.proofs.Joined.{text_rows_lem}
 use Rattle.trail_voice.specs.Voice.{which_number, text_rows, model_rows, voice_rows, trees_on, voice_trees}
-use Rattle.trail_voice.specs.declared.VoiceTrees.{VoiceTrees}
-use Rattle.trail_voice.specs.declared.VoiceTrees.TheVariants.{Trees, Refused}
 use Rattle.trail_voice.proofs.Laws.{counted}
 use Rattle.face_trail.specs.Answers.{all_rows, trailer_bytes}
 use Rattle.shown_models.proofs.Chosen.{data_is, which_of}
 use Rattle.shown_voice.proofs.Texts.{Texted, voice_text_lem}
 use Rattle.shown_voice.proofs.Texts as texted
+use Rattle.load_voice.specs.declared.VoiceText.{VoiceText}
+use Rattle.std.specs.Prelude.{Err, Ok, Result}
 
 pub number_is : (m : Model) → which_number (which_of m) ≡ model_number m
 number_is models.duration = refl
@@ -48,15 +46,15 @@ trees_are s {i} says begins = ap (λ (r : Text). r.trees) (sym (ap (text_read s 
 module _ (s : List ℕ) (h : record_of.Header) (o : record_of.Says s h) where
   -- ---- one model
 
-  pub data Modelled (m : Model) : VoiceText → List ℕ → Type 0 where
-    rows : {a e f n : ℕ} {t : said.Text} {l : said.Layout} {ns : List ℕ} → TextOf s h m t l → TrailerRows (model_number m) t.trees l.trees ns → Modelled m (text.Read a e f n) ns
-    none : {z : Refusal} {ns : List ℕ} → NoTextOf s h m (number_of z) (place_of z) → Modelled m (text.Refused z) ns
+  pub data Modelled (m : Model) : Result VoiceText Refusal → List ℕ → Type 0 where
+    rows : {a e f n : ℕ} {t : said.Text} {l : said.Layout} {ns : List ℕ} → TextOf s h m t l → TrailerRows (model_number m) t.trees l.trees ns → Modelled m (text_as a e f n) ns
+    none : {z : Refusal} {ns : List ℕ} → NoTextOf s h m (number_of z) (place_of z) → Modelled m (Err z) ns
 
   modelled : (m : Model) → Modelled m (voice_text s (header_record h) (which_of m)) (model_rows s (header_record h) (which_of m))
   unfolding model_rows
   modelled m = go (voice_text s (header_record h) (which_of m)) (voice_text_lem s h m o)
     where
-      go : (v : VoiceText) → Texted s h m v → Modelled m v (text_rows (data_of s (header_record h)) (which_number (which_of m)) v)
+      go : (v : Result VoiceText Refusal) → Texted s h m v → Modelled m v (text_rows (data_of s (header_record h)) (which_number (which_of m)) v)
       go v (texted.read {a} {e} {f} {n} {t} {l} x b c q k) =
           let D : List ℕ = models.data_of s h in
           let S : List ℕ = take (x.tree.to + 1) D in
@@ -69,9 +67,9 @@ module _ (s : List ℕ) (h : record_of.Header) (o : record_of.Says s h) where
 
   -- ---- all models
 
-  pub data Counts (ms : List Model) : VoiceTrees → Type 0 where
-    rows : {n : ℕ} → VoiceRows s h ms (voice_rows s (header_record h) (map which_of ms)) → Counts ms (Trees n)
-    none : {z : Refusal} → NoVoiceRows s h ms (number_of z) (place_of z) → Counts ms (Refused z)
+  pub data Counts (ms : List Model) : Result ℕ Refusal → Type 0 where
+    rows : {n : ℕ} → VoiceRows s h ms (voice_rows s (header_record h) (map which_of ms)) → Counts ms (Ok n)
+    none : {z : Refusal} → NoVoiceRows s h ms (number_of z) (place_of z) → Counts ms (Err z)
 
   pub counts : (ms : List Model) (n : ℕ) → Counts ms (voice_trees s (header_record h) (map which_of ms) n)
   unfolding voice_trees voice_rows
@@ -79,11 +77,11 @@ module _ (s : List ℕ) (h : record_of.Header) (o : record_of.Says s h) where
   counts (m ∷ ms) n = go (voice_text s (header_record h) (which_of m)) (modelled m) (λ k. counts ms k)
     where
       join : {t : said.Text} {l : said.Layout} → TextOf s h m t l → TrailerRows (model_number m) t.trees l.trees (model_rows s (header_record h) (which_of m))
-          → (v : VoiceTrees) → Counts ms v → Counts (m ∷ ms) v
+          → (v : Result ℕ Refusal) → Counts ms v → Counts (m ∷ ms) v
       join x r v (rows y) = rows (VoiceRows.next x r y)
       join x r v (none y) = none (NoVoiceRows.later x y)
 
-      go : (v : VoiceText) → Modelled m v (model_rows s (header_record h) (which_of m)) → ((k : ℕ) → Counts ms (voice_trees s (header_record h) (map which_of ms) k))
+      go : (v : Result VoiceText Refusal) → Modelled m v (model_rows s (header_record h) (which_of m)) → ((k : ℕ) → Counts ms (voice_trees s (header_record h) (map which_of ms) k))
           → Counts (m ∷ ms) (trees_on (voice_trees s (header_record h) (map which_of ms)) n v)
       go v (rows {n = k} x r) rest = join x r (voice_trees s (header_record h) (map which_of ms) (n + k)) (rest (n + k))
       go v (none x) rest = none (NoVoiceRows.here x)
@@ -94,7 +92,7 @@ module _ (s : List ℕ) (h : record_of.Header) (o : record_of.Says s h) where
     pub all_are : all_rows s (header_record h) ≡ voice_rows s (header_record h) (map which_of ms)
     all_are = ap (voice_rows s (header_record h)) is
 
-    module _ {n : ℕ} (q : Trees n ≡ voice_trees s (header_record h) (models_of s (header_record h)) 0) (v : VoiceRows s h ms (all_rows s (header_record h))) where
+    module _ {n : ℕ} (q : Ok n ≡ voice_trees s (header_record h) (models_of s (header_record h)) 0) (v : VoiceRows s h ms (all_rows s (header_record h))) where
       pub the_trailer : Trailer s (all_rows s (header_record h)) (trailer_bytes s (header_record h) n)
       unfolding trailer_bytes
       the_trailer =

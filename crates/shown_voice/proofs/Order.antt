@@ -6,6 +6,7 @@ use Prim.Native.Nat.{ℕ, zero, suc, ◌+◌, ◌*◌, ◌≤◌, ◌<◌}
 use native.Mathlib.Omega.{arith}
 use borrow.Author.Tests.{lt-ltb, le-ltb}
 use lib.ListN.{length}
+use Rattle.std.specs.declared.option.Option.{Option}
 use Rattle.written.specs.Bytes as written
 use Rattle.written.specs.Record as record_of
 use Rattle.written.specs.Linking.{Nth, here, there}
@@ -16,8 +17,6 @@ use Rattle.head_record.specs.declared.StreamData.{StreamData}
 use Rattle.head_record_fits.specs.Fits.{no_stream_data}
 use Rattle.head_record_fits.proofs.Fits.{fits}
 use Rattle.head_record_fits.proofs.Said.{says_fits}
-use Rattle.link_search.specs.declared.Found.{Found}
-use Rattle.link_search.specs.declared.Found.TheVariants.{At, Nothing}
 use Rattle.load_choose.specs.Chosen.{stream_named, used_by, uses_gv}
 use Rattle.load_choose.specs.Entries as code
 use Rattle.load_choose.specs.Entries.{type_name}
@@ -25,8 +24,8 @@ use Rattle.load_choose.specs.declared.Which.{Which}
 use Rattle.load_choose.specs.declared.Which.TheVariants.{Duration, Stream, Gv}
 use Rattle.load_choose.proofs.Joined.{found_last, found_none}
 use Rattle.load_voice.specs.Voice.{next_stream, next_model, models_after, models_of}
-use Rattle.load_voice.specs.declared.NextModel.TheVariants as next
 use Rattle.shown_models.proofs.Chosen.{record_arrays, which_of, named, unnamed, streams, types, stream_name_lem, type_is}
+use Rattle.std.specs.Prelude.{None, Some}
 
 -- the stream of a name uses a GV, or doesn't; a name without one uses none
 data Uses (s : List ℕ) (h : record_of.Header) (x : written.Span) : Bool → Type 0 where
@@ -45,12 +44,12 @@ module _ (s : List ℕ) (h : record_of.Header) (r : record_of.Says s h) where
       ds : (header_record h).stream_count ≤ length (header_record h).streams
       ds = omega (arith, (fits (length s) (header_record h) (says_fits s h r)).streams, (record_arrays h).streams)
 
-      go : (y : Found) → stream_named s (header_record h).streams (header_record h).stream_count (type_name s (header_record h) i) ≡ y → Uses s h x (used_by (header_record h).streams y)
-      go (At k) e =
+      go : (y : Option ℕ) → stream_named s (header_record h).streams (header_record h).stream_count (type_name s (header_record h) i) ≡ y → Uses s h x (used_by (header_record h).streams y)
+      go (Some k) e =
           let f = found_last code.stream_name no_stream_data s (type_name s (header_record h) i) (header_record h).streams (header_record h).stream_count ds k e in
           let a = named stream_record code.stream_name stream_name (stream_name_lem s h r) s (models.bytes_of s x) (rw (streams s h r, type_is s h r i n) at f) in
           subst (Uses s h x) (sym (ap (λ (d : StreamData). d.use_gv) a.2 ∙ use_so a.0)) (by a.1)
-      go Nothing e =
+      go None e =
           let f = found_none {A = StreamData} code.stream_name no_stream_data s (type_name s (header_record h) i) (header_record h).streams (header_record h).stream_count ds e in
           none (unnamed stream_record code.stream_name stream_name (stream_name_lem s h r) s (models.bytes_of s x) (rw (streams s h r, type_is s h r i n) at f))
 
@@ -64,7 +63,7 @@ module _ (s : List ℕ) (h : record_of.Header) (r : record_of.Says s h) where
   abbrev From : ℕ → List written.Span → Type 0
   From i xs = (k : ℕ) (x : written.Span) → Nth xs k x → Nth h.global.stream_type (i + k) x
 
-  stops : (n : ℕ) → models_after n s (header_record h) next.End ≡ []
+  stops : (n : ℕ) → models_after n s (header_record h) None ≡ []
   unfolding models_after
   stops zero = refl
   stops (suc n) = refl
@@ -73,11 +72,11 @@ module _ (s : List ℕ) (h : record_of.Header) (r : record_of.Says s h) where
   unfolding next_stream
   at_end n i l = rw (le-ltb i (header_record h).global.stream_type_count (omega (arith, types s h r))) (stops n)
 
-  a_stream : (i : ℕ) → i < length h.global.stream_type → next_stream (header_record h) i ≡ next.Model (Stream i)
+  a_stream : (i : ℕ) → i < length h.global.stream_type → next_stream (header_record h) i ≡ Some (Stream i)
   unfolding next_stream
   a_stream i l = rw (lt-ltb i (header_record h).global.stream_type_count (omega (arith, types s h r)))
 
-  first : (n : ℕ) (w : Which) → models_after (suc n) s (header_record h) (next.Model w) ≡ w ∷ models_after n s (header_record h) (next_model s (header_record h) w)
+  first : (n : ℕ) (w : Which) → models_after (suc n) s (header_record h) (Some w) ≡ w ∷ models_after n s (header_record h) (next_model s (header_record h) w)
   unfolding models_after
   first n w = refl
 
@@ -90,14 +89,14 @@ module _ (s : List ℕ) (h : record_of.Header) (r : record_of.Says s h) where
     with_gv e =
         ap (models_after (suc (suc n)) s (header_record h)) (a_stream i l)
         ∙ first (suc n) (Stream i)
-        ∙ ap (λ (b : Bool). Stream i ∷ models_after (suc n) s (header_record h) (cond b (next.Model (Gv i)) (next_stream (header_record h) (i + 1)))) e
+        ∙ ap (λ (b : Bool). Stream i ∷ models_after (suc n) s (header_record h) (cond b (Some (Gv i)) (next_stream (header_record h) (i + 1)))) e
         ∙ ap (Stream i ∷◌) (first n (Gv i))
 
   without_gv : (i n : ℕ) → i < length h.global.stream_type → uses_gv s (header_record h) i ≡ false → models_after (suc n) s (header_record h) (next_stream (header_record h) i) ≡ Stream i ∷ models_after n s (header_record h) (next_stream (header_record h) (i + 1))
   without_gv i n l e =
       ap (models_after (suc n) s (header_record h)) (a_stream i l)
       ∙ first n (Stream i)
-      ∙ ap (λ (b : Bool). Stream i ∷ models_after n s (header_record h) (cond b (next.Model (Gv i)) (next_stream (header_record h) (i + 1)))) e
+      ∙ ap (λ (b : Bool). Stream i ∷ models_after n s (header_record h) (cond b (Some (Gv i)) (next_stream (header_record h) (i + 1)))) e
 
   behind : (i : ℕ) (xs : List written.Span) → i + length xs ≡ length h.global.stream_type → From i xs → Behind i xs
   behind i [] e f = record { list = []; in_order = StreamModels.end; followed = λ n l. at_end n i (omega arith) }

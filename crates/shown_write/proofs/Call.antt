@@ -19,13 +19,12 @@ use Rattle.write_rows.proofs.Outside.{none_outside, some_outside}
 use Rattle.write_bytes.specs.Tests.{bytes_fit}
 use Rattle.write_bytes.proofs.Odd.{none_odd, some_odd}
 use Rattle.write_links.specs.Tests.{links_fit}
-use Rattle.write_tables.specs.declared.Judged.{Judged}
-use Rattle.write_tables.specs.declared.Judged.TheVariants as judged
-use Rattle.write_tables.specs.declared.Answer.{Answer}
-use Rattle.write_tables.specs.declared.Answer.TheVariants as answer
 use Rattle.write_tables.specs.Answers.{judged_by, judged_of, bytes_of, measured_by, measure_of, answer_of, buffer_of, Answered, number_of, length_of}
 use Rattle.shown_write.proofs.Sound.{passed_written}
 use Rattle.shown_write.proofs.BackTrees.{read_back_passes}
+use Rattle.write_tables.specs.declared.WriteFault.{WriteFault}
+use Rattle.write_tables.specs.declared.WriteFault.TheVariants as fault
+use Rattle.std.specs.Prelude.{Err, Ok, Result, ⊤}
 
 module _ (d Q P T R : List ℕ) where
   -- the definitions, of the rows of lent tables
@@ -43,11 +42,11 @@ module _ (d Q P T R : List ℕ) where
 
   -- ---- each way of judging, in the definition's words
 
-  data Verdict : Judged → Type 0 where
-    fits : Writes (bytes_of d Q P T R) → Verdict judged.Fits
-    outside : Refuses 24 → Verdict judged.Outside
-    odd_byte : Refuses 22 → Verdict judged.OddByte
-    unread : Refuses 17 → Verdict judged.Unread
+  data Verdict : Result ⊤ WriteFault → Type 0 where
+    fits : Writes (bytes_of d Q P T R) → Verdict (Ok tt)
+    outside : Refuses 24 → Verdict (Err fault.Outside)
+    odd_byte : Refuses 22 → Verdict (Err fault.OddByte)
+    unread : Refuses 17 → Verdict (Err fault.Unread)
 
   module _ (short : record_rows R ≤ 2 ^ 63) where
     verdict : Verdict (judged_of d Q P T R)
@@ -68,7 +67,7 @@ module _ (d Q P T R : List ℕ) where
     unfolding measure_of
     measure_sound = go verdict
       where
-        go : {j : Judged} → Verdict j → Measures (number_of (measured_by (bytes_of d Q P T R) j)) (length_of (measured_by (bytes_of d Q P T R) j))
+        go : {j : Result ⊤ WriteFault} → Verdict j → Measures (number_of (measured_by (bytes_of d Q P T R) j)) (length_of (measured_by (bytes_of d Q P T R) j))
         go (Verdict.fits w) = Measured.done w refl
         go (Verdict.outside u) = Measured.refused u
         go (Verdict.odd_byte u) = Measured.refused u
@@ -80,11 +79,11 @@ module _ (d Q P T R : List ℕ) where
     -- ---- into a buffer
 
     module _ (b : List ℕ) where
-      sound : {j : Judged} → Verdict j → WritesInto b (number_of (answer_of (length b) (bytes_of d Q P T R) j)) (length_of (answer_of (length b) (bytes_of d Q P T R) j)) (buffer_of b (bytes_of d Q P T R) j)
+      sound : {j : Result ⊤ WriteFault} → Verdict j → WritesInto b (number_of (answer_of (length b) (bytes_of d Q P T R) j)) (length_of (answer_of (length b) (bytes_of d Q P T R) j)) (buffer_of b (bytes_of d Q P T R) j)
       sound (Verdict.fits w) = go (leb (length (bytes_of d Q P T R)) (length b)) refl
         where
           go : (c : Bool) → leb (length (bytes_of d Q P T R)) (length b) ≡ c
-              → WritesInto b (number_of (cond c (answer.Done (length (bytes_of d Q P T R))) answer.Room)) (length_of (cond c (answer.Done (length (bytes_of d Q P T R))) answer.Room)) (cond c (sets b 0 (bytes_of d Q P T R)) b)
+              → WritesInto b (number_of (cond c (Ok (length (bytes_of d Q P T R))) (Err fault.Room))) (length_of (cond c (Ok (length (bytes_of d Q P T R))) (Err fault.Room))) (cond c (sets b 0 (bytes_of d Q P T R)) b)
           go true e = let l = leb-true (length (bytes_of d Q P T R)) (length b) e in Wrote.done w l refl (sets-front b (bytes_of d Q P T R) l)
           go false e = Wrote.refused (NotWritten.no_room w (omega (arith, leb-false (length (bytes_of d Q P T R)) (length b) e))) refl
       sound (Verdict.outside u) = Wrote.refused (NotWritten.unwritten u) refl
@@ -92,13 +91,13 @@ module _ (d Q P T R : List ℕ) where
       sound (Verdict.unread u) = Wrote.refused (NotWritten.unwritten u) refl
 
       -- whatever the contract allows is what the definition says
-      pub write_sound : {r : Answer} {e : List ℕ} → Answered b d Q P T R r e → WritesInto b (number_of r) (length_of r) e
+      pub write_sound : {r : Result ℕ WriteFault} {e : List ℕ} → Answered b d Q P T R r e → WritesInto b (number_of r) (length_of r) e
       write_sound {r} {e} a =
           subst (λ (l : List ℕ). WritesInto b (number_of r) (length_of r) l) (sym a.buffer_is)
-          (subst (λ (x : Answer). WritesInto b (number_of x) (length_of x) (buffer_of b (bytes_of d Q P T R) (judged_of d Q P T R))) (sym a.answer_is) (sound verdict))
+          (subst (λ (x : Result ℕ WriteFault). WritesInto b (number_of x) (length_of x) (buffer_of b (bytes_of d Q P T R) (judged_of d Q P T R))) (sym a.answer_is) (sound verdict))
 
       -- and the other way round
-      pub write_complete : {r : Answer} {e f : List ℕ} {n k : ℕ} → Answered b d Q P T R r e → WritesInto b n k f → (number_of r ≡ n) × (length_of r ≡ k) × (e ≡ f)
+      pub write_complete : {r : Result ℕ WriteFault} {e f : List ℕ} {n k : ℕ} → Answered b d Q P T R r e → WritesInto b n k f → (number_of r ≡ n) × (length_of r ≡ k) × (e ≡ f)
       write_complete a x = wrote_once (write_sound a) x
 
     -- rows have a text that fits into so much room, or are refused with a number
@@ -110,12 +109,12 @@ module _ (d Q P T R : List ℕ) where
         fit w true e = inl (bytes_of d Q P T R, w, leb-true (length (bytes_of d Q P T R)) room e)
         fit w false e = inr (20, NotWritten.no_room w (omega (arith, leb-false (length (bytes_of d Q P T R)) room e)))
 
-        go : {j : Judged} → Verdict j → ((w : List ℕ) × Writes w × (length w ≤ room)) ⊎ ((n : ℕ) × NotWritten d (question_table Q) (pattern_table P) (first_four (tree_table T)) (record_table R) room n)
+        go : {j : Result ⊤ WriteFault} → Verdict j → ((w : List ℕ) × Writes w × (length w ≤ room)) ⊎ ((n : ℕ) × NotWritten d (question_table Q) (pattern_table P) (first_four (tree_table T)) (record_table R) room n)
         go (Verdict.fits w) = fit w (leb (length (bytes_of d Q P T R)) room) refl
         go (Verdict.outside u) = inr (24, NotWritten.unwritten u)
         go (Verdict.odd_byte u) = inr (22, NotWritten.unwritten u)
         go (Verdict.unread u) = inr (17, NotWritten.unwritten u)
 
   -- two outcomes of one call are equal
-  pub write_once : {b e f : List ℕ} {r s : Answer} → Answered b d Q P T R r e → Answered b d Q P T R s f → (r ≡ s) × (e ≡ f)
+  pub write_once : {b e f : List ℕ} {r s : Result ℕ WriteFault} → Answered b d Q P T R r e → Answered b d Q P T R s f → (r ≡ s) × (e ≡ f)
   write_once x y = (x.answer_is ∙ sym y.answer_is, x.buffer_is ∙ sym y.buffer_is)

@@ -47,20 +47,12 @@ pub fn put_block(trees: &mut [u64], k: usize, first: u64, entries: u64)
 pub fn zero(t: &mut [u64])
     ensures { t.new ≡ replicate (length t.old) 0 }
 {
-    let mut k = 0;
-    while k < t.len() {
-        t[k] = 0;
-        k = k + 1;
-    }
+    t.fill(0);
 }
 
 // The work all zero.
 pub fn zero_work(t: &mut [i64])
     ensures { t.new ≡ replicate (length t.old) (pos 0) }
 {
-    let mut k = 0;
-    while k < t.len() {
-        t[k] = 0;
-        k = k + 1;
-    }
+    t.fill(0);
 }

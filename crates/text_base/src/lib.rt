@@ -253,15 +253,16 @@ pub fn blank_end(s: &[u8], at: usize) -> usize
     ensures { result ≡ stop blank s.now at }
 {
     let mut i = at;
+    // No `for`: eight bytes are passed at once where all are blank.
     while i < s.len() {
         if eight_spaces(s, i) {
-            i = i + 8;
+            i += 8;
         } else {
-            i = i + spaces_ahead(s, i);
+            i += spaces_ahead(s, i);
             if !is_blank(s[i]) {
                 return i;
             }
-            i = i + 1;
+            i += 1;
         }
     }
     i
@@ -271,55 +272,53 @@ pub fn name_end(s: &[u8], at: usize) -> usize
     ensures { result ≡ stop in_name s.now at }
 {
     let mut i = at;
+    // No `for`: eight bytes are passed at once where all are of a name.
     while i < s.len() {
         if eight_printed(s, i) {
-            i = i + 8;
+            i += 8;
         } else {
-            i = i + printed_ahead(s, i);
+            i += printed_ahead(s, i);
             if !is_name(s[i]) {
                 return i;
             }
-            i = i + 1;
+            i += 1;
         }
     }
     i
 }
 
+#[tactic(auto, using(laws::proofs::Runs::scanning))]
 pub fn pattern_end(s: &[u8], at: usize) -> usize
     ensures { result ≡ stop in_pattern s.now at }
 {
-    let mut i = at;
-    while i < s.len() {
+    for i in at..s.len() {
         if !is_pattern(s[i]) {
             return i;
         }
-        i = i + 1;
     }
-    i
+    at.max(s.len())
 }
 
+#[tactic(auto, using(laws::proofs::Runs::scanning))]
 pub fn space_or_tab_end(s: &[u8], at: usize) -> usize
     ensures { result ≡ stop space_or_tab s.now at }
 {
-    let mut i = at;
-    while i < s.len() {
+    for i in at..s.len() {
         if !is_space_or_tab(s[i]) {
             return i;
         }
-        i = i + 1;
     }
-    i
+    at.max(s.len())
 }
 
+#[tactic(auto, using(laws::proofs::Runs::scanning))]
 pub fn newline_end(s: &[u8], at: usize) -> usize
     ensures { result ≡ stop is_newline s.now at }
 {
-    let mut i = at;
-    while i < s.len() {
+    for i in at..s.len() {
         if s[i] != b'\n' {
             return i;
         }
-        i = i + 1;
     }
-    i
+    at.max(s.len())
 }

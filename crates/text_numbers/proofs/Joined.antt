@@ -10,16 +10,18 @@ use borrow.Author.Tests.{lt-ltb, le-leb, leb-true, ltb-true, eqb-true, eq-eqb, n
 use lib.Dec.{leb, ltb, eqb}
 use lib.ListN.{drop}
 use lib.IntN.{ℤ, pos, neg_ℤ}
+use Rattle.text_numbers.specs.declared.NumberError.TheVariants as fault
+use Rattle.text_numbers.specs.declared.NumberError.{NumberError}
+use Rattle.text_parts.specs.declared.Read.{Read}
+use Rattle.std.specs.declared.result.Result.{Result}
+use Rattle.text_parts.specs.Parts.{read_to, cut}
+use Rattle.std.specs.Prelude.{Some, None, Ok, Err}
 use Rattle.written.specs.Bytes.{digit, in_pattern, byte_at, between, decimal, dash, quote, Span, spanning}
 use Rattle.written.specs.TreeText.{Word, end, byte, Run, stop as stops, more, Run₁, some, Digits, digits, Number, plus, minus, PatternAt, bare, quoted}
 use Rattle.written.proofs.Once.{run₁-lt}
 use Rattle.laws.specs.Runs.{run, stop}
 use Rattle.laws.proofs.Stops.{run-stop, run-between, run_is}
 use Rattle.text_numbers.specs.Answers.{unsigned_of, unsigned_from, unsigned_at, signed_of, signed_at, pattern_of, pattern_at}
-use Rattle.text_numbers.specs.declared.Unsigned.{Unsigned}
-use Rattle.text_numbers.specs.declared.Unsigned.TheVariants as unsigned
-use Rattle.text_numbers.specs.declared.Signed.TheVariants as signed
-use Rattle.text_numbers.specs.declared.Pattern.TheVariants as pattern
 
 differ : {A : Type 0} {b : Bool} → b ≡ true → b ≡ false → A
 differ p q = let u : ◌≡◌ {A = ℕ} 0 1 = cc in absurd (omega arith)
@@ -55,20 +57,20 @@ are_digits s i y = go (run_is digit none_digit s i) (run-between digit none_digi
         first_of (more h r) = some h r
 
 -- digits that say a number below 2^64 are answered so
-pub digits_unsigned : {s : List ℕ} {i j n : ℕ} → Digits s i j n → n < 2 ^ 64 → unsigned_at s i ≡ unsigned.Number n j
+pub digits_unsigned : {s : List ℕ} {i j n : ℕ} → Digits s i j n → n < 2 ^ 64 → unsigned_at s i ≡ Ok (read_to n j)
 unfolding unsigned_at unsigned_from unsigned_of value
 digits_unsigned {s} {i} {j} {n} d f = let h = digits_are d in rw (h.starts, h.says, lt-ltb n (2 ^ 64) f, h.ends)
 
 -- what is answered stands there, and is below 2^64
-pub unsigned_digits : (s : List ℕ) (i j n : ℕ) → unsigned_at s i ≡ unsigned.Number n j → Digits s i j n × (n < 2 ^ 64)
+pub unsigned_digits : (s : List ℕ) (i j n : ℕ) → unsigned_at s i ≡ Ok (read_to n j) → Digits s i j n × (n < 2 ^ 64)
 unfolding unsigned_at unsigned_from unsigned_of value
 unsigned_digits s i j n e = go (digit (byte_at s i)) refl (ltb (value s i) (2 ^ 64)) refl e
   where
     go : (a : Bool) → digit (byte_at s i) ≡ a → (b : Bool) → ltb (value s i) (2 ^ 64) ≡ b
-        → cond a (cond b (unsigned.Number (value s i) (stop digit s i)) unsigned.TooLarge) unsigned.NoDigit ≡ unsigned.Number n j → Digits s i j n × (n < 2 ^ 64)
+        → cond a (cond b (Ok (read_to (value s i) (stop digit s i))) (Err fault.TooLarge)) (Err fault.NoDigit) ≡ Ok (read_to n j) → Digits s i j n × (n < 2 ^ 64)
     go true y true f h =
-        let p : stop digit s i ≡ j = cc in
-        let q : value s i ≡ n = cc in
+        let p : stop digit s i ≡ j = grind arith in
+        let q : value s i ≡ n = grind arith in
         (subst (λ k. Digits s i k n) p (subst (Digits s i (stop digit s i)) q (are_digits s i y)), subst (λ (m : ℕ). m < 2 ^ 64) q (ltb-true (value s i) (2 ^ 64) f))
     go true y false f h = let u : ◌≡◌ {A = ℕ} 0 1 = cc in absurd (omega arith)
     go false y b f h = let u : ◌≡◌ {A = ℕ} 0 1 = cc in absurd (omega arith)
@@ -79,29 +81,29 @@ not_dash : {s : List ℕ} {i j n : ℕ} → Digits s i j n → eqb (byte_at s i)
 unfolding digit
 not_dash {s} {i} d = ne_eqb (byte_at s i) dash (λ q. differ (digits_are d).starts (ap digit q))
 
-pub number_signed : {s : List ℕ} {i j : ℕ} {x : ℤ} → Number s i j x → signed_at s i ≡ signed.Number x j
+pub number_signed : {s : List ℕ} {i j : ℕ} {x : ℤ} → Number s i j x → signed_at s i ≡ Some (read_to x j)
 unfolding signed_at
 number_signed {s} {i} (plus {n = n} d f) = rw (not_dash d, digits_unsigned d (omega arith), lt-ltb n (2 ^ 63) f)
 number_signed {s} {i} (minus {n = n} (byte w end) d f) = rw (eq-eqb (byte_at s i) dash w, add-one i, digits_unsigned d (omega arith), le-leb n (2 ^ 63) f)
 
-fitted : (fits : ℕ → Bool) (z : ℕ → ℤ) (s : List ℕ) (i j : ℕ) (x : ℤ) → signed_of fits z (unsigned_at s i) ≡ signed.Number x j → (n : ℕ) × Digits s i j n × (fits n ≡ true) × (z n ≡ x)
+fitted : (fits : ℕ → Bool) (z : ℕ → ℤ) (s : List ℕ) (i j : ℕ) (x : ℤ) → signed_of fits z (unsigned_at s i) ≡ Some (read_to x j) → (n : ℕ) × Digits s i j n × (fits n ≡ true) × (z n ≡ x)
 fitted fits z s i j x e = go (unsigned_at s i) refl e
   where
-    go : (u : Unsigned) → unsigned_at s i ≡ u → signed_of fits z u ≡ signed.Number x j → (n : ℕ) × Digits s i j n × (fits n ≡ true) × (z n ≡ x)
-    go unsigned.TooLarge p h = let u : ◌≡◌ {A = ℕ} 0 1 = cc in absurd (omega arith)
-    go unsigned.NoDigit p h = let u : ◌≡◌ {A = ℕ} 0 1 = cc in absurd (omega arith)
-    go (unsigned.Number n k) p h = pick (fits n) refl h
+    go : (u : Result (Read ℕ) NumberError) → unsigned_at s i ≡ u → signed_of fits z u ≡ Some (read_to x j) → (n : ℕ) × Digits s i j n × (fits n ≡ true) × (z n ≡ x)
+    go (Err fault.TooLarge) p h = let u : ◌≡◌ {A = ℕ} 0 1 = cc in absurd (omega arith)
+    go (Err fault.NoDigit) p h = let u : ◌≡◌ {A = ℕ} 0 1 = cc in absurd (omega arith)
+    go (Ok y) p h = pick (fits y.value) refl h
       where
-        pick : (b : Bool) → fits n ≡ b → cond b (signed.Number (z n) k) signed.NoNumber ≡ signed.Number x j → (n : ℕ) × Digits s i j n × (fits n ≡ true) × (z n ≡ x)
-        pick true f h = let q : k ≡ j = cc in let r : z n ≡ x = cc in (n, subst (λ k. Digits s i k n) q (unsigned_digits s i k n p).0, f, r)
+        pick : (b : Bool) → fits y.value ≡ b → cond b (Some (read_to (z y.value) y.next)) None ≡ Some (read_to x j) → (n : ℕ) × Digits s i j n × (fits n ≡ true) × (z n ≡ x)
+        pick true f h = let q : y.next ≡ j = grind arith in let r : z y.value ≡ x = grind arith in (y.value, subst (λ k. Digits s i k y.value) q (unsigned_digits s i y.next y.value p).0, f, r)
         pick false f h = let u : ◌≡◌ {A = ℕ} 0 1 = cc in absurd (omega arith)
 
-pub signed_number : (s : List ℕ) (i j : ℕ) (x : ℤ) → signed_at s i ≡ signed.Number x j → Number s i j x
+pub signed_number : (s : List ℕ) (i j : ℕ) (x : ℤ) → signed_at s i ≡ Some (read_to x j) → Number s i j x
 unfolding signed_at
 signed_number s i j x e = go (eqb (byte_at s i) dash) refl e
   where
     go : (b : Bool) → eqb (byte_at s i) dash ≡ b
-        → cond b (signed_of (λ n. leb n (2 ^ 63)) (λ n. neg_ℤ (pos n)) (unsigned_at s (i + 1))) (signed_of (λ n. ltb n (2 ^ 63)) pos (unsigned_at s i)) ≡ signed.Number x j → Number s i j x
+        → cond b (signed_of (λ n. leb n (2 ^ 63)) (λ n. neg_ℤ (pos n)) (unsigned_at s (i + 1))) (signed_of (λ n. ltb n (2 ^ 63)) pos (unsigned_at s i)) ≡ Some (read_to x j) → Number s i j x
     go true w h =
         let r = fitted (λ n. leb n (2 ^ 63)) (λ n. neg_ℤ (pos n)) s (i + 1) j x h in
         subst (Number s i j) r.3 (minus (byte (eqb-true (byte_at s i) dash w) end) (subst (λ k. Digits s k j r.0) (add-one i) r.1) (leb-true r.0 (2 ^ 63) r.2))
@@ -109,7 +111,7 @@ signed_number s i j x e = go (eqb (byte_at s i) dash) refl e
         let r = fitted (λ n. ltb n (2 ^ 63)) pos s i j x h in
         subst (Number s i j) r.3 (plus r.1 (ltb-true r.0 (2 ^ 63) r.2))
 
-pub no_number : (s : List ℕ) (i : ℕ) → signed_at s i ≡ signed.NoNumber → (j : ℕ) (x : ℤ) → ¬ Number s i j x
+pub no_number : (s : List ℕ) (i : ℕ) → signed_at s i ≡ None → (j : ℕ) (x : ℤ) → ¬ Number s i j x
 no_number s i e j x n = let h = number_signed n in let u : ◌≡◌ {A = ℕ} 0 1 = cc in omega arith
 
 -- ---- patterns
@@ -118,7 +120,7 @@ none_pattern : in_pattern 256 ≡ false
 unfolding in_pattern
 none_pattern = refl
 
-pub found_pattern : {s : List ℕ} {i j : ℕ} {b : List ℕ} {w : Span} → PatternAt s i j b w → pattern_at s i ≡ pattern.Found w.start w.len j
+pub found_pattern : {s : List ℕ} {i j : ℕ} {b : List ℕ} {w : Span} → PatternAt s i j b w → pattern_at s i ≡ Some (read_to (cut w.start w.len) j)
 unfolding pattern_at pattern_of in_pattern
 found_pattern {s} {i} (bare {j = j} (some y r)) =
     let n : eqb (byte_at s i) quote ≡ false = ne_eqb (byte_at s i) quote (λ q. differ y (ap in_pattern q)) in
@@ -136,7 +138,7 @@ some_run s i h = go (run_is in_pattern none_pattern s i) h
     go (stops n) l = absurd (omega arith)
     go (more y r) l = some y r
 
-pub pattern_found_lem : (s : List ℕ) (i a n j : ℕ) → pattern_at s i ≡ pattern.Found a n j → PatternAt s i j (between s a (a + n)) (record { start = a; len = n })
+pub pattern_found_lem : (s : List ℕ) (i a n j : ℕ) → pattern_at s i ≡ Some (read_to (cut a n) j) → PatternAt s i j (between s a (a + n)) (record { start = a; len = n })
 unfolding pattern_at pattern_of
 pattern_found_lem s i a n j e = go (eqb (byte_at s i) quote) refl (eqb (byte_at s (stop in_pattern s (i + 1))) quote) refl (ltb (i + 1) (stop in_pattern s (i + 1))) refl (ltb i (stop in_pattern s i)) refl e
   where
@@ -150,25 +152,25 @@ pattern_found_lem s i a n j e = go (eqb (byte_at s i) quote) refl (eqb (byte_at 
 
     go : (b : Bool) → eqb (byte_at s i) quote ≡ b → (d : Bool) → eqb (byte_at s (stop in_pattern s (i + 1))) quote ≡ d
         → (f : Bool) → ltb (i + 1) (stop in_pattern s (i + 1)) ≡ f → (g : Bool) → ltb i (stop in_pattern s i) ≡ g
-        → cond b (cond d (cond f (pattern.Found (i + 1) (stop in_pattern s (i + 1) - (i + 1)) (stop in_pattern s (i + 1) + 1)) pattern.NoPattern) pattern.NoPattern)
-        (cond g (pattern.Found i (stop in_pattern s i - i) (stop in_pattern s i)) pattern.NoPattern) ≡ pattern.Found a n j
+        → cond b (cond d (cond f (Some (read_to (cut (i + 1) (stop in_pattern s (i + 1) - (i + 1))) (stop in_pattern s (i + 1) + 1))) None) None)
+        (cond g (Some (read_to (cut i (stop in_pattern s i - i)) (stop in_pattern s i))) None) ≡ Some (read_to (cut a n) j)
         → PatternAt s i j (between s a (a + n)) (record { start = a; len = n })
     go true p true q true r g t h =
         let l : i + 1 < stop in_pattern s (i + 1) = ltb-true _ _ r in
-        let x : i + 1 ≡ a = cc in
-        let y : stop in_pattern s (i + 1) - (i + 1) ≡ n = cc in
-        let z : stop in_pattern s (i + 1) + 1 ≡ j = cc in
+        let x : i + 1 ≡ a = grind arith in
+        let y : stop in_pattern s (i + 1) - (i + 1) ≡ n = grind arith in
+        let z : stop in_pattern s (i + 1) + 1 ≡ j = grind arith in
         at_span (i + 1) (stop in_pattern s (i + 1)) l x y (sym (add-one _) ∙ z)
         (quoted (subst (λ (m : ℕ). Word s (quote ∷ []) i m) (sym (add-one i)) (byte (eqb-true (byte_at s i) quote p) end)) (some_run s (i + 1) l) (byte (eqb-true _ quote q) end))
     go true p true q false r g t h = let u : ◌≡◌ {A = ℕ} 0 1 = cc in absurd (omega arith)
     go true p false q f r g t h = let u : ◌≡◌ {A = ℕ} 0 1 = cc in absurd (omega arith)
     go false p d q f r true t h =
         let l : i < stop in_pattern s i = ltb-true _ _ t in
-        let x : i ≡ a = cc in
-        let y : stop in_pattern s i - i ≡ n = cc in
-        let z : stop in_pattern s i ≡ j = cc in
+        let x : i ≡ a = grind arith in
+        let y : stop in_pattern s i - i ≡ n = grind arith in
+        let z : stop in_pattern s i ≡ j = grind arith in
         at_span i (stop in_pattern s i) l x y z (bare (some_run s i l))
     go false p d q f r false t h = let u : ◌≡◌ {A = ℕ} 0 1 = cc in absurd (omega arith)
 
-pub no_pattern : (s : List ℕ) (i : ℕ) → pattern_at s i ≡ pattern.NoPattern → (j : ℕ) (b : List ℕ) (w : Span) → ¬ PatternAt s i j b w
+pub no_pattern : (s : List ℕ) (i : ℕ) → pattern_at s i ≡ None → (j : ℕ) (b : List ℕ) (w : Span) → ¬ PatternAt s i j b w
 no_pattern s i e j b w n = let h = found_pattern n in let u : ◌≡◌ {A = ℕ} 0 1 = cc in omega arith

@@ -7,12 +7,14 @@ use native.Mathlib.Omega.{arith}
 use borrow.Author.Tests.{lt-ltb, le-ltb, leb-true}
 use lib.Dec.{leb}
 use lib.ListN.{length, get_or, drop}
+use Rattle.text_numbers.specs.declared.NumberError.TheVariants as fault
+use Rattle.text_parts.specs.Parts.{read_to}
+use Rattle.std.specs.Prelude.{Ok, Err}
 use Rattle.written.specs.Bytes.{digit, decimal}
 use Rattle.laws.specs.Runs.{run}
 use Rattle.laws.proofs.Ranges.{at}
 use Rattle.laws.proofs.Runs.{run_on, run_here, run_end, stop_on, stop_here, stop_end, byte_is, byte_out}
 use Rattle.text_numbers.specs.Answers.{unsigned_of, unsigned_from, unsigned_at}
-use Rattle.text_numbers.specs.declared.Unsigned.TheVariants.{Number, TooLarge, NoDigit}
 
 both : (a b : Bool) → a && b ≡ true → (a ≡ true) × (b ≡ true)
 both true b e = (refl, e)
@@ -34,24 +36,24 @@ module _ (n : ℕ) (s : List ℕ) (i : ℕ) where
   unfolding unsigned_from decimal
   from_on h e = rw (run_on digit s i h e, stop_on digit s i h e)
 
-  pub from_here : i < length s → digit (get_or s i 0) ≡ false → n < 2 ^ 64 → unsigned_from n s i ≡ Number n i
+  pub from_here : i < length s → digit (get_or s i 0) ≡ false → n < 2 ^ 64 → unsigned_from n s i ≡ Ok (read_to n i)
   unfolding unsigned_from decimal unsigned_of
   from_here h e b = rw (run_here digit s i h e, stop_here digit s i h e, lt-ltb n (2 ^ 64) b)
 
-  pub from_end : length s ≤ i → n < 2 ^ 64 → unsigned_from n s i ≡ Number n i
+  pub from_end : length s ≤ i → n < 2 ^ 64 → unsigned_from n s i ≡ Ok (read_to n i)
   unfolding unsigned_from decimal unsigned_of
   from_end h b = rw (run_end digit s i h, stop_end digit s i h, lt-ltb n (2 ^ 64) b)
 
-  pub from_big : 2 ^ 64 ≤ n → unsigned_from n s i ≡ TooLarge
+  pub from_big : 2 ^ 64 ≤ n → unsigned_from n s i ≡ (Err fault.TooLarge)
   unfolding unsigned_from unsigned_of
   from_big b = rw (le-ltb (decimal n (run digit (drop i s))) (2 ^ 64) (omega (arith, decimal_grows n (run digit (drop i s)))))
 
 module _ (s : List ℕ) (i : ℕ) where
-  pub at_end : length s ≤ i → unsigned_at s i ≡ NoDigit
+  pub at_end : length s ≤ i → unsigned_at s i ≡ (Err fault.NoDigit)
   unfolding unsigned_at digit
   at_end h = rw (byte_out s i h)
 
-  pub at_other : i < length s → digit (get_or s i 0) ≡ false → unsigned_at s i ≡ NoDigit
+  pub at_other : i < length s → digit (get_or s i 0) ≡ false → unsigned_at s i ≡ (Err fault.NoDigit)
   unfolding unsigned_at
   at_other h e = rw (byte_is s i h, e)
 

@@ -6,82 +6,62 @@ ghost use Rattle.std.specs.Prelude.{◌≡◌, ◌≤◌, ◌<◌, ◌^◌, leb,
 ghost use Rattle.text_numbers.specs.Answers.{unsigned_from, unsigned_at, signed_of, signed_at, pattern_of, pattern_at};
 
 use text_base::{byte_at, is_digit, pattern_end};
+use text_parts::{Read, Span};
 
 // What decimal digits say.
 #[derive(Clone, Copy)]
-pub enum Unsigned {
-    Number { value: u64, next: usize },
+pub enum NumberError {
     // 2^64 or more
     TooLarge,
     NoDigit,
 }
 
-// What decimal digits, perhaps after -, say.
-#[derive(Clone, Copy)]
-pub enum Signed {
-    Number { value: i64, next: usize },
-    // no digits, or a number that doesn't fit 64 bits
-    NoNumber,
-}
-
-// A pattern, without its quotes.
-#[derive(Clone, Copy)]
-pub enum Pattern {
-    Found {
-        start: usize,
-        len: usize,
-        next: usize,
-    },
-    NoPattern,
-}
-
 // The number that the digits from `at` on say behind those that said `said`, however many they are.
-fn parse_rest(s: &[u8], at: usize, said: u64) -> Unsigned
+fn parse_rest(s: &[u8], at: usize, said: u64) -> Result<Read<u64>, NumberError>
     ensures { result ≡ unsigned_from said s.now at }
 {
     let mut value = said;
-    let mut i = at;
-    while i < s.len() {
+    for i in at..s.len() {
         let b = s[i];
         if !is_digit(b) {
-            return Unsigned::Number { value, next: i };
+            return Ok(Read { value, next: i });
         }
         let d = (b - 48) as u64;
         // the largest value to which a digit can be added
         if 1844674407370955161 < value {
-            return Unsigned::TooLarge;
+            return Err(NumberError::TooLarge);
         }
         if 18446744073709551615 - d < value * 10 {
-            return Unsigned::TooLarge;
+            return Err(NumberError::TooLarge);
         }
         value = value * 10 + d;
-        i = i + 1;
     }
-    Unsigned::Number { value, next: i }
+    Ok(Read {
+        value,
+        next: at.max(s.len()),
+    })
 }
 
 // Decimal digits, as far as they go; leading zeros without limit. Nineteen digits always fit, and nearly every number has fewer.
-pub fn parse_unsigned(s: &[u8], at: usize) -> Unsigned
+pub fn parse_unsigned(s: &[u8], at: usize) -> Result<Read<u64>, NumberError>
     ensures { result ≡ unsigned_at s.now at }
 {
     if s.len() <= at {
-        return Unsigned::NoDigit;
+        return Err(NumberError::NoDigit);
     }
     if !is_digit(s[at]) {
-        return Unsigned::NoDigit;
+        return Err(NumberError::NoDigit);
     }
     let most = if s.len() - at <= 19 { s.len() } else { at + 19 };
     let mut value: u64 = 0;
-    let mut i = at;
-    while i < most {
+    for i in at..most {
         let b = s[i];
         if !is_digit(b) {
-            return Unsigned::Number { value, next: i };
+            return Ok(Read { value, next: i });
         }
         value = value * 10 + (b - 48) as u64;
-        i = i + 1;
     }
-    parse_rest(s, i, value)
+    parse_rest(s, most, value)
 }
 
 fn plus(m: u64) -> i64
@@ -103,46 +83,44 @@ fn minus(m: u64) -> i64
     !k
 }
 
-fn positive(u: Unsigned) -> Signed
+fn positive(u: Result<Read<u64>, NumberError>) -> Option<Read<i64>>
     ensures { result ≡ signed_of (λ n. ltb n (2 ^ 63)) pos u }
 {
     match u {
-        Unsigned::Number { value, next } => {
+        Ok(Read { value, next }) => {
             if value < 9223372036854775808 {
-                Signed::Number {
+                Some(Read {
                     value: plus(value),
                     next,
-                }
+                })
             } else {
-                Signed::NoNumber
+                None
             }
         }
-        Unsigned::TooLarge => Signed::NoNumber,
-        Unsigned::NoDigit => Signed::NoNumber,
+        Err(_) => None,
     }
 }
 
-fn negative(u: Unsigned) -> Signed
+fn negative(u: Result<Read<u64>, NumberError>) -> Option<Read<i64>>
     ensures { result ≡ signed_of (λ n. leb n (2 ^ 63)) (λ n. neg_ℤ (pos n)) u }
 {
     match u {
-        Unsigned::Number { value, next } => {
+        Ok(Read { value, next }) => {
             if value <= 9223372036854775808 {
-                Signed::Number {
+                Some(Read {
                     value: minus(value),
                     next,
-                }
+                })
             } else {
-                Signed::NoNumber
+                None
             }
         }
-        Unsigned::TooLarge => Signed::NoNumber,
-        Unsigned::NoDigit => Signed::NoNumber,
+        Err(_) => None,
     }
 }
 
 // Decimal digits, perhaps after -, that fit signed 64 bits; -0 is 0.
-pub fn parse_signed(s: &[u8], at: usize) -> Signed
+pub fn parse_signed(s: &[u8], at: usize) -> Option<Read<i64>>
     ensures { result ≡ signed_at s.now at }
 {
     let minus = byte_at(s, at) == 45;
@@ -151,22 +129,24 @@ pub fn parse_signed(s: &[u8], at: usize) -> Signed
     if minus { negative(u) } else { positive(u) }
 }
 
-fn some_pattern(start: usize, end: usize, next: usize) -> Pattern
+fn some_pattern(start: usize, end: usize, next: usize) -> Option<Read<Span>>
     ensures { result ≡ pattern_of start end next }
 {
     if start < end {
-        Pattern::Found {
-            start,
-            len: end - start,
+        Some(Read {
+            value: Span {
+                start,
+                len: end - start,
+            },
             next,
-        }
+        })
     } else {
-        Pattern::NoPattern
+        None
     }
 }
 
 // A pattern: one or more bytes of the first four classes, bare or in ".
-pub fn parse_pattern(s: &[u8], at: usize) -> Pattern
+pub fn parse_pattern(s: &[u8], at: usize) -> Option<Read<Span>>
     ensures { result ≡ pattern_at s.now at }
 {
     if byte_at(s, at) == 34 {
@@ -174,7 +154,7 @@ pub fn parse_pattern(s: &[u8], at: usize) -> Pattern
         if byte_at(s, end) == 34 {
             return some_pattern(at + 1, end, end + 1);
         }
-        return Pattern::NoPattern;
+        return None;
     }
     let end = pattern_end(s, at);
     some_pattern(at, end, end)

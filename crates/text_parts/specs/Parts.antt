@@ -1,7 +1,16 @@
 -- Parts of slices, and numbers that are not negative, by computation.
 use Rattle.std.specs.Prelude.{cond, ◌&&◌, List, [], ℕ, ◌-◌, leb, ℤ, pos, negsuc, length}
 use Rattle.written.specs.Bytes.{part}
+use Rattle.text_parts.specs.declared.Read.{Read}
 use Rattle.text_parts.specs.declared.Span.{Span}
+
+-- n bytes from i on
+abbrev pub cut : ℕ → ℕ → Span
+cut i n = record { start = i; len = n }
+
+-- what was read, and the place behind it
+abbrev pub read_to : {T : Type 0} → T → ℕ → Read T
+read_to x i = record { value = x; next = i }
 
 -- the bytes of a part
 abbrev pub bytes_of : List ℕ → Span → List ℕ

@@ -14,6 +14,13 @@ pub struct Span {
     pub len: usize,
 }
 
+// What a reader read, and the place behind it.
+#[derive(Clone, Copy)]
+pub struct Read<T> {
+    pub value: T,
+    pub next: usize,
+}
+
 // s up to an end, as far as it goes.
 pub fn up_to(s: &[u8], end: usize) -> &[u8]
     ensures { result.now ≡ take end s.now }
@@ -56,20 +63,11 @@ pub fn part_inside(s: &[u8], start: u64, len: u64) -> &[u8]
 }
 
 // Whether two byte strings are the same, byte by byte.
+#[tactic(auto, using(crate::proofs::Sames::pointwise_same))]
 pub fn same_bytes(a: &[u8], b: &[u8]) -> bool
     ensures { result ≡ same a.now b.now }
 {
-    let mut i = 0;
-    while i < a.len() {
-        if b.len() <= i {
-            return false;
-        }
-        if a[i] != b[i] {
-            return false;
-        }
-        i = i + 1;
-    }
-    b.len() <= i
+    a == b
 }
 
 // Whether two parts of s have the same bytes.

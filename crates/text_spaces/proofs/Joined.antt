@@ -7,6 +7,9 @@ use native.Mathlib.Numerals.{add-one}
 use native.Mathlib.Omega.{arith}
 use borrow.Author.Tests.{lt-ltb, ltb-true, eq-eqb, eqb-true}
 use lib.Dec.{ltb, eqb}
+use Rattle.text_parts.specs.Parts.{read_to, cut}
+use Rattle.std.specs.declared.option.Option.{Option}
+use Rattle.std.specs.Prelude.{Some, None}
 use Rattle.written.specs.Bytes.{blank, space_or_tab, in_name, byte_at, newline, unbrace}
 use lib.ListN.{length}
 use native.Mathlib.Decide.{dec_lt}
@@ -16,9 +19,6 @@ use Rattle.laws.specs.Runs.{stop}
 use Rattle.laws.proofs.Runs.{byte_in, byte_out}
 use Rattle.laws.proofs.Stops.{run-stop, run_is, run₁-stop, run₁_is}
 use Rattle.text_spaces.specs.Spaces.{name_of, name_at, past_byte, newline_at, then_at, parting_at, line_parting_at, close_at}
-use Rattle.text_spaces.specs.declared.Name.TheVariants.{Found, NoName}
-use Rattle.text_spaces.specs.declared.Place.{Place}
-use Rattle.text_spaces.specs.declared.Place.TheVariants.{At, Nowhere}
 
 -- none of these classes has the number that stands for the end of a text
 pub no_blank : blank 256 ≡ false
@@ -39,22 +39,22 @@ clash e = absurd (omega arith)
 
 -- ---- one byte
 
-pub byte_past : {b i j : ℕ} {s : List ℕ} → Byte s b i j → past_byte b s i ≡ At j
+pub byte_past : {b i j : ℕ} {s : List ℕ} → Byte s b i j → past_byte b s i ≡ Some j
 unfolding past_byte
 byte_past {b} {i} {s = s} (byte h end) = rw (eq-eqb (byte_at s i) b h, add-one i)
 
-pub past_byte_lem : (b i j : ℕ) (s : List ℕ) → past_byte b s i ≡ At j → Byte s b i j
+pub past_byte_lem : (b i j : ℕ) (s : List ℕ) → past_byte b s i ≡ Some j → Byte s b i j
 unfolding past_byte
 past_byte_lem b i j s e = go (eqb (byte_at s i) b) refl e
   where
-    go : (t : Bool) → eqb (byte_at s i) b ≡ t → cond t (At (i + 1)) Nowhere ≡ At j → Byte s b i j
+    go : (t : Bool) → eqb (byte_at s i) b ≡ t → cond t (Some (i + 1)) None ≡ Some j → Byte s b i j
     go true h k = let p : i + 1 ≡ j = cc in subst (λ (m : ℕ). Byte s b i m) (sym (add-one i) ∙ p) (byte (eqb-true (byte_at s i) b h) end)
     go false h k = clash (cc)
 
 module _ (s : List ℕ) where
   -- ---- a name between blanks
 
-  pub name_found : {a b c d : ℕ} → Run₁ s blank a b → Run₁ s in_name b c → Run₁ s blank c d → name_at s a ≡ Found b (c - b) d
+  pub name_found : {a b c d : ℕ} → Run₁ s blank a b → Run₁ s in_name b c → Run₁ s blank c d → name_at s a ≡ Some (read_to (cut b (c - b)) d)
   unfolding name_at name_of
   name_found {a} {b} {c} {d} r n t =
       let p = run₁-stop blank no_blank s r in
@@ -70,12 +70,12 @@ module _ (s : List ℕ) where
     pub behind : Run₁ s blank ends d
     pub long : ends - b ≡ n
 
-  pub found_name : (a b n d : ℕ) → name_at s a ≡ Found b n d → Named a b n d
+  pub found_name : (a b n d : ℕ) → name_at s a ≡ Some (read_to (cut b n) d) → Named a b n d
   unfolding name_at name_of
   found_name a b n d e = go (stop blank s a) refl (stop in_name s (stop blank s a)) refl (stop blank s (stop in_name s (stop blank s a))) refl e
     where
       go : (x : ℕ) → stop blank s a ≡ x → (y : ℕ) → stop in_name s (stop blank s a) ≡ y → (z : ℕ) → stop blank s (stop in_name s (stop blank s a)) ≡ z
-          → name_of a x y z ≡ Found b n d → Named a b n d
+          → name_of a x y z ≡ Some (read_to (cut b n) d) → Named a b n d
       go x p y q z r h = pick (ltb a x) refl (ltb x y) refl (ltb y z) refl h
         where
           runs : a < x → x < y → y < z → x ≡ b → y - x ≡ n → z ≡ d → Named a b n d
@@ -91,11 +91,11 @@ module _ (s : List ℕ) where
               }
 
           pick : (f : Bool) → ltb a x ≡ f → (g : Bool) → ltb x y ≡ g → (k : Bool) → ltb y z ≡ k
-              → cond f (cond g (cond k (Found x (y - x) z) NoName) NoName) NoName ≡ Found b n d → Named a b n d
+              → cond f (cond g (cond k (Some (read_to (cut x (y - x)) z)) None) None) None ≡ Some (read_to (cut b n) d) → Named a b n d
           pick true f true g true k h =
-              let u : x ≡ b = cc in
-              let v : y - x ≡ n = cc in
-              let w : z ≡ d = cc in
+              let u : x ≡ b = grind arith in
+              let v : y - x ≡ n = grind arith in
+              let w : z ≡ d = grind arith in
               runs (ltb-true a x f) (ltb-true x y g) (ltb-true y z k) u v w
           pick true f true g false k h = clash (cc)
           pick true f false g t k h = clash (cc)
@@ -103,36 +103,36 @@ module _ (s : List ℕ) where
 
   -- ---- what parts two items
 
-  newline-found : {i a b : ℕ} → Run s space_or_tab i a → Byte s newline a b → newline_at s i ≡ At b
+  newline-found : {i a b : ℕ} → Run s space_or_tab i a → Byte s newline a b → newline_at s i ≡ Some b
   unfolding newline_at
   newline-found r w = rw (run-stop space_or_tab no_space s r) (byte_past w)
 
   -- the same place, with something done from there on
-  then_at_lem : (f : ℕ → ℕ) (p : Place) (j : ℕ) → then_at f p ≡ At j → (b : ℕ) × (p ≡ At b) × (f b ≡ j)
-  then_at_lem f (At b) j e = (b, refl, let q : f b ≡ j = cc in q)
-  then_at_lem f Nowhere j e = clash (cc)
+  then_at_lem : (f : ℕ → ℕ) (p : Option ℕ) (j : ℕ) → then_at f p ≡ Some j → (b : ℕ) × (p ≡ Some b) × (f b ≡ j)
+  then_at_lem f (Some b) j e = (b, refl, let q : f b ≡ j = cc in q)
+  then_at_lem f None j e = clash (cc)
 
-  found-newline : (i b : ℕ) → newline_at s i ≡ At b → Run s space_or_tab i (stop space_or_tab s i) × Byte s newline (stop space_or_tab s i) b
+  found-newline : (i b : ℕ) → newline_at s i ≡ Some b → Run s space_or_tab i (stop space_or_tab s i) × Byte s newline (stop space_or_tab s i) b
   unfolding newline_at
   found-newline i b e = (run_is space_or_tab no_space s i, past_byte_lem newline (stop space_or_tab s i) b s e)
 
-  pub parting_found : {i j : ℕ} → Parting s i j → parting_at s i ≡ At j
+  pub parting_found : {i j : ℕ} → Parting s i j → parting_at s i ≡ Some j
   unfolding parting_at
-  parting_found (parting r w b) = ap (then_at (stop blank s)) (newline-found r w) ∙ ap At (run-stop blank no_blank s b)
+  parting_found (parting r w b) = ap (then_at (stop blank s)) (newline-found r w) ∙ ap Some (run-stop blank no_blank s b)
 
-  pub found_parting : (i j : ℕ) → parting_at s i ≡ At j → Parting s i j
+  pub found_parting : (i j : ℕ) → parting_at s i ≡ Some j → Parting s i j
   unfolding parting_at
   found_parting i j e =
       let h = then_at_lem (stop blank s) (newline_at s i) j e in
       let n = found-newline i h.0 h.1 in
       parting n.0 n.1 (subst (Run s blank h.0) h.2 (run_is blank no_blank s h.0))
 
-  pub line_parting_found : {i j : ℕ} → LineParting s i j → line_parting_at s i ≡ At j
+  pub line_parting_found : {i j : ℕ} → LineParting s i j → line_parting_at s i ≡ Some j
   unfolding line_parting_at
   line_parting_found (parting r w t b) =
-      ap (then_at (λ j. stop blank s (stop space_or_tab s j))) (newline-found r w) ∙ ap (λ (k : ℕ). At (stop blank s k)) (run-stop space_or_tab no_space s t) ∙ ap At (run-stop blank no_blank s b)
+      ap (then_at (λ j. stop blank s (stop space_or_tab s j))) (newline-found r w) ∙ ap (λ (k : ℕ). Some (stop blank s k)) (run-stop space_or_tab no_space s t) ∙ ap Some (run-stop blank no_blank s b)
 
-  pub found_line_parting : (i j : ℕ) → line_parting_at s i ≡ At j → LineParting s i j
+  pub found_line_parting : (i j : ℕ) → line_parting_at s i ≡ Some j → LineParting s i j
   unfolding line_parting_at
   found_line_parting i j e =
       let h = then_at_lem (λ j. stop blank s (stop space_or_tab s j)) (newline_at s i) j e in
@@ -148,11 +148,11 @@ module _ (s : List ℕ) where
     pub blanks : Run s blank i brace
     pub shut : Byte s unbrace brace j
 
-  pub close_found : {i j : ℕ} → Closed i j → close_at s i ≡ At j
+  pub close_found : {i j : ℕ} → Closed i j → close_at s i ≡ Some j
   unfolding close_at
   close_found c = rw (run-stop blank no_blank s c.blanks) (byte_past c.shut)
 
-  pub found_close : (i j : ℕ) → close_at s i ≡ At j → Closed i j
+  pub found_close : (i j : ℕ) → close_at s i ≡ Some j → Closed i j
   unfolding close_at
   found_close i j e = record { brace = stop blank s i; blanks = run_is blank no_blank s i; shut = past_byte_lem unbrace (stop blank s i) j s e }
 

@@ -9,11 +9,11 @@ use native.Mathlib.Omega.{arith}
 use borrow.Author.Tests.{eq-eqb, ne_eqb, eqb-true}
 use lib.Dec.{eqb}
 use lib.ListN.{length, get_or}
+use Rattle.std.specs.Prelude.{Some, None}
 use Rattle.written.specs.Bytes.{newline, blank, space_or_tab, byte_at}
 use Rattle.laws.specs.Runs.{stop}
 use Rattle.laws.proofs.Runs.{stop_on, stop_here, stop_end, byte_is, byte_in}
 use Rattle.text_spaces.specs.Spaces.{past_byte, newline_at, line_parting_at, then_at}
-use Rattle.text_spaces.specs.declared.Place.TheVariants.{At, Nowhere}
 
 blank_space : {b : ℕ} → b ≡ 32 → blank b ≡ true
 unfolding blank
@@ -63,16 +63,16 @@ module _ (s : List ℕ) where
       no_tab (length s) k (omega arith) (λ f. t (ap (byte_at s) (sym c) ∙ f)) ∙ c
 
   -- the newline found, and where the next line stands
-  pub parted : (i k r : ℕ) → r ≡ stop blank s i → (byte_at s r ≡ 9 → ⊥) → At k ≡ newline_at s i → At r ≡ line_parting_at s i
+  pub parted : (i k r : ℕ) → r ≡ stop blank s i → (byte_at s r ≡ 9 → ⊥) → Some k ≡ newline_at s i → Some r ≡ line_parting_at s i
   unfolding newline_at past_byte line_parting_at
   parted i k r e t h = go (eqb (byte_at s (stop space_or_tab s i)) newline) refl h
     where
-      go : (u : Bool) → eqb (byte_at s (stop space_or_tab s i)) newline ≡ u → At k ≡ cond u (At (stop space_or_tab s i + 1)) Nowhere
-          → At r ≡ then_at (λ j. stop blank s (stop space_or_tab s j)) (cond u (At (stop space_or_tab s i + 1)) Nowhere)
+      go : (u : Bool) → eqb (byte_at s (stop space_or_tab s i)) newline ≡ u → Some k ≡ cond u (Some (stop space_or_tab s i + 1)) None
+          → Some r ≡ then_at (λ j. stop blank s (stop space_or_tab s j)) (cond u (Some (stop space_or_tab s i + 1)) None)
       go true q g =
-          ap At (e ∙ sym (behind i (stop space_or_tab s i + 1) (eqb-true (byte_at s (stop space_or_tab s i)) newline q) refl (λ f. t (ap (byte_at s) e ∙ f))))
+          ap Some (e ∙ sym (behind i (stop space_or_tab s i + 1) (eqb-true (byte_at s (stop space_or_tab s i)) newline q) refl (λ f. t (ap (byte_at s) e ∙ f))))
       go false q g = let z : ◌≡◌ {A = ℕ} 0 1 = cc in absurd (omega arith)
 
-  pub unparted : (i : ℕ) → Nowhere ≡ newline_at s i → Nowhere ≡ line_parting_at s i
+  pub unparted : (i : ℕ) → None ≡ newline_at s i → None ≡ line_parting_at s i
   unfolding line_parting_at
   unparted i h = ap (then_at (λ j. stop blank s (stop space_or_tab s j))) h

@@ -7,7 +7,7 @@ use native.Mathlib.Nat.{not-suc-le-zero, le_of_suc-le-suc, add-zero}
 use native.Mathlib.Omega.{arith}
 use lib.ListN.{length, drop, get_or, length-drop}
 use lib.Seq.{drop-cons, drop-drop}
-use Rattle.text_utf8.specs.declared.Answer.TheVariants.{Bad}
+use Rattle.std.specs.Prelude.{Err}
 use Rattle.written.specs.Rfc3629.{Range, table}
 use Rattle.text_utf8.specs.Widths.{starts, width, holds}
 use Rattle.text_utf8.specs.Check.{scan}
@@ -45,12 +45,12 @@ pub on : (i b k : ℕ) (s : List ℕ) → width table (b ∷ s) ≡ suc k → sc
 unfolding scan
 on i b k s e = rw (e, scan)
 
-pub off : (i b : ℕ) (s : List ℕ) → width table (b ∷ s) ≡ 0 → scan 0 i (b ∷ s) ≡ Bad i
+pub off : (i b : ℕ) (s : List ℕ) → width table (b ∷ s) ≡ 0 → scan 0 i (b ∷ s) ≡ Err i
 unfolding scan
 off i b s e = rw (e, scan)
 
 module _ (s : List ℕ) (i : ℕ) (h : i < length s) where
-  pub bad : width table (drop i s) ≡ 0 → scan 0 i (drop i s) ≡ Bad i
+  pub bad : width table (drop i s) ≡ 0 → scan 0 i (drop i s) ≡ Err i
   bad e = rw (drop-cons s i 0 h) (off i (get_or s i 0) (drop (suc i) s) (rw (drop-cons s i 0 h) at e))
 
   pub next : (w : ℕ) → w ≡ width table (drop i s) → (w ≡ 0 → ⊥) → scan 0 i (drop i s) ≡ scan 0 (i + w) (drop (i + w) s)

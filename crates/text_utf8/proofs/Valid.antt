@@ -10,8 +10,8 @@ use borrow.Author.Tests.{leb-true}
 use lib.Dec.{leb}
 use lib.ListN.{length, take, drop, length-append, length-drop, take-append-drop}
 use lib.Seq.{drop-append_seam, take-add, drop-drop}
-use Rattle.text_utf8.specs.declared.Answer.{Answer}
-use Rattle.text_utf8.specs.declared.Answer.TheVariants.{Valid, Bad}
+use Rattle.std.specs.declared.result.Result.{Result}
+use Rattle.std.specs.Prelude.{Ok, Err}
 use Rattle.written.specs.Rfc3629.{Range, ◌⋯◌, table, Fit, none, one, Char, row, Octets, end, more, FirstBad}
 use Rattle.written_apart.proofs.ApartFile.{octets_never, first_bad_one}
 use Rattle.text_utf8.specs.Widths.{starts, width, holds}
@@ -55,7 +55,7 @@ pass (b ∷ c) s i (row m f) =
     ∙ skip (length c) (i + 1) (c ++ s) (omega (arith, length-append c s))
     ∙ rw (drop-append_seam c s, e)
 
-pub complete : {s : List ℕ} → Octets s → (i : ℕ) → scan 0 i s ≡ Valid
+pub complete : {s : List ℕ} → Octets s → (i : ℕ) → scan 0 i s ≡ (Ok tt)
 unfolding scan
 complete end i = refl
 complete (more {c = c} {s = s} h o) i = pass c s i h ∙ complete o (i + length c)
@@ -89,23 +89,23 @@ found (r ∷ rows) s k e = go (starts r s) refl e (λ h. found rows s k h)
     go false p h g = let f = g h in (f.0, Memᴰ.tail f.1, f.2, f.3)
 
 -- n bounds the length of s
-sound : (n i : ℕ) (s : List ℕ) → length s ≤ n → scan 0 i s ≡ Valid → Octets s
+sound : (n i : ℕ) (s : List ℕ) → length s ≤ n → scan 0 i s ≡ (Ok tt) → Octets s
 unfolding Found
 sound zero i [] h e = end
 sound zero i (b ∷ s) h e = absurd (not-suc-le-zero h)
 sound (suc n) i [] h e = end
 sound (suc n) i (b ∷ s) h e = go (width table (b ∷ s)) refl (λ j t g. sound n j t g)
   where
-    go : (w : ℕ) → width table (b ∷ s) ≡ w → ((j : ℕ) (t : List ℕ) → length t ≤ n → scan 0 j t ≡ Valid → Octets t) → Octets (b ∷ s)
-    go zero p rest = let q : Bad i ≡ Valid = sym (off i b s p) ∙ e in let z : ◌≡◌ {A = ℕ} 0 1 = cc in let no : ⊥ = omega arith in absurd no
+    go : (w : ℕ) → width table (b ∷ s) ≡ w → ((j : ℕ) (t : List ℕ) → length t ≤ n → scan 0 j t ≡ (Ok tt) → Octets t) → Octets (b ∷ s)
+    go zero p rest = let q : Err i ≡ (Ok tt) = sym (off i b s p) ∙ e in let z : ◌≡◌ {A = ℕ} 0 1 = cc in let no : ⊥ = omega arith in absurd no
     go (suc k) p rest =
         let f = found table (b ∷ s) k p in
         let room : suc k ≤ suc (length s) = subst (λ (x : ℕ). x ≤ suc (length s)) p (width-le table (b ∷ s)) in
         let char : Char (take (suc k) (b ∷ s)) = row f.1 (subst (λ (x : ℕ). Fit f.0 (take x (b ∷ s))) f.3 (starts_fit f.0 (b ∷ s) f.2)) in
-        let left : scan 0 (i + 1 + k) (drop k s) ≡ Valid = sym (on i b k s p ∙ skip k (i + 1) s (le_of_suc-le-suc room)) ∙ e in
+        let left : scan 0 (i + 1 + k) (drop k s) ≡ (Ok tt) = sym (on i b k s p ∙ skip k (i + 1) s (le_of_suc-le-suc room)) ∙ e in
         subst Octets (take-append-drop (suc k) (b ∷ s)) (more char (rest (i + 1 + k) (drop k s) (omega (arith, length-drop k s, h)) left))
 
-pub valid : (s : List ℕ) → (check_of s ≡ Valid) ↔ Octets s
+pub valid : (s : List ℕ) → (check_of s ≡ (Ok tt)) ↔ Octets s
 unfolding check_of
 valid s = (sound (length s) 0 s (le_refl (length s)), λ o. complete o 0)
 
@@ -118,23 +118,23 @@ pub record First (i p : ℕ) (s : List ℕ) : Type 0 where
   pub before : Octets (take far s)
   pub nothing : width table (drop far s) ≡ 0
 
-first : (n i p : ℕ) (s : List ℕ) → length s ≤ n → scan 0 i s ≡ Bad p → First i p s
+first : (n i p : ℕ) (s : List ℕ) → length s ≤ n → scan 0 i s ≡ Err p → First i p s
 unfolding scan Found
 first zero i p [] h e = let z : ◌≡◌ {A = ℕ} 0 1 = cc in let no : ⊥ = omega arith in absurd no
 first zero i p (b ∷ s) h e = absurd (not-suc-le-zero h)
 first (suc n) i p [] h e = let z : ◌≡◌ {A = ℕ} 0 1 = cc in let no : ⊥ = omega arith in absurd no
 first (suc n) i p (b ∷ s) h e = go (width table (b ∷ s)) refl (λ j t g. first n j p t g)
   where
-    go : (w : ℕ) → width table (b ∷ s) ≡ w → ((j : ℕ) (t : List ℕ) → length t ≤ n → scan 0 j t ≡ Bad p → First j p t) → First i p (b ∷ s)
+    go : (w : ℕ) → width table (b ∷ s) ≡ w → ((j : ℕ) (t : List ℕ) → length t ≤ n → scan 0 j t ≡ Err p → First j p t) → First i p (b ∷ s)
     go zero q rest =
-        let same : Bad i ≡ Bad p = sym (off i b s q) ∙ e in
+        let same : Err i ≡ Err p = sym (off i b s q) ∙ e in
         let here : i ≡ p = cc in
         record { far = 0; place = omega arith; inside = omega arith; before = end; nothing = q }
     go (suc k) q rest =
         let f = found table (b ∷ s) k q in
         let room : suc k ≤ suc (length s) = subst (λ (x : ℕ). x ≤ suc (length s)) q (width-le table (b ∷ s)) in
         let char : Char (take (suc k) (b ∷ s)) = row f.1 (subst (λ (x : ℕ). Fit f.0 (take x (b ∷ s))) f.3 (starts_fit f.0 (b ∷ s) f.2)) in
-        let left : scan 0 (i + 1 + k) (drop k s) ≡ Bad p = sym (on i b k s q ∙ skip k (i + 1) s (le_of_suc-le-suc room)) ∙ e in
+        let left : scan 0 (i + 1 + k) (drop k s) ≡ Err p = sym (on i b k s q ∙ skip k (i + 1) s (le_of_suc-le-suc room)) ∙ e in
         let r = rest (i + 1 + k) (drop k s) (omega (arith, length-drop k s, h)) left in
         record {
           far = suc k + r.far;
@@ -149,7 +149,7 @@ no_char : (s c t : List ℕ) → width table s ≡ 0 → Char c → s ≡ c ++ t
 no_char s [] t w (row m f) e = empty m f
 no_char s (b ∷ c) t w (row m f) e = omega (arith, ap (λ (l : List ℕ). width table l) e, width_of t m f, w)
 
-first_bad : (s : List ℕ) (p : ℕ) → check_of s ≡ Bad p → FirstBad s p
+first_bad : (s : List ℕ) (p : ℕ) → check_of s ≡ Err p → FirstBad s p
 unfolding check_of
 first_bad s p e =
     let f = first (length s) 0 p s (le_refl (length s)) e in
@@ -161,9 +161,9 @@ first_bad s p e =
     }
 
 -- `Bad p` is the answer exactly where the first bad sequence starts at p
-pub bad : (s : List ℕ) (p : ℕ) → (check_of s ≡ Bad p) ↔ FirstBad s p
+pub bad : (s : List ℕ) (p : ℕ) → (check_of s ≡ Err p) ↔ FirstBad s p
 bad s p = (first_bad s p, λ f. back f (check_of s) refl)
   where
-    back : FirstBad s p → (a : Answer) → check_of s ≡ a → check_of s ≡ Bad p
-    back f Valid e = absurd (octets_never ((valid s).0 e) f)
-    back f (Bad q) e = e ∙ ap Bad (first_bad_one (first_bad s q e) f)
+    back : FirstBad s p → (a : Result Unit ℕ) → check_of s ≡ a → check_of s ≡ Err p
+    back f (Ok tt) e = absurd (octets_never ((valid s).0 e) f)
+    back f (Err q) e = e ∙ ap Err (first_bad_one (first_bad s q e) f)

@@ -6,13 +6,6 @@ ghost use Rattle.written.specs.Rfc3629.{◌⋯◌, tail, table};
 ghost use Rattle.text_utf8.specs.Widths.{starts, width};
 ghost use Rattle.text_utf8.specs.Check.{check_of};
 
-#[derive(Clone, Copy)]
-pub enum Answer {
-    Valid,
-    // the place where the first bad sequence starts
-    Bad(usize),
-}
-
 // Whether the byte at i is there, and from lo to hi.
 fn within(s: &[u8], i: usize, lo: u8, hi: u8) -> bool
     ensures { result ≡ starts ((lo ⋯ hi) ∷ []) (drop i s.now) }
@@ -78,16 +71,17 @@ fn width_at(s: &[u8], i: usize) -> usize
     }
 }
 
-pub fn check(s: &[u8]) -> Answer
+pub fn check(s: &[u8]) -> Result<(), usize>
     ensures { result ≡ check_of s.now }
 {
     let mut i = 0;
+    // No `for`: how far to go is what the bytes here say.
     while i < s.len() {
         let w = width_at(s, i);
         if w == 0 {
-            return Answer::Bad(i);
+            return Err(i);
         }
         i += w;
     }
-    Answer::Valid
+    Ok(())
 }

@@ -20,10 +20,8 @@ pub fn sum_on(sum: u32, s: &[u8], end: usize) -> u32
     ensures { result ≡ (sum + total (take end s.now)) % 2 ^ 32 }
 {
     let mut x = sum;
-    let mut i = 0;
-    while i < end {
-        x = std::num::wrapping_add_u32(x, wide(s[i]));
-        i = i + 1;
+    for &b in &s[..end] {
+        x = std::num::wrapping_add_u32(x, wide(b));
     }
     x
 }

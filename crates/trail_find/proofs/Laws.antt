@@ -7,16 +7,16 @@ use Prim.Native.Nat.{ℕ, zero, suc, ◌+◌, ◌-◌, ◌*◌, ◌≤◌, ◌<�
 use native.Mathlib.Omega.{arith}
 use borrow.Author.Tests.{eq-eqb, ne_eqb, lt-ltb, le-ltb}
 use lib.ListN.{length}
+use Rattle.std.specs.declared.option.Option.{Option}
 use Rattle.pdf_blocks.specs.Values.{word_at}
-use Rattle.link_search.specs.declared.Found.{Found}
-use Rattle.link_search.specs.declared.Found.TheVariants.{At, Nothing}
-use Rattle.trail_find.specs.Rows.{rows_to, trail_at, offsets_at, nth_of}
-use Rattle.trail_find.specs.declared.Trail.TheVariants.{Rows, Short, Elsewhere}
+use Rattle.trail_find.specs.Rows.{rows_from, rows_to, trail_at, offsets_at, nth_of}
+use Rattle.error.specs.declared.Refusal.TheVariants as refusal
+use Rattle.std.specs.Prelude.{Err, Some, None}
 
 -- ---- the last 12 bytes
 
 module _ (s : List ℕ) (n : ℕ) where
-  pub trail_short : n < 12 → Short ≡ trail_at s n
+  pub trail_short : n < 12 → Err refusal.NoTrailer ≡ trail_at s n
   unfolding trail_at
   trail_short h = rw (lt-ltb n 12 h)
 
@@ -24,14 +24,14 @@ module _ (s : List ℕ) (n : ℕ) where
     long : trail_at s n ≡ rows_to e c b
     unfolding trail_at
     long =
-        ap (λ (x : Bool). cond x Short (rows_to (length s - 12) (word_at s (length s - 12)) (word_at s (length s - 12 + 4)))) (le-ltb n 12 h)
+        ap (λ (x : Bool). cond x (Err refusal.NoTrailer) (rows_to (length s - 12) (word_at s (length s - 12)) (word_at s (length s - 12 + 4)))) (le-ltb n 12 h)
         ∙ ap (λ (e : ℕ). rows_to e (word_at s e) (word_at s (e + 4))) (sym d) ∙ ap₂ (λ (c b : ℕ). rows_to e c b) (sym p) (sym q)
 
-    pub trail_rows : b + 12 * c ≡ e → Rows b c ≡ trail_at s n
-    trail_rows f = ap (λ (x : Bool). cond x (Rows b c) Elsewhere) (sym (eq-eqb (b + 12 * c) e f)) ∙ sym long
+    pub trail_rows : b + 12 * c ≡ e → rows_from b c ≡ trail_at s n
+    trail_rows f = ap (λ (x : Bool). cond x (rows_from b c) (Err refusal.TrailerRows)) (sym (eq-eqb (b + 12 * c) e f)) ∙ sym long
 
-    pub trail_elsewhere : ¬ (b + 12 * c ≡ e) → Elsewhere ≡ trail_at s n
-    trail_elsewhere f = ap (λ (x : Bool). cond x (Rows b c) Elsewhere) (sym (ne_eqb (b + 12 * c) e f)) ∙ sym long
+    pub trail_elsewhere : ¬ (b + 12 * c ≡ e) → Err refusal.TrailerRows ≡ trail_at s n
+    trail_elsewhere f = ap (λ (x : Bool). cond x (rows_from b c) (Err refusal.TrailerRows)) (sym (ne_eqb (b + 12 * c) e f)) ∙ sym long
 
 -- ---- rows of a model
 
@@ -57,7 +57,7 @@ module _ (s : List ℕ) (m i : ℕ) where
   offsets_none zero h = refl
   offsets_none (suc n) h = absurd (omega arith)
 
-nth_first : (x : ℕ) (l : List ℕ) (k : ℕ) → k ≡ 0 → nth_of (x ∷ l) k ≡ At x
+nth_first : (x : ℕ) (l : List ℕ) (k : ℕ) → k ≡ 0 → nth_of (x ∷ l) k ≡ Some x
 unfolding nth_of
 nth_first x l k e = ap (nth_of (x ∷ l)) e
 
@@ -66,14 +66,14 @@ unfolding nth_of
 nth_later x l zero e = absurd (e refl)
 nth_later x l (suc k) e = let z : suc k - 1 ≡ k = omega arith in ap (nth_of l) (sym z)
 
-nth_none : (k : ℕ) → nth_of [] k ≡ Nothing
+nth_none : (k : ℕ) → nth_of [] k ≡ None
 unfolding nth_of
 nth_none k = refl
 
 -- the answer is unchanged: o, of k rows of the model before it
-module _ (s : List ℕ) (m i n k : ℕ) {o : Found} (e : nth_of (offsets_at s m i n) k ≡ o) where
-  pub found_here : 0 < n → {a b : ℕ} → a ≡ word_at s i → a ≡ m → k ≡ 0 → b ≡ word_at s (i + 4) → At b ≡ o
-  found_here h p q z r = ap At r ∙ sym (ap (λ (l : List ℕ). nth_of l k) (offsets_on s m i n h (sym p ∙ q)) ∙ nth_first (word_at s (i + 4)) (offsets_at s m (i + 12) (n - 1)) k z) ∙ e
+module _ (s : List ℕ) (m i n k : ℕ) {o : Option ℕ} (e : nth_of (offsets_at s m i n) k ≡ o) where
+  pub found_here : 0 < n → {a b : ℕ} → a ≡ word_at s i → a ≡ m → k ≡ 0 → b ≡ word_at s (i + 4) → Some b ≡ o
+  found_here h p q z r = ap Some r ∙ sym (ap (λ (l : List ℕ). nth_of l k) (offsets_on s m i n h (sym p ∙ q)) ∙ nth_first (word_at s (i + 4)) (offsets_at s m (i + 12) (n - 1)) k z) ∙ e
 
   -- this row is one of the model's, or it is not
   pub found_on : 0 < n → {a b : ℕ} → a ≡ word_at s i → ((a ≡ m) × ¬ (k ≡ 0) × (b ≡ k - 1)) ⊎ (¬ (a ≡ m) × (b ≡ k)) → nth_of (offsets_at s m (i + 12) (n - 1)) b ≡ o
@@ -83,7 +83,7 @@ module _ (s : List ℕ) (m i n k : ℕ) {o : Found} (e : nth_of (offsets_at s m 
   found_on h p (inr c) =
       ap (nth_of (offsets_at s m (i + 12) (n - 1))) c.1 ∙ sym (ap (λ (l : List ℕ). nth_of l k) (offsets_off s m i n h (λ q. c.0 (p ∙ q)))) ∙ e
 
-  pub found_none : n ≤ 0 → Nothing ≡ o
+  pub found_none : n ≤ 0 → None ≡ o
   found_none h = sym (ap (λ (l : List ℕ). nth_of l k) (offsets_none s m i n h) ∙ nth_none k) ∙ e
 
 module _ (s : List ℕ) (m i n k : ℕ) {t : ℕ} (e : k + length (offsets_at s m i n) ≡ t) where

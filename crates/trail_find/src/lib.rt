@@ -5,54 +5,49 @@
 ghost use Rattle.std.specs.Prelude.{◌≡◌, ◌+◌, ◌*◌, ◌≤◌, length};
 ghost use Rattle.trail_find.specs.Rows.{trail_at, offsets_at, nth_of};
 
-use link_search::Found;
+use error::Refusal;
 use pdf_blocks::word;
 
+// Where the rows of a trailer begin, and how many there are.
 #[derive(Clone, Copy)]
-pub enum Trail {
-    Rows { begin: usize, count: usize },
-    // 26: there are fewer than 12 data bytes
-    Short,
-    // 28: the rows don't end where the three numbers begin
-    Elsewhere,
+pub struct Trail {
+    pub begin: usize,
+    pub count: usize,
 }
 
-// What the last 12 bytes say, of a file that has so many bytes of data.
-pub fn find_trail(s: &[u8], len: usize) -> Trail
+// What the last 12 bytes say, of a file that has so many bytes of data: 26 where there are fewer than 12, 28 where the rows don't end where the three numbers begin.
+pub fn find_trail(s: &[u8], len: usize) -> Result<Trail, Refusal>
     requires { len ≤ length s.now }
     ensures { result ≡ trail_at s.now len }
 {
     if len < 12 {
-        return Trail::Short;
+        return Err(Refusal::NoTrailer);
     }
     let end = s.len() - 12;
     let count = word(s, end) as usize;
     let begin = word(s, end + 4) as usize;
     if begin + 12 * count == end {
-        return Trail::Rows { begin, count };
+        return Ok(Trail { begin, count });
     }
-    Trail::Elsewhere
+    Err(Refusal::TrailerRows)
 }
 
 // The offset in the k-th of a model's rows.
-pub fn find_offset(s: &[u8], begin: usize, count: usize, model: u64, k: u64) -> Found
+pub fn find_offset(s: &[u8], begin: usize, count: usize, model: u64, k: u64) -> Option<u64>
     requires { begin + 12 * count ≤ length s.now }
     ensures { result ≡ nth_of (offsets_at s.now model begin count) k }
 {
-    let mut i = begin;
-    let mut left = count;
     let mut before = k;
-    while 0 < left {
+    for row in 0..count {
+        let i = begin + 12 * row;
         if word(s, i) as u64 == model {
             if before == 0 {
-                return Found::At(word(s, i + 4) as u64);
+                return Some(word(s, i + 4) as u64);
             }
-            before = before - 1;
+            before -= 1;
         }
-        i = i + 12;
-        left = left - 1;
     }
-    Found::Nothing
+    None
 }
 
 // How many rows a model has.
@@ -60,15 +55,11 @@ pub fn count_offsets(s: &[u8], begin: usize, count: usize, model: u64) -> usize
     requires { begin + 12 * count ≤ length s.now }
     ensures { result ≡ length (offsets_at s.now model begin count) }
 {
-    let mut i = begin;
-    let mut left = count;
     let mut n = 0;
-    while 0 < left {
-        if word(s, i) as u64 == model {
-            n = n + 1;
+    for row in 0..count {
+        if word(s, begin + 12 * row) as u64 == model {
+            n += 1;
         }
-        i = i + 12;
-        left = left - 1;
     }
     n
 }

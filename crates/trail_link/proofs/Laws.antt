@@ -9,13 +9,15 @@ use lib.Seq.{sets, length-sets}
 use Rattle.tree_question.specs.Questions.{questions_at}
 use Rattle.tree_body.specs.Trees.{head_at}
 use Rattle.load_questions.specs.Words.{pattern_words}
-use Rattle.load_tree.specs.declared.Filled.{Filled}
 use Rattle.load_tree.specs.declared.TreeFill.{TreeFill}
 use Rattle.load_trees.specs.Trees.{all_linked, head_state, head_body, row_words, work_of, ended_at, TreeFilled}
-use Rattle.load_trees.specs.declared.Linked.{Linked}
 use Rattle.load_text.specs.Text.{name_index, words_at}
 use Rattle.load_text.proofs.Laws.{Asked, patterns_over, kept_done, kept_not}
 use Rattle.trail_link.specs.One.{Fits, one_result, one_end, one_row, OneLinked, OneFilled}
+use Rattle.load_tree.specs.declared.Filled.{Filled}
+use Rattle.error.specs.declared.LineFault.{LineFault}
+use Rattle.load_trees.specs.declared.TreeFault.{TreeFault}
+use Rattle.std.specs.Prelude.{Result, ⊤}
 
 pub asked_of : {s : List ℕ} {i f n q p t r w : ℕ} → Fits s i f n q p t r w → Asked s i n q p
 asked_of h = record { asked = h.asked; question_room = h.question_room; pattern_room = h.pattern_room }
@@ -26,11 +28,11 @@ module _ (s : List ℕ) (i f n k : ℕ) (t r : List ℕ) (w : List ℤ) {x : Lis
   own : TreeFilled s (words_at s i) (length (questions_at s i).items) (head_at s f) 0 0 t r w z t₁ r₁ w₁
   own = subst (λ (x : List ℕ). TreeFilled s x (length (questions_at s i).items) (head_at s f) 0 0 t r w z t₁ r₁ w₁) y (subst (λ (m : ℕ). TreeFilled s x m (head_at s f) 0 0 t r w z t₁ r₁ w₁) c e)
 
-  pub ended_as : {o : Linked} → o ≡ ended_at k z.filled → o ≡ one_end s i f k
+  pub ended_as : {o : Result ⊤ TreeFault} → o ≡ ended_at k z.filled → o ≡ one_end s i f k
   ended_as u = u ∙ ap (ended_at k) own.0.0
 
   pub row_as : t₁ ≡ sets t 0 (one_row s i f)
-  row_as = own.1 ∙ ap (λ (g : Filled). sets t 0 (row_words (head_state (head_at s f)) 0 g)) own.0.0
+  row_as = own.1 ∙ ap (λ (g : Result Filled LineFault). sets t 0 (row_words (head_state (head_at s f)) 0 g)) own.0.0
 
   pub records_as : r₁ ≡ sets r 0 (one_result s i f).rows
   records_as = own.0.2
@@ -39,7 +41,7 @@ module _ (s : List ℕ) (i f n k : ℕ) (t r : List ℕ) (w : List ℤ) {x : Lis
   work_as = e.0.3 ∙ ap₂ (λ (x : List ℕ) (m : ℕ). work_of s x m w (head_body s (head_at s f))) y d
 
 -- the two ways on from a linked tree: the patterns over the index, or zeros
-module _ (s : List ℕ) (i f n k : ℕ) (q p t r : List ℕ) (w : List ℤ) (fits : Fits s i f n (length q) (length p) (length t) (length r) (length w)) {o : Linked} {q₁ p₁ t₁ r₁ : List ℕ} {w₁ w₂ : List ℤ}
+module _ (s : List ℕ) (i f n k : ℕ) (q p t r : List ℕ) (w : List ℤ) (fits : Fits s i f n (length q) (length p) (length t) (length r) (length w)) {o : Result ⊤ TreeFault} {q₁ p₁ t₁ r₁ : List ℕ} {w₁ w₂ : List ℤ}
     (l : OneLinked s i f n k q p t r w o q₁ p₁ t₁ r₁ w₁) (long : length w₁ ≡ length w) (zero : w₂ ≡ replicate (length w₁) (pos 0)) {b : Bool} (told : b ≡ all_linked o) where
   work_zero : w₂ ≡ replicate (length w) (pos 0)
   work_zero = zero ∙ ap (λ (m : ℕ). replicate m (pos 0)) long

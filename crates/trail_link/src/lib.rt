@@ -7,7 +7,7 @@ ghost use Rattle.trail_link.specs.One.{Fits, OneLinked, OneFilled};
 
 use load_questions::{fill_all_patterns, fill_questions};
 use load_text::{index_names, zero_text};
-use load_trees::{Linked, all_linked, ended, fill_tree};
+use load_trees::{TreeFault, all_linked, ended, fill_tree};
 use table_put::zero_work;
 use table_rows::QUESTION_ROW;
 
@@ -23,7 +23,7 @@ fn link_one(
     trees: &mut [u64],
     records: &mut [u64],
     work: &mut [i64],
-) -> Linked
+) -> Result<(), TreeFault>
     requires { Fits s.now at star n (length questions.old) (length patterns.old) (length trees.old) (length records.old) (length work.old) }
     ensures { OneLinked s.now at star n k questions.old patterns.old trees.old records.old work.old result questions.new patterns.new trees.new records.new work.new }
 {
@@ -57,7 +57,7 @@ pub fn fill_one(
     trees: &mut [u64],
     records: &mut [u64],
     work: &mut [i64],
-) -> Linked
+) -> Result<(), TreeFault>
     requires { Fits s.now at star n (length questions.old) (length patterns.old) (length trees.old) (length records.old) (length work.old) }
     ensures { OneFilled s.now at star k questions.old patterns.old trees.old records.old work.old result questions.new patterns.new trees.new records.new work.new }
 {

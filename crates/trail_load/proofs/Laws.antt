@@ -19,15 +19,10 @@ use Rattle.pdf_values.specs.Folded.{with_blocks}
 use Rattle.load_choose.specs.declared.Which.{Which}
 use Rattle.load_questions.specs.Words.{pattern_words}
 use Rattle.load_trees.specs.Trees.{all_linked}
-use Rattle.load_trees.specs.declared.Linked.{Linked}
 use Rattle.load_text.specs.Text.{words_at, kept}
 use Rattle.load_text.proofs.Laws.{kept_done, kept_not}
 use Rattle.load_plan.specs.Plans.{data_of}
 use Rattle.load_plan.specs.declared.Plan.{Plan}
-use Rattle.load_plan.specs.declared.Planned.{Planned}
-use Rattle.load_plan.specs.declared.Planned.TheVariants as plan
-use Rattle.load_model.specs.declared.Loaded.{Loaded}
-use Rattle.load_model.specs.declared.Loaded.TheVariants as loaded
 use Rattle.load_model.specs.Load.{Tables, lent, room_for, answer_for, kept_trees, untouched, Is}
 use Rattle.load_model.proofs.Laws.{length_values, room_is, take_short, same_lent}
 use Rattle.load_apart.proofs.Tests.{stands_is}
@@ -38,6 +33,9 @@ use Rattle.load_bounds.proofs.Laws.{stands_at_lem}
 use Rattle.trail_link.specs.One.{Fits, one_result, one_end, one_row, OneFilled}
 use Rattle.trail_plan.specs.Plans.{tree_planned, SoundTree}
 use Rattle.trail_load.specs.Load.{ValueRoom, only_block, tree_filled, tree_placed_in, tree_beside_for, tree_beside, FillsTree, FillsOwnTree, LoadsTree}
+use Rattle.load_model.specs.declared.Loaded.{Loaded}
+use Rattle.load_trees.specs.declared.TreeFault.{TreeFault}
+use Rattle.std.specs.Prelude.{Err, Ok, Result, ⊤}
 
 -- ---- the values of one tree
 
@@ -86,7 +84,7 @@ module _ (d : List ℕ) (p : Plan) (s : SoundTree d p) (q a t r v w : ℕ) (h : 
 -- ---- each way through filling
 
 -- from the text's rows on: the values beside them, or zeros
-module _ (d : List ℕ) (k : ℕ) (p : Plan) (T : Tables) {S : List ℕ} {o : Linked} {l : Loaded} {q a t r : List ℕ} {w : List ℤ} (x : S ≡ take p.text_end d)
+module _ (d : List ℕ) (k : ℕ) (p : Plan) (T : Tables) {S : List ℕ} {o : Result ⊤ TreeFault} {l : Result Loaded Refusal} {q a t r : List ℕ} {w : List ℤ} (x : S ≡ take p.text_end d)
     (e : OneFilled S p.text p.first k T.questions T.patterns T.trees T.records T.work o q a t r w) (g : l ≡ answer_for p o) {b : Bool} (told : b ≡ all_linked o) where
   ends : o ≡ one_end (take p.text_end d) p.text p.first k
   ends = e.0 ∙ ap (λ (S : List ℕ). one_end S p.text p.first k) x
@@ -97,11 +95,11 @@ module _ (d : List ℕ) (k : ℕ) (p : Plan) (T : Tables) {S : List ℕ} {o : Li
   filled_is y f h = (
     g ∙ ap (answer_for p) ends,
     same_lent
-        (e.1 ∙ ap₂ (λ (o : Linked) (S : List ℕ). kept o T.questions (words_at S p.text)) ends x)
-        (e.2 ∙ ap₂ (λ (o : Linked) (S : List ℕ). kept o T.patterns (pattern_words (questions_at S p.text).items)) ends x)
-        (f ∙ ap₂ (λ (o : Linked) (S : List ℕ). kept_trees o T.trees (one_row S p.text p.first) (only_block p)) ends x)
-        (e.4 ∙ ap₂ (λ (o : Linked) (S : List ℕ). kept o T.records (one_result S p.text p.first).rows) ends x)
-        (h ∙ ap₂ (λ (o : Linked) (B : List ℕ). kept o T.values (values_at B p.block p.width p.entries)) ends y)
+        (e.1 ∙ ap₂ (λ (o : Result ⊤ TreeFault) (S : List ℕ). kept o T.questions (words_at S p.text)) ends x)
+        (e.2 ∙ ap₂ (λ (o : Result ⊤ TreeFault) (S : List ℕ). kept o T.patterns (pattern_words (questions_at S p.text).items)) ends x)
+        (f ∙ ap₂ (λ (o : Result ⊤ TreeFault) (S : List ℕ). kept_trees o T.trees (one_row S p.text p.first) (only_block p)) ends x)
+        (e.4 ∙ ap₂ (λ (o : Result ⊤ TreeFault) (S : List ℕ). kept o T.records (one_result S p.text p.first).rows) ends x)
+        (h ∙ ap₂ (λ (o : Result ⊤ TreeFault) (B : List ℕ). kept o T.values (values_at B p.block p.width p.entries)) ends y)
         e.5,
   )
 
@@ -126,15 +124,15 @@ module _ (d : List ℕ) (k : ℕ) (p : Plan) (T : Tables) {S : List ℕ} {o : Li
 -- ---- each way through a load
 
 module _ (x : Side) (s : List ℕ) (h : Header) (which : Which) (m k : ℕ) (other : Held) (T : Tables) where
-  pub load_refused : {z : Refusal} → plan.Refused z ≡ tree_planned s h which m k → LoadsTree x s h which m k other T (loaded.Refused z) T
+  pub load_refused : {z : Refusal} → Err z ≡ tree_planned s h which m k → LoadsTree x s h which m k other T (Err z) T
   unfolding tree_beside
-  load_refused {z} e = subst (λ (o : Planned). Is (tree_beside_for x other (data_of s h) k o T) (loaded.Refused z) T) e (refl, refl)
+  load_refused {z} e = subst (λ (o : Result Plan Refusal). Is (tree_beside_for x other (data_of s h) k o T) (Err z) T) e (refl, refl)
 
-  module _ (p : Plan) (e : plan.Model p ≡ tree_planned s h which m k) where
-    by_room : (b : Bool) → room_by p other T ≡ b → {l : Loaded} {T₁ : Tables} → Is (cond b (tree_placed_in x (data_of s h) k p T) (untouched refusal.Room T)) l T₁ → LoadsTree x s h which m k other T l T₁
+  module _ (p : Plan) (e : Ok p ≡ tree_planned s h which m k) where
+    by_room : (b : Bool) → room_by p other T ≡ b → {l : Result Loaded Refusal} {T₁ : Tables} → Is (cond b (tree_placed_in x (data_of s h) k p T) (untouched refusal.Room T)) l T₁ → LoadsTree x s h which m k other T l T₁
     unfolding tree_beside
     by_room b g {l} {T₁} z =
-        subst (λ (o : Planned). Is (tree_beside_for x other (data_of s h) k o T) l T₁) e (subst (λ (b : Bool). Is (cond b (tree_placed_in x (data_of s h) k p T) (untouched refusal.Room T)) l T₁) (sym g) z)
+        subst (λ (o : Result Plan Refusal). Is (tree_beside_for x other (data_of s h) k o T) l T₁) e (subst (λ (b : Bool). Is (cond b (tree_placed_in x (data_of s h) k p T) (untouched refusal.Room T)) l T₁) (sym g) z)
 
     -- the rows as the code judges them, of bounds that are the plan's need
     module _ (n : Bounds) {b : Bool} (i : held_of n ≡ need_of p)
@@ -144,13 +142,13 @@ module _ (x : Side) (s : List ℕ) (h : Header) (which : Which) (m k : ℕ) (oth
           sym (stands_at_lem (need_of p) other T.questions T.patterns T.trees T.records T.values)
           ∙ ap (λ (m : Held). stands_at m other (length T.questions) (length T.patterns) (length T.trees) (length T.records) (length T.values)) (sym i) ∙ sym j
 
-      pub load_no_rows : not b ≡ true → LoadsTree x s h which m k other T (loaded.Refused refusal.Room) T
+      pub load_no_rows : not b ≡ true → LoadsTree x s h which m k other T (Err refusal.Room) T
       load_no_rows f = by_room false (ap (λ (c : Bool). c && leb p.lines (length T.work / 6)) (rows_judged ∙ not-true b f)) (refl, refl)
 
-      pub load_no_lines : not b ≡ false → length T.work / 6 < p.lines → LoadsTree x s h which m k other T (loaded.Refused refusal.Room) T
+      pub load_no_lines : not b ≡ false → length T.work / 6 < p.lines → LoadsTree x s h which m k other T (Err refusal.Room) T
       load_no_lines f l = by_room false (ap (λ (c : Bool). c && leb p.lines (length T.work / 6)) (rows_judged ∙ not-false b f) ∙ lt-leb _ _ l) (refl, refl)
 
-      pub load_filled : not b ≡ false → p.lines ≤ length T.work / 6 → {d : List ℕ} {l : Loaded} {T₁ : Tables} → d ≡ data_of s h → FillsOwnTree x d k p T l T₁ → LoadsTree x s h which m k other T l T₁
+      pub load_filled : not b ≡ false → p.lines ≤ length T.work / 6 → {d : List ℕ} {l : Result Loaded Refusal} {T₁ : Tables} → d ≡ data_of s h → FillsOwnTree x d k p T l T₁ → LoadsTree x s h which m k other T l T₁
       load_filled f g {d} {l} {T₁} y z =
           by_room true (ap (λ (c : Bool). c && leb p.lines (length T.work / 6)) (rows_judged ∙ not-false b f) ∙ le-leb _ _ g) (subst (λ (d : List ℕ). FillsOwnTree x d k p T l T₁) y z)
 

@@ -1,6 +1,6 @@
 -- What the load of one tree through a trailer answers, and each lent slice after it, by the file's bytes, the record, the other task's bounds and the slices before it (02,
 -- Wishes 7, 9 and 10). Refusals up to 20, 24, 26 and 28 leave the slices as they were; 21 to 23 leave the rows needed zero, and all of the work.
-use Rattle.std.specs.Prelude.{cond, List, [], ◌∷◌, ℕ, ◌+◌, ◌*◌, ◌≤◌, pos, length, replicate, take}
+use Rattle.std.specs.Prelude.{cond, List, [], ◌∷◌, ℕ, ◌+◌, ◌*◌, ◌≤◌, pos, length, replicate, take, Err, Ok, Result, ⊤}
 use Rattle.written.specs.Blocks as written
 use Rattle.written.specs.Sharing.{Side, Held, seen}
 use Rattle.error.specs.declared.Refusal.TheVariants as refusal
@@ -10,17 +10,16 @@ use Rattle.pdf_blocks.specs.Values.{values_at}
 use Rattle.load_choose.specs.declared.Which.{Which}
 use Rattle.load_plan.specs.Plans.{data_of}
 use Rattle.load_plan.specs.declared.Plan.{Plan}
-use Rattle.load_plan.specs.declared.Planned.{Planned}
-use Rattle.load_plan.specs.declared.Planned.TheVariants as plan
 use Rattle.load_questions.specs.Words.{pattern_words}
-use Rattle.load_trees.specs.declared.Linked.{Linked}
 use Rattle.load_text.specs.Text.{words_at, kept}
-use Rattle.load_model.specs.declared.Loaded.{Loaded}
 use Rattle.load_model.specs.Load.{Tables, lent, After, answer_for, kept_trees, untouched, Is}
 use Rattle.load_shared.specs.Beside.{rows_of, with_work, put_back, room_by}
 use Rattle.load_bounds.specs.Bounds.{need_of}
 use Rattle.trail_link.specs.One.{one_result, one_end, one_row}
 use Rattle.trail_plan.specs.Plans.{tree_planned}
+use Rattle.load_model.specs.declared.Loaded.{Loaded}
+use Rattle.error.specs.declared.Refusal.{Refusal}
+use Rattle.load_trees.specs.declared.TreeFault.{TreeFault}
 
 -- what a tree finds in its row and among the values, in the bytes s
 pub record ValueRoom (s : List ℕ) (p : Plan) (trees values : ℕ) : Type 0 where
@@ -33,7 +32,7 @@ abbrev pub only_block : Plan → List written.Row
 only_block p = (record { first = 0; entries = p.entries }) ∷ []
 
 -- where linking ends so, with the text s from i on, the tree at f, and the values in b
-abbrev pub tree_filled_by : Plan → List ℕ → ℕ → ℕ → List ℕ → Linked → Tables → After
+abbrev pub tree_filled_by : Plan → List ℕ → ℕ → ℕ → List ℕ → Result ⊤ TreeFault → Tables → After
 tree_filled_by p s i f b e T =
     record {
       answer = answer_for p e;
@@ -51,9 +50,9 @@ tree_filled d k p =
 unfoldable pub tree_placed_in : Side → List ℕ → ℕ → Plan → Tables → After
 tree_placed_in x d k p T = put_back x p T (tree_filled d k p (with_work (seen x (need_of p) (rows_of T)) T.work))
 
-abbrev pub tree_beside_for : Side → Held → List ℕ → ℕ → Planned → Tables → After
-tree_beside_for x other d k (plan.Refused z) T = untouched z T
-tree_beside_for x other d k (plan.Model p) T = cond (room_by p other T) (tree_placed_in x d k p T) (untouched refusal.Room T)
+abbrev pub tree_beside_for : Side → Held → List ℕ → ℕ → Result Plan Refusal → Tables → After
+tree_beside_for x other d k (Err z) T = untouched z T
+tree_beside_for x other d k (Ok p) T = cond (room_by p other T) (tree_placed_in x d k p T) (untouched refusal.Room T)
 
 -- of a task that holds nothing: tree k of the model w, whose number in the rows is m
 unfoldable pub tree_beside : Side → List ℕ → Header → Which → ℕ → ℕ → Held → Tables → After
@@ -61,11 +60,11 @@ tree_beside x s h w m k other T = tree_beside_for x other (data_of s h) k (tree_
 
 -- ---- the contracts
 
-abbrev pub FillsTree : List ℕ → ℕ → Plan → Tables → Loaded → Tables → Type 0
+abbrev pub FillsTree : List ℕ → ℕ → Plan → Tables → Result Loaded Refusal → Tables → Type 0
 FillsTree d k p T = Is (tree_filled d k p T)
 
-abbrev pub FillsOwnTree : Side → List ℕ → ℕ → Plan → Tables → Loaded → Tables → Type 0
+abbrev pub FillsOwnTree : Side → List ℕ → ℕ → Plan → Tables → Result Loaded Refusal → Tables → Type 0
 FillsOwnTree x d k p T = Is (tree_placed_in x d k p T)
 
-abbrev pub LoadsTree : Side → List ℕ → Header → Which → ℕ → ℕ → Held → Tables → Loaded → Tables → Type 0
+abbrev pub LoadsTree : Side → List ℕ → Header → Which → ℕ → ℕ → Held → Tables → Result Loaded Refusal → Tables → Type 0
 LoadsTree x s h w m k other T = Is (tree_beside x s h w m k other T)

@@ -15,14 +15,14 @@ ghost use Rattle.trail_plan.specs.Plans.{SoundTree};
 ghost use Rattle.trail_load.specs.Load.{ValueRoom, only_block, FillsTree, FillsOwnTree, LoadsTree};
 
 use error::Refusal;
-use load_bounds::{Held, need, own_part, stand};
+use load_bounds::{Held, need, own_parts, stand};
 use load_choose::Which;
 use load_model::{Loaded, answer};
-use load_plan::{Plan, Planned, data_of};
+use load_plan::{Plan, data_of};
 use load_trees::all_linked;
 use pdf_values::fill_values;
 use table_put::{put_block, zero};
-use table_rows::{PATTERN_ROW, QUESTION_ROW, RECORD_ROW, TREE_ROW, WORK_A_LINE};
+use table_rows::WORK_A_LINE;
 use text_parts::up_to;
 use trail_link::fill_one;
 use trail_plan::tree_needs;
@@ -47,7 +47,7 @@ fn fill_tree(
     records: &mut [u64],
     values: &mut [u64],
     work: &mut [i64],
-) -> Loaded
+) -> Result<Loaded, Refusal>
     requires { SoundTree d.now p × (room_in p (lent questions.old patterns.old trees.old records.old values.old work.old) ≡ true) }
     ensures { FillsTree d.now k p (lent questions.old patterns.old trees.old records.old values.old work.old) result (lent questions.new patterns.new trees.new records.new values.new work.new) }
 {
@@ -84,35 +84,28 @@ fn fill_own(
     records: &mut [u64],
     values: &mut [u64],
     work: &mut [i64],
-) -> Loaded
+) -> Result<Loaded, Refusal>
     requires { SoundTree d.now p × Fits p (length questions.old) (length patterns.old) (length trees.old) (length records.old) (length values.old) (length work.old) }
     ensures { FillsOwnTree (side_of top) d.now k p (lent questions.old patterns.old trees.old records.old values.old work.old) result (lent questions.new patterns.new trees.new records.new values.new work.new) }
 {
-    let n = (p.entries * p.width) as usize;
-    let q = own_part(top, questions.len(), QUESTION_ROW, p.questions);
-    let q_from = q.from;
-    let q_to = q.to;
-    let a = own_part(top, patterns.len(), PATTERN_ROW, p.patterns);
-    let a_from = a.from;
-    let a_to = a.to;
-    let t = own_part(top, trees.len(), TREE_ROW, p.trees);
-    let t_from = t.from;
-    let t_to = t.to;
-    let r = own_part(top, records.len(), RECORD_ROW, p.records);
-    let r_from = r.from;
-    let r_to = r.to;
-    let v = own_part(top, values.len(), 1, n);
-    let v_from = v.from;
-    let v_to = v.to;
+    let own = own_parts(
+        top,
+        need(p),
+        questions.len(),
+        patterns.len(),
+        trees.len(),
+        records.len(),
+        values.len(),
+    );
     fill_tree(
         d,
         k,
         p,
-        &mut questions[q_from..q_to],
-        &mut patterns[a_from..a_to],
-        &mut trees[t_from..t_to],
-        &mut records[r_from..r_to],
-        &mut values[v_from..v_to],
+        &mut questions[own.questions.from..own.questions.to],
+        &mut patterns[own.patterns.from..own.patterns.to],
+        &mut trees[own.trees.from..own.trees.to],
+        &mut records[own.records.from..own.records.to],
+        &mut values[own.values.from..own.values.to],
         work,
     )
 }
@@ -132,39 +125,35 @@ pub fn load_tree(
     records: &mut [u64],
     values: &mut [u64],
     work: &mut [i64],
-) -> Loaded
+) -> Result<Loaded, Refusal>
     requires { 647 ≤ length words.now }
     ensures { LoadsTree (side_of top) file.now (header_at words.now) which model k (held_of other) (lent questions.old patterns.old trees.old records.old values.old work.old) result (lent questions.new patterns.new trees.new records.new values.new work.new) }
 {
-    match tree_needs(file, words, which, model, k) {
-        Planned::Refused(refusal) => Loaded::Refused(refusal),
-        Planned::Model(p) => {
-            if !stand(
-                need(p),
-                other,
-                questions.len(),
-                patterns.len(),
-                trees.len(),
-                records.len(),
-                values.len(),
-            ) {
-                return Loaded::Refused(Refusal::Room);
-            }
-            if work.len() / WORK_A_LINE < p.lines {
-                return Loaded::Refused(Refusal::Room);
-            }
-            fill_own(
-                data_of(file, words),
-                k as usize,
-                p,
-                top,
-                questions,
-                patterns,
-                trees,
-                records,
-                values,
-                work,
-            )
-        }
+    let p = tree_needs(file, words, which, model, k)?;
+    if !stand(
+        need(p),
+        other,
+        questions.len(),
+        patterns.len(),
+        trees.len(),
+        records.len(),
+        values.len(),
+    ) {
+        return Err(Refusal::Room);
     }
+    if work.len() / WORK_A_LINE < p.lines {
+        return Err(Refusal::Room);
+    }
+    fill_own(
+        data_of(file, words),
+        k as usize,
+        p,
+        top,
+        questions,
+        patterns,
+        trees,
+        records,
+        values,
+        work,
+    )
 }

@@ -1,7 +1,9 @@
 -- What one tree of a model needs, reached through the rows of a trailer, stage by stage (02, Wish 7): the record (16); the rows (26, 28); which model (13 to 15, 12); its
 -- tree text in its range (16); the tree's row (24); the questions and that tree alone in the grammar (17), its state not negative (18); the block in its range (16) and
 -- used up by as many trees as the model has rows (19). A plan of one tree is that of a model whose first tree is this one and whose block begins at its values.
-use Rattle.std.specs.Prelude.{◌≡◌, cond, List, ℕ, ◌+◌, ◌*◌, ◌≤◌, ◌<◌, length, take}
+use Rattle.tree_survey_questions.specs.declared.Questions.{Questions}
+use Rattle.text_parts.specs.declared.Read.{Read}
+use Rattle.std.specs.Prelude.{◌≡◌, cond, List, ℕ, ◌+◌, ◌*◌, ◌≤◌, ◌<◌, length, take, Err, None, Ok, Some, Option, Result}
 use Rattle.written.specs.Blocks.{total}
 use Rattle.laws.specs.Totals as totals
 use Rattle.error.specs.declared.Refusal.TheVariants as refusal
@@ -9,48 +11,37 @@ use Rattle.head_record.specs.declared.Header.{Header}
 use Rattle.head_record_fits.specs.Fits.{record_fits}
 use Rattle.tree_question.specs.Questions.{questions_at}
 use Rattle.tree_survey_questions.specs.Counts.{pattern_count, questions_counted}
-use Rattle.tree_survey_questions.specs.declared.Questions.{Questions}
-use Rattle.tree_survey_questions.specs.declared.Questions.TheVariants as questions
 use Rattle.tree_body.specs.Trees.{head_at, tree_step_at}
 use Rattle.tree_survey.specs.Survey.{body_records, body_lines, tree_surveyed}
 use Rattle.tree_survey.specs.declared.TreeSurvey.{TreeSurvey}
 use Rattle.tree_survey.specs.declared.TreeSurvey.TheVariants as tree
 use Rattle.pdf_blocks.specs.Values.{word_at, words_at, block_at}
-use Rattle.pdf_blocks.specs.declared.Block.{Block}
-use Rattle.pdf_blocks.specs.declared.Block.TheVariants as block
-use Rattle.link_search.specs.declared.Found.{Found}
-use Rattle.link_search.specs.declared.Found.TheVariants as found
 use Rattle.load_choose.specs.Chosen.{chosen_of}
 use Rattle.load_range.specs.Ranges.{within_of}
 use Rattle.load_choose.specs.declared.Which.{Which}
-use Rattle.load_choose.specs.declared.Chosen.{Chosen}
-use Rattle.load_choose.specs.declared.Chosen.TheVariants as chosen
-use Rattle.load_range.specs.declared.Bounds.{Bounds}
-use Rattle.load_range.specs.declared.Bounds.TheVariants as bounds
 use Rattle.load_questions.specs.Words.{Done}
 use Rattle.load_trees.specs.Trees.{head_body, Whole}
-use Rattle.load_plan.specs.Plans.{plan_for, data_of}
-use Rattle.load_plan.specs.declared.Text.{Text}
-use Rattle.load_plan.specs.declared.Text.TheVariants as text
+use Rattle.load_plan.specs.Plans.{read_as, plan_for, data_of}
 use Rattle.load_plan.specs.declared.Plan.{Plan}
-use Rattle.load_plan.specs.declared.Planned.{Planned}
-use Rattle.load_plan.specs.declared.Planned.TheVariants.{Model, Refused}
 use Rattle.trail_find.specs.Rows.{trail_at, offsets_at, nth_of}
+use Rattle.load_range.specs.declared.Bounds.{Bounds}
+use Rattle.load_choose.specs.declared.Chosen.{Chosen}
+use Rattle.error.specs.declared.Refusal.{Refusal}
+use Rattle.load_plan.specs.declared.Text.{Text}
 use Rattle.trail_find.specs.declared.Trail.{Trail}
-use Rattle.trail_find.specs.declared.Trail.TheVariants as trail
 
 -- ---- the questions from i on, and the tree at f
 
-abbrev pub tree_for : ℕ → ℕ → ℕ → TreeSurvey → Text
-tree_for f q p (tree.Next b r l j) = cond b (text.Refused refusal.State) (text.Read f q p 1 r l)
-tree_for f q p (tree.Last b r l) = cond b (text.Refused refusal.State) (text.Read f q p 1 r l)
-tree_for f q p (tree.Broken j) = text.Refused (refusal.Text j)
+abbrev pub tree_for : ℕ → ℕ → ℕ → TreeSurvey → Result Text Refusal
+tree_for f q p (tree.Next b r l j) = cond b (Err refusal.State) (read_as f q p 1 r l)
+tree_for f q p (tree.Last b r l) = cond b (Err refusal.State) (read_as f q p 1 r l)
+tree_for f q p (tree.Broken j) = Err (refusal.Text j)
 
-abbrev pub asked_for : List ℕ → ℕ → Questions → Text
-asked_for s f (questions.Counted q p j) = tree_for f q p (tree_surveyed (tree_step_at s f))
-asked_for s f (questions.Broken j) = text.Refused (refusal.Text j)
+abbrev pub asked_for : List ℕ → ℕ → Result (Read Questions) ℕ → Result Text Refusal
+asked_for s f (Ok r) = tree_for f r.value.questions r.value.patterns (tree_surveyed (tree_step_at s f))
+asked_for s f (Err j) = Err (refusal.Text j)
 
-unfoldable pub tree_text_of : List ℕ → ℕ → ℕ → Text
+unfoldable pub tree_text_of : List ℕ → ℕ → ℕ → Result Text Refusal
 tree_text_of s i f = asked_for s f (questions_counted 0 0 (questions_at s i))
 
 -- ---- the block
@@ -77,53 +68,52 @@ with_tree p v m =
 abbrev pub values_from : List ℕ → ℕ → ℕ → ℕ → ℕ → ℕ
 values_from s b w n k = b + 4 * n + 4 * (total (words_at s b k) * w)
 
-abbrev pub entries_for : List ℕ → Plan → ℕ → ℕ → Block → Planned
-entries_for s p n k (block.Fits e) = Model (with_tree p (values_from s p.block p.width n k) (word_at s (p.block + 4 * k)))
-entries_for s p n k block.Wrong = Refused refusal.Block
+abbrev pub entries_for : List ℕ → Plan → ℕ → ℕ → Option ℕ → Result Plan Refusal
+entries_for s p n k (Some e) = Ok (with_tree p (values_from s p.block p.width n k) (word_at s (p.block + 4 * k)))
+entries_for s p n k None = Err refusal.Block
 
-unfoldable pub entries_of : List ℕ → Plan → ℕ → ℕ → Planned
+unfoldable pub entries_of : List ℕ → Plan → ℕ → ℕ → Result Plan Refusal
 entries_of s p n k = entries_for s p n k (block_at n p.width s p.block)
 
-abbrev pub block_in : List ℕ → ℕ → ℕ → ℕ → ℕ → ℕ → ℕ → ℕ → ℕ → ℕ → ℕ → ℕ → Bounds → Planned
-block_in d a e f q p t r l w n k (bounds.Inside b c) = entries_of (take c d) (plan_for a e f q p t r l w b c) n k
-block_in d a e f q p t r l w n k bounds.Outside = Refused refusal.Range
+abbrev pub block_in : List ℕ → ℕ → ℕ → ℕ → ℕ → ℕ → ℕ → ℕ → ℕ → ℕ → ℕ → ℕ → Option Bounds → Result Plan Refusal
+block_in d a e f q p t r l w n k (Some b) = entries_of (take b.end d) (plan_for a e f q p t r l w b.start b.end) n k
+block_in d a e f q p t r l w n k None = Err refusal.Range
 
-abbrev pub block_of : List ℕ → ℕ → ℕ → Text → ℕ → ℕ → ℕ → ℕ → ℕ → Planned
-block_of d a e (text.Read f q p t r l) x y w n k = block_in d a e f q p t r l w n k (within_of x y (length d))
-block_of d a e (text.Refused r) x y w n k = Refused r
+abbrev pub block_of : List ℕ → ℕ → ℕ → Result Text Refusal → ℕ → ℕ → ℕ → ℕ → ℕ → Result Plan Refusal
+block_of d a e (Ok t) x y w n k = block_in d a e t.first t.questions t.patterns t.trees t.records t.lines w n k (within_of x y (length d))
+block_of d a e (Err r) x y w n k = Err r
 
 -- ---- the tree
 
 -- 24: the model has no such row
-abbrev pub row_in : List ℕ → ℕ → ℕ → ℕ → ℕ → ℕ → ℕ → ℕ → Found → Planned
-row_in d a e x y w n k (found.At f) = block_of d a e (tree_text_of (take e d) a f) x y w n k
-row_in d a e x y w n k found.Nothing = Refused refusal.WalkTable
+abbrev pub row_in : List ℕ → ℕ → ℕ → ℕ → ℕ → ℕ → ℕ → ℕ → Option ℕ → Result Plan Refusal
+row_in d a e x y w n k (Some f) = block_of d a e (tree_text_of (take e d) a f) x y w n k
+row_in d a e x y w n k None = Err refusal.WalkTable
 
-abbrev pub text_in : List ℕ → ℕ → ℕ → ℕ → ℕ → ℕ → Found → Bounds → Planned
-text_in d x y w n k o (bounds.Inside a e) = row_in d a e x y w n k o
-text_in d x y w n k o bounds.Outside = Refused refusal.Range
+abbrev pub text_in : List ℕ → ℕ → ℕ → ℕ → ℕ → ℕ → Option ℕ → Option Bounds → Result Plan Refusal
+text_in d x y w n k o (Some b) = row_in d b.start b.end x y w n k o
+text_in d x y w n k o None = Err refusal.Range
 
 -- where there is a k-th of n rows, k is below n
-pub record RowOf (n k : ℕ) (o : Found) : Type 0 where
-  pub inside : (f : ℕ) → o ≡ found.At f → k < n
+pub record RowOf (n k : ℕ) (o : Option ℕ) : Type 0 where
+  pub inside : (f : ℕ) → o ≡ Some f → k < n
 
 -- tree k of a model with n rows, whose k-th row, if there is one, is o
-unfoldable pub tree_of : List ℕ → ℕ → ℕ → ℕ → ℕ → ℕ → ℕ → ℕ → Found → Planned
+unfoldable pub tree_of : List ℕ → ℕ → ℕ → ℕ → ℕ → ℕ → ℕ → ℕ → Option ℕ → Result Plan Refusal
 tree_of d u v x y w n k o = text_in d x y w n k o (within_of u v (length d))
 
 -- by the offsets in the model's rows
-abbrev pub chosen_tree : List ℕ → List ℕ → ℕ → Chosen → Planned
-chosen_tree d os k (chosen.Model u v x y w) = tree_of d u v x y w (length os) k (nth_of os k)
-chosen_tree d os k (chosen.Refused r) = Refused r
+abbrev pub chosen_tree : List ℕ → List ℕ → ℕ → Result Chosen Refusal → Result Plan Refusal
+chosen_tree d os k (Ok m) = tree_of d m.tree_from m.tree_to m.pdf_from m.pdf_to m.width (length os) k (nth_of os k)
+chosen_tree d os k (Err r) = Err r
 
-abbrev pub trail_tree : List ℕ → Header → Which → ℕ → ℕ → Trail → Planned
-trail_tree s h w m k (trail.Rows b n) = chosen_tree (data_of s h) (offsets_at s m b n) k (chosen_of s h w)
-trail_tree s h w m k trail.Short = Refused refusal.NoTrailer
-trail_tree s h w m k trail.Elsewhere = Refused refusal.TrailerRows
+abbrev pub trail_tree : List ℕ → Header → Which → ℕ → ℕ → Result Trail Refusal → Result Plan Refusal
+trail_tree s h w m k (Ok t) = chosen_tree (data_of s h) (offsets_at s m t.begin t.count) k (chosen_of s h w)
+trail_tree s h w m k (Err r) = Err r
 
 -- tree k of the model w, whose number in rows is m
-unfoldable pub tree_planned : List ℕ → Header → Which → ℕ → ℕ → Planned
-tree_planned s h w m k = cond (record_fits (length s) h) (trail_tree s h w m k (trail_at s h.data_len)) (Refused refusal.Range)
+unfoldable pub tree_planned : List ℕ → Header → Which → ℕ → ℕ → Result Plan Refusal
+tree_planned s h w m k = cond (record_fits (length s) h) (trail_tree s h w m k (trail_at s h.data_len)) (Err refusal.Range)
 
 -- ---- what a plan of one tree in the data d says
 

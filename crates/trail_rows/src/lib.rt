@@ -19,7 +19,8 @@ use tree_survey::{TreeSurvey, survey_tree};
 // The bytes of a row.
 const ROW: usize = 12;
 
-// The lines of a tree's row, and where the next tree stands; or the text's last tree; or none that can be read.
+// The lines of a tree's row, and where the next tree stands; or the text's last tree; or none that can be read. The three steps of a reader, so that the loop
+// matches Next, Last and Broken: an Option in an Option would be no plainer.
 #[derive(Clone, Copy)]
 pub enum RowStep {
     Next { lines: u64, next: usize },
@@ -101,6 +102,7 @@ pub fn put_rows(s: &[u8], at: usize, model: u64, t: &mut [u8], from: usize)
 {
     let mut i = at;
     let mut k = from;
+    // No `for`: where the next tree stands is what the reader of this one answers.
     loop {
         match next_row(s, i) {
             RowStep::Next { lines, next } => {
@@ -126,6 +128,7 @@ pub fn same_rows(s: &[u8], at: usize, model: u64, file: &[u8], from: usize) -> b
 {
     let mut i = at;
     let mut k = from;
+    // No `for`: where the next tree stands is what the reader of this one answers.
     loop {
         match next_row(s, i) {
             RowStep::Next { lines, next } => {

@@ -14,26 +14,12 @@ ghost use Rattle.trail_voice.specs.Voice.{which_number, model_rows, voice_rows, 
 use error::Refusal;
 use load_choose::Which;
 use load_plan::data_of;
-use load_voice::{NextModel, VoiceText, model_text, next_model};
+use load_voice::{model_text, next_model};
 use text_parts::up_to;
 use trail_rows::{put_rows, same_rows};
 
 // The bytes of a row.
 const ROW: usize = 12;
-
-// The trees of all models; or why a text has none.
-#[derive(Clone, Copy)]
-pub enum VoiceTrees {
-    Trees(usize),
-    Refused(Refusal),
-}
-
-// Whether the rows of a model stand in a file, and the place behind them.
-#[derive(Clone, Copy)]
-enum Compared {
-    Same(usize),
-    Other,
-}
 
 // 0 duration, 2i + 1 stream i, 2i + 2 its GV; there are at most 8 streams.
 pub fn number_of(which: Which) -> u64
@@ -48,32 +34,22 @@ pub fn number_of(which: Which) -> u64
 }
 
 // Counts the trees of all models, duration first: 13 to 18 for the first text that is refused.
-pub fn count_trees(file: &[u8], words: &[u64]) -> VoiceTrees
+pub fn count_trees(file: &[u8], words: &[u64]) -> Result<usize, Refusal>
     requires { 647 ≤ length words.now }
     ensures { result ≡ voice_trees file.now (header_at words.now) (models_of file.now (header_at words.now)) 0 }
 {
     let mut which = Which::Duration;
     let mut n = 0;
+    // No `for`: the models of a record follow one another by `next_model`.
     loop {
-        match model_text(file, words, which) {
-            VoiceText::Refused(refusal) => {
-                return VoiceTrees::Refused(refusal);
-            }
-            VoiceText::Read {
-                text: _,
-                text_end: _,
-                first: _,
-                trees,
-            } => {
-                n = n + trees;
-            }
-        }
+        let text = model_text(file, words, which)?;
+        n = n + text.trees;
         match next_model(file, words, which) {
-            NextModel::Model(next) => {
+            Some(next) => {
                 which = next;
             }
-            NextModel::End => {
-                return VoiceTrees::Trees(n);
+            None => {
+                return Ok(n);
             }
         }
     }
@@ -87,16 +63,11 @@ fn put_model(file: &[u8], words: &[u64], which: Which, t: &mut [u8], k: usize) -
 {
     match model_text(file, words, which) {
         // never, where all texts were counted
-        VoiceText::Refused(_) => k,
-        VoiceText::Read {
-            text: _,
-            text_end,
-            first,
-            trees,
-        } => {
-            let s = up_to(data_of(file, words), text_end);
-            put_rows(s, first, number_of(which), t, k);
-            k + ROW * trees
+        Err(_) => k,
+        Ok(text) => {
+            let s = up_to(data_of(file, words), text.text_end);
+            put_rows(s, text.first, number_of(which), t, k);
+            k + ROW * text.trees
         }
     }
 }
@@ -110,39 +81,35 @@ pub fn put_voice(file: &[u8], words: &[u64], t: &mut [u8])
 {
     let mut which = Which::Duration;
     let mut k = 0;
+    // No `for`: the models of a record follow one another by `next_model`.
     loop {
         k = put_model(file, words, which, t, k);
         match next_model(file, words, which) {
-            NextModel::Model(next) => {
+            Some(next) => {
                 which = next;
             }
-            NextModel::End => {
+            None => {
                 return;
             }
         }
     }
 }
 
-// Whether the rows of a model stand in the file at k.
-fn same_model(file: &[u8], words: &[u64], which: Which, k: usize) -> Compared
+// The place behind the rows of a model, where they stand in the file at k.
+fn same_model(file: &[u8], words: &[u64], which: Which, k: usize) -> Option<usize>
     requires in_bounds { (647 ≤ length words.now) × (which_number which ≤ 16) }
     requires which_in_bounds { k + 4 * length (model_rows file.now (header_at words.now) which) ≤ length file.now }
     ensures { result ≡ compared_as (k + 4 * length (model_rows file.now (header_at words.now) which)) (same_words file.now k (model_rows file.now (header_at words.now) which)) }
 {
     match model_text(file, words, which) {
         // never, where all texts were counted
-        VoiceText::Refused(_) => Compared::Same(k),
-        VoiceText::Read {
-            text: _,
-            text_end,
-            first,
-            trees,
-        } => {
-            let s = up_to(data_of(file, words), text_end);
-            if same_rows(s, first, number_of(which), file, k) {
-                return Compared::Same(k + ROW * trees);
+        Err(_) => Some(k),
+        Ok(text) => {
+            let s = up_to(data_of(file, words), text.text_end);
+            if same_rows(s, text.first, number_of(which), file, k) {
+                return Some(k + ROW * text.trees);
             }
-            Compared::Other
+            None
         }
     }
 }
@@ -156,20 +123,21 @@ pub fn same_voice(file: &[u8], words: &[u64], from: usize) -> bool
 {
     let mut which = Which::Duration;
     let mut k = from;
+    // No `for`: the models of a record follow one another by `next_model`.
     loop {
         match same_model(file, words, which, k) {
-            Compared::Same(next) => {
+            Some(next) => {
                 k = next;
             }
-            Compared::Other => {
+            None => {
                 return false;
             }
         }
         match next_model(file, words, which) {
-            NextModel::Model(next) => {
+            Some(next) => {
                 which = next;
             }
-            NextModel::End => {
+            None => {
                 return true;
             }
         }

@@ -9,6 +9,11 @@ use borrow.Author.Tests.{lt-ltb, eq-eqb, ne_eqb, eqb-true}
 use lib.Dec.{ltb, eqb}
 use lib.IntN.{ℤ}
 use lib.ListN.{length}
+use Rattle.tree_reference.specs.declared.TreeIndex.{TreeIndex}
+use Rattle.text_parts.specs.declared.Read.{Read}
+use Rattle.text_parts.specs.Parts.{read_to}
+use Rattle.std.specs.declared.option.Option.{Option}
+use Rattle.std.specs.Prelude.{Some, None}
 use Rattle.written.specs.Bytes.{bracket, unbracket, brace, unbrace, blank, Span}
 use Rattle.written.specs.Said as says
 use Rattle.written.specs.TreeText.{Parted, Word, Byte, byte, end, star, Run, Parting, Number, Reference, LineParting, LineAt, BodyAt, one, none, lines, TreeAt, tree, TreesAt, trees}
@@ -20,16 +25,10 @@ use Rattle.laws.proofs.Runs.{byte_in}
 use Rattle.laws.proofs.Parted.{Stood, Reads, parted_read, read_parted}
 use Rattle.laws.proofs.Stops.{run-stop, run_is}
 use Rattle.text_spaces.specs.Spaces.{past_byte, then_byte, close_at, parting_at}
-use Rattle.text_spaces.specs.declared.Place.{Place}
-use Rattle.text_spaces.specs.declared.Place.TheVariants.{At, Nowhere}
 use Rattle.text_spaces.proofs.Joined.{no_blank, clash, byte_past, past_byte_lem, parting_found, found_parting, close_found, found_close, parting_inside}
 use Rattle.text_numbers.specs.Answers.{signed_at}
-use Rattle.text_numbers.specs.declared.Signed.{Signed}
-use Rattle.text_numbers.specs.declared.Signed.TheVariants as signed
 use Rattle.text_numbers.proofs.Joined.{number_signed, signed_number}
 use Rattle.tree_reference.specs.References.{reference_at}
-use Rattle.tree_reference.specs.declared.Reference.{Reference as Answer}
-use Rattle.tree_reference.specs.declared.Reference.TheVariants as reference
 use Rattle.tree_reference.proofs.Joined.{reference_found, found_reference}
 use Rattle.tree_line.specs.Lines.{lines_at}
 use Rattle.tree_line.proofs.Joined.{lines_read, read_lines}
@@ -41,24 +40,24 @@ use Rattle.tree_body.specs.declared.TreeStep.TheVariants.{Next, End, Broken}
 module _ (s : List ℕ) where
   -- ---- {*} and [state]
 
-  star_past : {i a : ℕ} → Word s star i a → past_star s i ≡ At a
+  star_past : {i a : ℕ} → Word s star i a → past_star s i ≡ Some a
   unfolding past_star
   star_past (byte p (byte q t)) = ap (λ w. then_byte unbrace s (then_byte 42 s w)) (byte_past (byte p end)) ∙ ap (then_byte unbrace s) (byte_past (byte q end)) ∙ byte_past t
 
-  past_star_lem : (i a : ℕ) → past_star s i ≡ At a → Word s star i a
+  past_star_lem : (i a : ℕ) → past_star s i ≡ Some a → Word s star i a
   unfolding past_star
   past_star_lem i a e = go (past_byte brace s i) refl e
     where
       join : {k m : ℕ} → Byte s brace i k → Byte s 42 k m → Byte s unbrace m a → Word s star i a
       join (byte p end) (byte q end) t = byte p (byte q t)
 
-      go : (p : Place) → past_byte brace s i ≡ p → then_byte unbrace s (then_byte 42 s p) ≡ At a → Word s star i a
-      go (At k) q h = second (past_byte 42 s k) refl h
+      go : (p : Option ℕ) → past_byte brace s i ≡ p → then_byte unbrace s (then_byte 42 s p) ≡ Some a → Word s star i a
+      go (Some k) q h = second (past_byte 42 s k) refl h
         where
-          second : (p : Place) → past_byte 42 s k ≡ p → then_byte unbrace s p ≡ At a → Word s star i a
-          second (At m) r h = join (past_byte_lem brace i k s q) (past_byte_lem 42 k m s r) (past_byte_lem unbrace m a s h)
-          second Nowhere r h = clash (cc)
-      go Nowhere q h = clash (cc)
+          second : (p : Option ℕ) → past_byte 42 s k ≡ p → then_byte unbrace s p ≡ Some a → Word s star i a
+          second (Some m) r h = join (past_byte_lem brace i k s q) (past_byte_lem 42 k m s r) (past_byte_lem unbrace m a s h)
+          second None r h = clash (cc)
+      go None q h = clash (cc)
 
   -- {*}, blanks, [x], blanks up to f
   pub record Stated (i f : ℕ) (x : ℤ) : Type 0 where
@@ -74,7 +73,7 @@ module _ (s : List ℕ) where
     pub closed : Byte s unbracket numbered shut
     pub behind_state : Run s blank shut f
 
-  pub state_found : {i f : ℕ} {x : ℤ} → Stated i f x → state_at s i ≡ signed.Number x f
+  pub state_found : {i f : ℕ} {x : ℤ} → Stated i f x → state_at s i ≡ Some (read_to x f)
   unfolding state_at number_at
   state_found {x = x} t =
       ap (state_starred s) (star_past t.word)
@@ -82,58 +81,58 @@ module _ (s : List ℕ) where
       ∙ ap (state_opened s) (byte_past t.opened)
       ∙ ap (number_read s) (number_signed t.state)
       ∙ ap (number_closed s x) (byte_past t.closed)
-      ∙ ap (signed.Number x) (run-stop blank no_blank s t.behind_state)
+      ∙ ap (λ (k : ℕ). Some (read_to x k)) (run-stop blank no_blank s t.behind_state)
 
-  pub found_state : (i f : ℕ) (x : ℤ) → state_at s i ≡ signed.Number x f → Stated i f x
+  pub found_state : (i f : ℕ) (x : ℤ) → state_at s i ≡ Some (read_to x f) → Stated i f x
   unfolding state_at number_at
   found_state i f x h = go (past_star s i) refl h
     where
-      go : (p : Place) → past_star s i ≡ p → state_starred s p ≡ signed.Number x f → Stated i f x
-      go (At a) p h = open_at (past_byte bracket s (stop blank s a)) refl h
+      go : (p : Option ℕ) → past_star s i ≡ p → state_starred s p ≡ Some (read_to x f) → Stated i f x
+      go (Some a) p h = open_at (past_byte bracket s (stop blank s a)) refl h
         where
-          open_at : (t : Place) → past_byte bracket s (stop blank s a) ≡ t → state_opened s t ≡ signed.Number x f → Stated i f x
-          open_at (At c) q h = counted (signed_at s c) refl h
+          open_at : (t : Option ℕ) → past_byte bracket s (stop blank s a) ≡ t → state_opened s t ≡ Some (read_to x f) → Stated i f x
+          open_at (Some c) q h = counted (signed_at s c) refl h
             where
-              counted : (t : Signed) → signed_at s c ≡ t → number_read s t ≡ signed.Number x f → Stated i f x
-              counted (signed.Number y d) r h = shut_at (past_byte unbracket s d) refl h
+              counted : (t : Option (Read ℤ)) → signed_at s c ≡ t → number_read s t ≡ Some (read_to x f) → Stated i f x
+              counted (Some o) r h = shut_at (past_byte unbracket s o.next) refl h
                 where
-                  shut_at : (t : Place) → past_byte unbracket s d ≡ t → number_closed s y t ≡ signed.Number x f → Stated i f x
-                  shut_at (At e) u h =
-                      let v : y ≡ x = cc in
-                      let w : stop blank s e ≡ f = cc in
+                  shut_at : (t : Option ℕ) → past_byte unbracket s o.next ≡ t → number_closed s o.value t ≡ Some (read_to x f) → Stated i f x
+                  shut_at (Some e) u h =
+                      let v : o.value ≡ x = grind arith in
+                      let w : stop blank s e ≡ f = grind arith in
                       record {
                         starred = a;
                         opens = stop blank s a;
                         inside = c;
-                        numbered = d;
+                        numbered = o.next;
                         shut = e;
                         word = past_star_lem i a p;
                         before_state = run_is blank no_blank s a;
                         opened = past_byte_lem bracket (stop blank s a) c s q;
-                        state = signed_number s c d x (r ∙ ap (λ z. signed.Number z d) v);
-                        closed = past_byte_lem unbracket d e s u;
+                        state = signed_number s c o.next x (r ∙ ap (λ z. Some (read_to z o.next)) v);
+                        closed = past_byte_lem unbracket o.next e s u;
                         behind_state = subst (Run s blank e) w (run_is blank no_blank s e);
                       }
-                  shut_at Nowhere u h = clash (cc)
-              counted signed.NoNumber r h = clash (cc)
-          open_at Nowhere q h = clash (cc)
-      go Nowhere p h = clash (cc)
+                  shut_at None u h = clash (cc)
+              counted None r h = clash (cc)
+          open_at None q h = clash (cc)
+      go None p h = clash (cc)
 
   -- ---- the body
 
-  no_brace : {f j : ℕ} {r : says.Ref} → Reference s f j r → past_byte brace s f ≡ Nowhere
+  no_brace : {f j : ℕ} {r : says.Ref} → Reference s f j r → past_byte brace s f ≡ None
   no_brace {f} t = go (past_byte brace s f) refl
     where
-      go : (p : Place) → past_byte brace s f ≡ p → past_byte brace s f ≡ Nowhere
-      go (At k) e = absurd (reference_not t refl (word_first (past_byte_lem brace f k s e)))
-      go Nowhere e = e
+      go : (p : Option ℕ) → past_byte brace s f ≡ p → past_byte brace s f ≡ None
+      go (Some k) e = absurd (reference_not t refl (word_first (past_byte_lem brace f k s e)))
+      go None e = e
 
-  not_closed : {a b c : ℕ} {ls : List says.Line} {ws : List Span} → Run s blank a b → Parted (LineParting s) (LineAt s) b c ls ws → close_at s a ≡ Nowhere
+  not_closed : {a b c : ℕ} {ls : List says.Line} {ws : List Span} → Run s blank a b → Parted (LineParting s) (LineAt s) b c ls ws → close_at s a ≡ None
   not_closed {a} {b} r p = go (close_at s a) refl
     where
-      go : (t : Place) → close_at s a ≡ t → close_at s a ≡ Nowhere
-      go (At k) e = let c = found_close s a k e in absurd (line_not (head p).3 (run_once r c.blanks refl) (word_first c.shut))
-      go Nowhere e = e
+      go : (t : Option ℕ) → close_at s a ≡ t → close_at s a ≡ None
+      go (Some k) e = let c = found_close s a k e in absurd (line_not (head p).3 (run_once r c.blanks refl) (word_first c.shut))
+      go None e = e
 
   -- the step at i, whose state x is read and whose body stands at f
   at_body : {i f : ℕ} {x : ℤ} → Stated i f x → tree_step_at s i ≡ tree_headed s i (body_at s f x)
@@ -182,31 +181,31 @@ module _ (s : List ℕ) where
   unfolding tree_step_at head_at body_at zip_with
   read_tree i z h no-break = go (state_at s i) refl h
     where
-      go : (t : Signed) → state_at s i ≡ t → tree_headed s i (head_read s t) ≡ z → Grown i z
-      go (signed.Number x f) p h = body (past_byte brace s f) refl h
+      go : (t : Option (Read ℤ)) → state_at s i ≡ t → tree_headed s i (head_read s t) ≡ z → Grown i z
+      go (Some y) p h = body (past_byte brace s y.next) refl h
         where
-          d : Stated i f x
-          d = found_state i f x p
+          d : Stated i y.next y.value
+          d = found_state i y.next y.value p
 
-          body : (t : Place) → past_byte brace s f ≡ t → tree_headed s i (body_read s f x t) ≡ z → Grown i z
-          body (At a) q h = inner (close_at s a) refl h
+          body : (t : Option ℕ) → past_byte brace s y.next ≡ t → tree_headed s i (body_read s y.next y.value t) ≡ z → Grown i z
+          body (Some a) q h = inner (close_at s a) refl h
             where
-              inner : (t : Place) → close_at s a ≡ t → tree_headed s i (braces_read s a x t) ≡ z → Grown i z
-              inner (At e) r h = let c = found_close s a e r in grown z d (none (past_byte_lem brace f a s q) c.blanks c.shut) refl h
-              inner Nowhere r h = within (lines_at s (stop blank s a)).ending refl h
+              inner : (t : Option ℕ) → close_at s a ≡ t → tree_headed s i (braces_read s a y.value t) ≡ z → Grown i z
+              inner (Some e) r h = let c = found_close s a e r in grown z d (none (past_byte_lem brace y.next a s q) c.blanks c.shut) refl h
+              inner None r h = within (lines_at s (stop blank s a)).ending refl h
                 where
-                  within : (e : Ending) → (lines_at s (stop blank s a)).ending ≡ e → tree_read s i x (lines_at s (stop blank s a)).items e ≡ z → Grown i z
+                  within : (e : Ending) → (lines_at s (stop blank s a)).ending ≡ e → tree_read s i y.value (lines_at s (stop blank s a)).items e ≡ z → Grown i z
                   within (done_at e) u h =
                       let k = read_lines s (stop blank s a) e u in
                       let c = k.closed in
-                      grown z d (lines (past_byte_lem brace f a s q) (run_is blank no_blank s a) k.items c.blanks c.shut) (ap braces k.is) h
+                      grown z d (lines (past_byte_lem brace y.next a s q) (run_is blank no_blank s a) k.items c.blanks c.shut) (ap braces k.is) h
                   within (broken_at e) u h = absurd (no-break (sym h))
-          body Nowhere q h = alone (reference_at s f) refl h
+          body None q h = alone (reference_at s y.next) refl h
             where
-              alone : (t : Answer) → reference_at s f ≡ t → tree_headed s i (lone_read x t) ≡ z → Grown i z
-              alone (reference.Found r e) u h = let k = found_reference s f e r u in grown {ws = []} z d (one k.says) (ap lone k.is) h
-              alone reference.NoReference u h = absurd (no-break (sym h))
-      go signed.NoNumber p h = absurd (no-break (sym h))
+              alone : (t : Option (Read TreeIndex)) → reference_at s y.next ≡ t → tree_headed s i (lone_read y.value t) ≡ z → Grown i z
+              alone (Some q) u h = let k = found_reference s y.next q.next q.value u in grown {ws = []} z d (one k.says) (ap lone k.is) h
+              alone None u h = absurd (no-break (sym h))
+      go None p h = absurd (no-break (sym h))
 
   -- ---- the trees of a text
 
@@ -232,27 +231,27 @@ module _ (s : List ℕ) where
   unfolding after_tree
   after_next a b h = go (eqb (stop blank s a) (length s)) (parting_at s a) refl h
     where
-      go : (c : Bool) (p : Place) → parting_at s a ≡ p → cond c End (tree_parted s (stop blank s a) p) ≡ Next b → Parting s a b
+      go : (c : Bool) (p : Option ℕ) → parting_at s a ≡ p → cond c End (tree_parted s (stop blank s a) p) ≡ Next b → Parting s a b
       go true p q h = clash (cc)
-      go false (At k) q h = pick (ltb k (length s)) h
+      go false (Some k) q h = pick (ltb k (length s)) h
         where
           pick : (c : Bool) → cond c (Next k) (Broken (stop blank s a)) ≡ Next b → Parting s a b
-          pick true h = let w : k ≡ b = cc in found_parting s a b (q ∙ ap At w)
+          pick true h = let w : k ≡ b = cc in found_parting s a b (q ∙ ap Some w)
           pick false h = clash (cc)
-      go false Nowhere q h = clash (cc)
+      go false None q h = clash (cc)
 
   after_end : (a : ℕ) → after_tree s a ≡ End → Ended a (length s)
   unfolding after_tree
   after_end a h = go (eqb (stop blank s a) (length s)) refl (parting_at s a) h
     where
-      go : (c : Bool) → eqb (stop blank s a) (length s) ≡ c → (p : Place) → cond c End (tree_parted s (stop blank s a) p) ≡ End → Ended a (length s)
+      go : (c : Bool) → eqb (stop blank s a) (length s) ≡ c → (p : Option ℕ) → cond c End (tree_parted s (stop blank s a) p) ≡ End → Ended a (length s)
       go true e p h = record { blanks = subst (Run s blank a) (eqb-true _ _ e) (run_is blank no_blank s a); at_length = refl }
-      go false e (At k) h = pick (ltb k (length s)) h
+      go false e (Some k) h = pick (ltb k (length s)) h
         where
           pick : (c : Bool) → cond c (Next k) (Broken (stop blank s a)) ≡ End → Ended a (length s)
           pick true h = clash (cc)
           pick false h = clash (cc)
-      go false e Nowhere h = clash (cc)
+      go false e None h = clash (cc)
 
   pub reads : Reads (Parting s) (TreeAt s) Ended tree_of (length s) (tree_step_at s)
   reads = record { on = on; done = done; was_on = was_on; was_done = was_done; moves = λ t p. (omega (arith, tree_le s t, parting_lt s p), parting_inside s p) }

@@ -1,20 +1,17 @@
 -- What the readers of this crate answer, on the list of bytes and the place; the trees of a text as a list; what a tree of `written` is in code.
-use Rattle.std.specs.Prelude.{cond, ℕ, ltb, eqb, ℤ, length}
+use Rattle.text_parts.specs.declared.Read.{Read}
+use Rattle.text_parts.specs.Parts.{read_to}
+use Rattle.std.specs.declared.option.Option.{Option}
+use Rattle.std.specs.Prelude.{cond, ℕ, ltb, eqb, ℤ, length, Some, None}
 use mathlib.Core.List.{List, [], zip_with}
 use Rattle.written.specs.Bytes.{bracket, unbracket, brace, unbrace, blank, Span}
 use Rattle.written.specs.Said as said
 use Rattle.laws.specs.Runs.{stop}
 use Rattle.laws.specs.Steps.{Ending, done_at, broken_at, Step, next, last, broken, Reading, read}
 use Rattle.text_spaces.specs.Spaces.{past_byte, then_byte, close_at, parting_at}
-use Rattle.text_spaces.specs.declared.Place.{Place}
-use Rattle.text_spaces.specs.declared.Place.TheVariants.{At, Nowhere}
 use Rattle.text_numbers.specs.Answers.{signed_at}
-use Rattle.text_numbers.specs.declared.Signed.{Signed}
-use Rattle.text_numbers.specs.declared.Signed.TheVariants as signed
 use Rattle.tree_reference.specs.References.{index_of, reference_at}
 use Rattle.tree_reference.specs.declared.TreeIndex.{TreeIndex}
-use Rattle.tree_reference.specs.declared.Reference.{Reference}
-use Rattle.tree_reference.specs.declared.Reference.TheVariants as reference
 use Rattle.tree_line.specs.Lines.{line_of, lines_at}
 use Rattle.tree_line.specs.declared.Line.{Line}
 use Rattle.tree_body.specs.declared.TreeHead.{TreeHead}
@@ -48,54 +45,54 @@ tree_of t u = record { star = u.star; state = t.state; body = body_of t.body u.n
 -- ---- {*}, [state]
 
 -- the place past {*}
-unfoldable pub past_star : List ℕ → ℕ → Place
+unfoldable pub past_star : List ℕ → ℕ → Option ℕ
 past_star s i = then_byte unbrace s (then_byte 42 s (past_byte brace s i))
 
-abbrev pub number_closed : List ℕ → ℤ → Place → Signed
-number_closed s x (At i) = signed.Number x (stop blank s i)
-number_closed s x Nowhere = signed.NoNumber
+abbrev pub number_closed : List ℕ → ℤ → Option ℕ → Option (Read ℤ)
+number_closed s x (Some i) = Some (read_to x (stop blank s i))
+number_closed s x None = None
 
-abbrev pub number_read : List ℕ → Signed → Signed
-number_read s (signed.Number x i) = number_closed s x (past_byte unbracket s i)
-number_read s signed.NoNumber = signed.NoNumber
+abbrev pub number_read : List ℕ → Option (Read ℤ) → Option (Read ℤ)
+number_read s (Some r) = number_closed s r.value (past_byte unbracket s r.next)
+number_read s None = None
 
 -- a number, ], blanks
-unfoldable pub number_at : List ℕ → ℕ → Signed
+unfoldable pub number_at : List ℕ → ℕ → Option (Read ℤ)
 number_at s i = number_read s (signed_at s i)
 
-abbrev pub state_opened : List ℕ → Place → Signed
-state_opened s (At i) = number_at s i
-state_opened s Nowhere = signed.NoNumber
+abbrev pub state_opened : List ℕ → Option ℕ → Option (Read ℤ)
+state_opened s (Some i) = number_at s i
+state_opened s None = None
 
-abbrev pub state_starred : List ℕ → Place → Signed
-state_starred s (At i) = state_opened s (past_byte bracket s (stop blank s i))
-state_starred s Nowhere = signed.NoNumber
+abbrev pub state_starred : List ℕ → Option ℕ → Option (Read ℤ)
+state_starred s (Some i) = state_opened s (past_byte bracket s (stop blank s i))
+state_starred s None = None
 
 -- {*}, blanks, [state], blanks
-unfoldable pub state_at : List ℕ → ℕ → Signed
+unfoldable pub state_at : List ℕ → ℕ → Option (Read ℤ)
 state_at s i = state_starred s (past_star s i)
 
 -- ---- the body
 
-abbrev pub lone_read : ℤ → Reference → TreeHead
-lone_read x (reference.Found r i) = Lone x r i
-lone_read x reference.NoReference = NoTree
+abbrev pub lone_read : ℤ → Option (Read TreeIndex) → TreeHead
+lone_read x (Some q) = Lone x q.value q.next
+lone_read x None = NoTree
 
 -- braces from i on: blanks and }, or a line after blanks
-abbrev pub braces_read : List ℕ → ℕ → ℤ → Place → TreeHead
-braces_read s i x (At j) = Empty x j
-braces_read s i x Nowhere = Lines x (stop blank s i)
+abbrev pub braces_read : List ℕ → ℕ → ℤ → Option ℕ → TreeHead
+braces_read s i x (Some j) = Empty x j
+braces_read s i x None = Lines x (stop blank s i)
 
-abbrev pub body_read : List ℕ → ℕ → ℤ → Place → TreeHead
-body_read s i x (At j) = braces_read s j x (close_at s j)
-body_read s i x Nowhere = lone_read x (reference_at s i)
+abbrev pub body_read : List ℕ → ℕ → ℤ → Option ℕ → TreeHead
+body_read s i x (Some j) = braces_read s j x (close_at s j)
+body_read s i x None = lone_read x (reference_at s i)
 
 unfoldable pub body_at : List ℕ → ℕ → ℤ → TreeHead
 body_at s i x = body_read s i x (past_byte brace s i)
 
-abbrev pub head_read : List ℕ → Signed → TreeHead
-head_read s (signed.Number x i) = body_at s i x
-head_read s signed.NoNumber = NoTree
+abbrev pub head_read : List ℕ → Option (Read ℤ) → TreeHead
+head_read s (Some r) = body_at s r.next r.value
+head_read s None = NoTree
 
 -- a tree, up to the end of its body or to its first line
 unfoldable pub head_at : List ℕ → ℕ → TreeHead
@@ -104,9 +101,9 @@ head_at s i = head_read s (state_at s i)
 -- ---- what follows a tree
 
 -- the tree ends at e, and the first byte after it that is no blank stands at p
-abbrev pub tree_parted : List ℕ → ℕ → Place → TreeStep
-tree_parted s p (At i) = cond (ltb i (length s)) (Next i) (Broken p)
-tree_parted s p Nowhere = Broken p
+abbrev pub tree_parted : List ℕ → ℕ → Option ℕ → TreeStep
+tree_parted s p (Some i) = cond (ltb i (length s)) (Next i) (Broken p)
+tree_parted s p None = Broken p
 
 unfoldable pub after_tree : List ℕ → ℕ → TreeStep
 after_tree s e = cond (eqb (stop blank s e) (length s)) End (tree_parted s (stop blank s e) (parting_at s e))

@@ -8,9 +8,10 @@ ghost use Rattle.std.specs.Prelude.{◌≡◌};
 ghost use Rattle.tree_body.specs.Trees.{past_star, number_at, state_at, body_at, head_at, after_tree};
 
 use text_base::blank_end;
-use text_numbers::{Signed, parse_signed};
-use text_spaces::{Place, past_brace, past_byte, past_parting};
-use tree_reference::{Reference, TreeIndex, parse_tree_index};
+use text_numbers::parse_signed;
+use text_parts::Read;
+use text_spaces::{past_brace, past_byte, past_parting};
+use tree_reference::{TreeIndex, parse_tree_index};
 
 // A tree's state and what its body is: a reference alone, braces with no line, or braces whose first line stands at `first`.
 #[derive(Clone, Copy)]
@@ -40,45 +41,33 @@ pub enum TreeStep {
 }
 
 // The place past `{*}`.
-fn past_star(s: &[u8], at: usize) -> Place
+fn past_star(s: &[u8], at: usize) -> Option<usize>
     ensures { result ≡ past_star s.now at }
 {
-    match past_byte(s, at, b'{') {
-        Place::At(second) => match past_byte(s, second, b'*') {
-            Place::At(third) => past_byte(s, third, b'}'),
-            Place::Nowhere => Place::Nowhere,
-        },
-        Place::Nowhere => Place::Nowhere,
-    }
+    let second = past_byte(s, at, b'{')?;
+    let third = past_byte(s, second, b'*')?;
+    past_byte(s, third, b'}')
 }
 
 // The number from `at` on, and the `]` and blanks behind it.
-fn parse_number(s: &[u8], at: usize) -> Signed
+fn parse_number(s: &[u8], at: usize) -> Option<Read<i64>>
     ensures { result ≡ number_at s.now at }
 {
-    match parse_signed(s, at) {
-        Signed::Number { value, next } => match past_byte(s, next, b']') {
-            Place::At(past) => Signed::Number {
-                value,
-                next: blank_end(s, past),
-            },
-            Place::Nowhere => Signed::NoNumber,
-        },
-        Signed::NoNumber => Signed::NoNumber,
-    }
+    let number = parse_signed(s, at)?;
+    let past = past_byte(s, number.next, b']')?;
+    Some(Read {
+        value: number.value,
+        next: blank_end(s, past),
+    })
 }
 
 // `{*}`, blanks, `[state]`, blanks: the state, and where the body stands.
-fn parse_state(s: &[u8], at: usize) -> Signed
+fn parse_state(s: &[u8], at: usize) -> Option<Read<i64>>
     ensures { result ≡ state_at s.now at }
 {
-    match past_star(s, at) {
-        Place::At(past) => match past_byte(s, blank_end(s, past), b'[') {
-            Place::At(inside) => parse_number(s, inside),
-            Place::Nowhere => Signed::NoNumber,
-        },
-        Place::Nowhere => Signed::NoNumber,
-    }
+    let past = past_star(s, at)?;
+    let inside = past_byte(s, blank_end(s, past), b'[')?;
+    parse_number(s, inside)
 }
 
 // What the body at `at` is.
@@ -86,16 +75,20 @@ fn parse_body(s: &[u8], at: usize, state: i64) -> TreeHead
     ensures { result ≡ body_at s.now at state }
 {
     match past_byte(s, at, b'{') {
-        Place::At(inside) => match past_brace(s, inside) {
-            Place::At(next) => TreeHead::Empty { state, next },
-            Place::Nowhere => TreeHead::Lines {
+        Some(inside) => match past_brace(s, inside) {
+            Some(next) => TreeHead::Empty { state, next },
+            None => TreeHead::Lines {
                 state,
                 first: blank_end(s, inside),
             },
         },
-        Place::Nowhere => match parse_tree_index(s, at) {
-            Reference::Found { index, next } => TreeHead::Lone { state, index, next },
-            Reference::NoReference => TreeHead::NoTree,
+        None => match parse_tree_index(s, at) {
+            Some(lone) => TreeHead::Lone {
+                state,
+                index: lone.value,
+                next: lone.next,
+            },
+            None => TreeHead::NoTree,
         },
     }
 }
@@ -105,8 +98,8 @@ pub fn tree_head(s: &[u8], at: usize) -> TreeHead
     ensures { result ≡ head_at s.now at }
 {
     match parse_state(s, at) {
-        Signed::Number { value, next } => parse_body(s, next, value),
-        Signed::NoNumber => TreeHead::NoTree,
+        Some(state) => parse_body(s, state.next, state.value),
+        None => TreeHead::NoTree,
     }
 }
 
@@ -119,13 +112,13 @@ pub fn after_tree(s: &[u8], at: usize) -> TreeStep
         return TreeStep::End;
     }
     match past_parting(s, at) {
-        Place::At(next) => {
+        Some(next) => {
             if next < s.len() {
                 TreeStep::Next(next)
             } else {
                 TreeStep::Broken(end)
             }
         }
-        Place::Nowhere => TreeStep::Broken(end),
+        None => TreeStep::Broken(end),
     }
 }

@@ -8,6 +8,13 @@ use native.Mathlib.Omega.{arith}
 use borrow.Author.Tests.{lt-ltb, ltb-true}
 use lib.Dec.{ltb}
 use lib.ListN.{length}
+use lib.IntN.{ℤ}
+use Rattle.text_parts.specs.declared.Read.{Read as Found}
+use Rattle.text_parts.specs.declared.Span.{Span as Piece}
+use Rattle.tree_line.specs.declared.Branches.{Branches}
+use Rattle.text_parts.specs.Parts.{read_to}
+use Rattle.std.specs.declared.option.Option.{Option}
+use Rattle.std.specs.Prelude.{Some, None}
 use Rattle.written.specs.Bytes.{blank, between, Span, spanning}
 use Rattle.written.specs.Said.{Ref}
 use Rattle.written.specs.Said as said
@@ -19,31 +26,19 @@ use Rattle.laws.specs.Steps.{done_at, Step, next, last, broken}
 use Rattle.laws.proofs.Parted.{Stood, Reads, Read, parted_read, read_parted}
 use Rattle.laws.proofs.Stops.{run₁-stop, run₁_is}
 use Rattle.text_spaces.specs.Spaces.{name_at, close_at, line_parting_at}
-use Rattle.text_spaces.specs.declared.Name.{Name}
-use Rattle.text_spaces.specs.declared.Name.TheVariants as name
-use Rattle.text_spaces.specs.declared.Place.{Place}
-use Rattle.text_spaces.specs.declared.Place.TheVariants.{At, Nowhere}
 use Rattle.text_spaces.proofs.Joined.{no_blank, clash, name_found, found_name, line_parting_found, found_line_parting, Closed, close_found, found_close, closed_before, line_parting_inside}
 use Rattle.text_numbers.specs.Answers.{signed_at}
-use Rattle.text_numbers.specs.declared.Signed.{Signed}
-use Rattle.text_numbers.specs.declared.Signed.TheVariants as signed
 use Rattle.text_numbers.proofs.Joined.{number_signed, signed_number}
 use Rattle.tree_reference.specs.References.{index_of, reference_at}
 use Rattle.tree_reference.specs.declared.TreeIndex.{TreeIndex}
-use Rattle.tree_reference.specs.declared.Reference.{Reference as Answer}
-use Rattle.tree_reference.specs.declared.Reference.TheVariants as reference
 use Rattle.tree_reference.proofs.Joined.{Stands, reference_found, found_reference}
-use Rattle.tree_line.specs.Lines.{line_of, yes_read, yes_at, no_read, branches_at, line_branched, line_named, line_numbered, line_at, line_parted, line_closed, after_line, line_found, line_step_at, line_step, lines_at}
+use Rattle.tree_line.specs.Lines.{line_of, yes_read, yes_at, no_read, branches_at, line_branched, line_named, line_numbered, line_at, line_parted, line_closed, after_line, line_found, line_step_at, line_step, lines_at, branches}
 use Rattle.tree_line.specs.declared.Line.{Line}
-use Rattle.tree_line.specs.declared.Branches.{Branches}
-use Rattle.tree_line.specs.declared.Branches.TheVariants as branches
-use Rattle.tree_line.specs.declared.ReadLine.{ReadLine}
-use Rattle.tree_line.specs.declared.ReadLine.TheVariants.{Found, NoLine}
 
 module _ (s : List ℕ) where
   -- ---- the two references
 
-  pub branches_found : {d e f j : ℕ} {n y : Ref} → Reference s d e n → Run₁ s blank e f → Reference s f j y → branches_at s d ≡ branches.Found (index_of n) (index_of y) j
+  pub branches_found : {d e f j : ℕ} {n y : Ref} → Reference s d e n → Run₁ s blank e f → Reference s f j y → branches_at s d ≡ Some (read_to (branches (index_of n) (index_of y)) j)
   unfolding branches_at yes_at
   branches_found {d} {e} {f} {j} {n} {y} r b t =
       let k = run₁-stop blank no_blank s b in
@@ -57,32 +52,32 @@ module _ (s : List ℕ) where
     pub blanks : Run₁ s blank no_ends yes_starts
     pub yes_ref : Stands (Reference s yes_starts j) y
 
-  pub found_branches : (d j : ℕ) (n y : TreeIndex) → branches_at s d ≡ branches.Found n y j → Branched d j n y
+  pub found_branches : (d j : ℕ) (n y : TreeIndex) → branches_at s d ≡ Some (read_to (branches n y) j) → Branched d j n y
   unfolding branches_at yes_at
   found_branches d j n y h = go (reference_at s d) refl h
     where
-      go : (t : Answer) → reference_at s d ≡ t → no_read s t ≡ branches.Found n y j → Branched d j n y
-      go (reference.Found m e) q h = blanked (ltb e (stop blank s e)) refl (reference_at s (stop blank s e)) refl h
+      go : (t : Option (Found TreeIndex)) → reference_at s d ≡ t → no_read s t ≡ Some (read_to (branches n y) j) → Branched d j n y
+      go (Some o) q h = blanked (ltb o.next (stop blank s o.next)) refl (reference_at s (stop blank s o.next)) refl h
         where
-          blanked : (b : Bool) → ltb e (stop blank s e) ≡ b → (t : Answer) → reference_at s (stop blank s e) ≡ t → cond b (yes_read m t) branches.NoBranches ≡ branches.Found n y j → Branched d j n y
-          blanked true l (reference.Found z k) r h =
-              let u : m ≡ n = cc in
-              let v : z ≡ y = cc in
-              let w : k ≡ j = cc in
+          blanked : (b : Bool) → ltb o.next (stop blank s o.next) ≡ b → (t : Option (Found TreeIndex)) → reference_at s (stop blank s o.next) ≡ t → cond b (yes_read o.value t) None ≡ Some (read_to (branches n y) j) → Branched d j n y
+          blanked true l (Some r₁) r h =
+              let u : o.value ≡ n = grind arith in
+              let v : r₁.value ≡ y = grind arith in
+              let w : r₁.next ≡ j = grind arith in
               record {
-                no_ends = e;
-                yes_starts = stop blank s e;
-                no_ref = found_reference s d e n (q ∙ ap (λ x. reference.Found x e) u);
-                blanks = run₁_is blank no_blank s e (ltb-true e (stop blank s e) l);
-                yes_ref = found_reference s (stop blank s e) j y (r ∙ ap₂ reference.Found v w);
+                no_ends = o.next;
+                yes_starts = stop blank s o.next;
+                no_ref = found_reference s d o.next n (q ∙ ap (λ x. Some (read_to x o.next)) u);
+                blanks = run₁_is blank no_blank s o.next (ltb-true o.next (stop blank s o.next) l);
+                yes_ref = found_reference s (stop blank s o.next) j y (r ∙ ap₂ (λ v k. Some (read_to v k)) v w);
               }
-          blanked true l reference.NoReference r h = clash (cc)
+          blanked true l None r h = clash (cc)
           blanked false l t r h = clash (cc)
-      go reference.NoReference q h = clash (cc)
+      go None q h = clash (cc)
 
   -- ---- a line
 
-  pub line_found_lem : {i j : ℕ} {l : said.Line} {w : Span} → LineAt s i j l w → line_at s i ≡ Found (line_of l w) j
+  pub line_found_lem : {i j : ℕ} {l : said.Line} {w : Span} → LineAt s i j l w → line_at s i ≡ Some (read_to (line_of l w) j)
   unfolding line_at
   line_found_lem (line {b = b} {c = c} {x = x} n r m t v u g) =
       ap (line_numbered s) (number_signed n) ∙ ap (line_named s x) (name_found s r m t) ∙ ap (line_branched x b (c - b)) (branches_found v u g)
@@ -94,45 +89,45 @@ module _ (s : List ℕ) where
     pub item : LineAt s i j said laid
     pub is : z ≡ line_of said laid
 
-  pub found_line : (i j : ℕ) (z : Line) → line_at s i ≡ Found z j → Lined i j z
+  pub found_line : (i j : ℕ) (z : Line) → line_at s i ≡ Some (read_to z j) → Lined i j z
   unfolding line_at
   found_line i j z h = go (signed_at s i) refl h
     where
-      go : (t : Signed) → signed_at s i ≡ t → line_numbered s t ≡ Found z j → Lined i j z
-      go (signed.Number x a) p h = named (name_at s a) refl h
+      go : (t : Option (Found ℤ)) → signed_at s i ≡ t → line_numbered s t ≡ Some (read_to z j) → Lined i j z
+      go (Some w) p h = named (name_at s w.next) refl h
         where
-          named : (t : Name) → name_at s a ≡ t → line_named s x t ≡ Found z j → Lined i j z
-          named (name.Found b n d) q h = branched (branches_at s d) refl h
+          named : (t : Option (Found Piece)) → name_at s w.next ≡ t → line_named s w.value t ≡ Some (read_to z j) → Lined i j z
+          named (Some x) q h = branched (branches_at s x.next) refl h
             where
-              branched : (t : Branches) → branches_at s d ≡ t → line_branched x b n t ≡ Found z j → Lined i j z
-              branched (branches.Found o y k) r h =
-                  let u : (record { id = x; start = b; len = n; no = o; yes = y }) ≡ z = cc in
-                  let v : k ≡ j = cc in
-                  let m = found_name s a b n d q in
-                  let g = found_branches d k o y r in
+              branched : (t : Option (Found Branches)) → branches_at s x.next ≡ t → line_branched w.value x.value.start x.value.len t ≡ Some (read_to z j) → Lined i j z
+              branched (Some r₁) r h =
+                  let u : (record { id = w.value; start = x.value.start; len = x.value.len; no = r₁.value.no; yes = r₁.value.yes }) ≡ z = grind arith in
+                  let v : r₁.next ≡ j = grind arith in
+                  let m = found_name s w.next x.value.start x.value.len x.next q in
+                  let g = found_branches x.next r₁.next r₁.value.no r₁.value.yes r in
                   let no-r = g.no_ref in
                   let yes-r = g.yes_ref in
                   record {
-                    said = record { id = x; question = between s b m.ends; no = no-r.ref; yes = yes-r.ref };
-                    laid = spanning b m.ends;
-                    item = subst (λ (e : ℕ). LineAt s i e (record { id = x; question = between s b m.ends; no = no-r.ref; yes = yes-r.ref }) (spanning b m.ends)) v (line (signed_number s i a x p) m.before m.name m.behind no-r.says g.blanks yes-r.says);
-                    is = sym u ∙ λ t. record { id = x; start = b; len = sym m.long t; no = no-r.is t; yes = yes-r.is t };
+                    said = record { id = w.value; question = between s x.value.start m.ends; no = no-r.ref; yes = yes-r.ref };
+                    laid = spanning x.value.start m.ends;
+                    item = subst (λ (e : ℕ). LineAt s i e (record { id = w.value; question = between s x.value.start m.ends; no = no-r.ref; yes = yes-r.ref }) (spanning x.value.start m.ends)) v (line (signed_number s i w.next w.value p) m.before m.name m.behind no-r.says g.blanks yes-r.says);
+                    is = sym u ∙ λ t. record { id = w.value; start = x.value.start; len = sym m.long t; no = no-r.is t; yes = yes-r.is t };
                   }
-              branched branches.NoBranches r h = clash (cc)
-          named name.NoName q h = clash (cc)
-      go signed.NoNumber p h = clash (cc)
+              branched None r h = clash (cc)
+          named None q h = clash (cc)
+      go None p h = clash (cc)
 
   -- ---- the lines of a tree
 
   abbrev pub step : ℕ → Step Line
   step i = line_step i (line_step_at s i)
 
-  open_at : {a b j : ℕ} {l : said.Line} {w : Span} → LineParting s a b → LineAt s b j l w → close_at s a ≡ Nowhere
+  open_at : {a b j : ℕ} {l : said.Line} {w : Span} → LineParting s a b → LineAt s b j l w → close_at s a ≡ None
   open_at {a} p t = go (close_at s a) refl
     where
-      go : (c : Place) → close_at s a ≡ c → close_at s a ≡ Nowhere
-      go (At k) e = absurd (lines_fixed.no_more (closed_before s (found_close s a k e)) p t)
-      go Nowhere e = e
+      go : (c : Option ℕ) → close_at s a ≡ c → close_at s a ≡ None
+      go (Some k) e = absurd (lines_fixed.no_more (closed_before s (found_close s a k e)) p t)
+      go None e = e
 
   line_step_lem : {i a : ℕ} {l : said.Line} {w : Span} → LineAt s i a l w → step i ≡ line_step i (after_line s (line_of l w) a)
   unfolding line_step_at
@@ -144,9 +139,9 @@ module _ (s : List ℕ) where
   unfolding line_step_at
   read_line i z h n = go (line_at s i) refl h
     where
-      go : (t : ReadLine) → line_at s i ≡ t → line_step i (line_found s t) ≡ z → (l : Line) × (e : ℕ) × Lined i e l × (line_step i (after_line s l e) ≡ z)
-      go (Found l e) q h = (l, e, found_line i e l q, h)
-      go NoLine q h = absurd (n i (sym h))
+      go : (t : Option (Found Line)) → line_at s i ≡ t → line_step i (line_found s t) ≡ z → (l : Line) × (e : ℕ) × Lined i e l × (line_step i (after_line s l e) ≡ z)
+      go (Some r) q h = (r.value, r.next, found_line i r.next r.value q, h)
+      go None q h = absurd (n i (sym h))
 
   pub reads : Reads (LineParting s) (LineAt s) (Closed s) line_of (length s) step
   unfolding after_line
@@ -162,28 +157,28 @@ module _ (s : List ℕ) where
       was_on : (i b : ℕ) (z : Line) → step i ≡ next z b → Stood (LineAt s) line_of i z (λ a. LineParting s a b)
       was_on i b z h = let r = read_line i (next z b) h (λ p q. clash (cc)) in go r.0 r.1 r.2 (close_at s r.1) refl (line_parting_at s r.1) refl r.3
         where
-          go : (l : Line) (e : ℕ) → Lined i e l → (c : Place) → close_at s e ≡ c → (d : Place) → line_parting_at s e ≡ d
+          go : (l : Line) (e : ℕ) → Lined i e l → (c : Option ℕ) → close_at s e ≡ c → (d : Option ℕ) → line_parting_at s e ≡ d
               → line_step i (line_closed s l e (close_at s e)) ≡ next z b → Stood (LineAt s) line_of i z (λ a. LineParting s a b)
-          go l e t (At k) p d q h = let u : line_step i (line_closed s l e (At k)) ≡ next z b = ap (λ c. line_step i (line_closed s l e c)) (sym p) ∙ h in clash (cc)
-          go l e t Nowhere p (At k) q h =
+          go l e t (Some k) p d q h = let u : line_step i (line_closed s l e (Some k)) ≡ next z b = ap (λ c. line_step i (line_closed s l e c)) (sym p) ∙ h in clash (cc)
+          go l e t None p (Some k) q h =
               let u : next l k ≡ next z b = ap (λ d. line_step i (line_parted l d)) (sym q) ∙ ap (λ c. line_step i (line_closed s l e c)) (sym p) ∙ h in
               let v : l ≡ z = cc in
               let w : k ≡ b = cc in
-              record { ends = e; said = t.said; laid = t.laid; item = t.item; rest = found_line_parting s e b (q ∙ ap At w); is = sym v ∙ t.is }
-          go l e t Nowhere p Nowhere q h = let u : line_step i (line_parted l Nowhere) ≡ next z b = ap (λ d. line_step i (line_parted l d)) (sym q) ∙ ap (λ c. line_step i (line_closed s l e c)) (sym p) ∙ h in clash (cc)
+              record { ends = e; said = t.said; laid = t.laid; item = t.item; rest = found_line_parting s e b (q ∙ ap Some w); is = sym v ∙ t.is }
+          go l e t None p None q h = let u : line_step i (line_parted l None) ≡ next z b = ap (λ d. line_step i (line_parted l d)) (sym q) ∙ ap (λ c. line_step i (line_closed s l e c)) (sym p) ∙ h in clash (cc)
 
       was_done : (i e : ℕ) (z : Line) → step i ≡ last z e → Stood (LineAt s) line_of i z (λ a. Closed s a e)
       was_done i f z h = let r = read_line i (last z f) h (λ p q. clash (cc)) in go r.0 r.1 r.2 (close_at s r.1) refl (line_parting_at s r.1) refl r.3
         where
-          go : (l : Line) (e : ℕ) → Lined i e l → (c : Place) → close_at s e ≡ c → (d : Place) → line_parting_at s e ≡ d
+          go : (l : Line) (e : ℕ) → Lined i e l → (c : Option ℕ) → close_at s e ≡ c → (d : Option ℕ) → line_parting_at s e ≡ d
               → line_step i (line_closed s l e (close_at s e)) ≡ last z f → Stood (LineAt s) line_of i z (λ a. Closed s a f)
-          go l e t (At k) p d q h =
+          go l e t (Some k) p d q h =
               let u : last l k ≡ last z f = ap (λ c. line_step i (line_closed s l e c)) (sym p) ∙ h in
               let v : l ≡ z = cc in
               let w : k ≡ f = cc in
-              record { ends = e; said = t.said; laid = t.laid; item = t.item; rest = found_close s e f (p ∙ ap At w); is = sym v ∙ t.is }
-          go l e t Nowhere p (At k) q h = let u : next l k ≡ last z f = ap (λ d. line_step i (line_parted l d)) (sym q) ∙ ap (λ c. line_step i (line_closed s l e c)) (sym p) ∙ h in clash (cc)
-          go l e t Nowhere p Nowhere q h = let u : line_step i (line_parted l Nowhere) ≡ last z f = ap (λ d. line_step i (line_parted l d)) (sym q) ∙ ap (λ c. line_step i (line_closed s l e c)) (sym p) ∙ h in clash (cc)
+              record { ends = e; said = t.said; laid = t.laid; item = t.item; rest = found_close s e f (p ∙ ap Some w); is = sym v ∙ t.is }
+          go l e t None p (Some k) q h = let u : next l k ≡ last z f = ap (λ d. line_step i (line_parted l d)) (sym q) ∙ ap (λ c. line_step i (line_closed s l e c)) (sym p) ∙ h in clash (cc)
+          go l e t None p None q h = let u : line_step i (line_parted l None) ≡ last z f = ap (λ d. line_step i (line_parted l d)) (sym q) ∙ ap (λ c. line_step i (line_closed s l e c)) (sym p) ∙ h in clash (cc)
 
   -- the lines that a tree says are read, in order
   pub lines_read : {i j e : ℕ} {ls : List said.Line} {ws : List Span} → Parted (LineParting s) (LineAt s) i j ls ws → Closed s j e → lines_at s i ≡ record { items = zip_with line_of ls ws; ending = done_at e }

@@ -7,9 +7,10 @@ ghost use Rattle.std.specs.Prelude.{◌≡◌};
 ghost use Rattle.tree_line.specs.Lines.{branches_at, yes_at, line_at, after_line, line_step_at};
 
 use text_base::blank_end;
-use text_numbers::{Signed, parse_signed};
-use text_spaces::{Name, Place, line_parting, name_between, past_byte};
-use tree_reference::{Reference, TreeIndex, parse_tree_index};
+use text_numbers::parse_signed;
+use text_parts::Read;
+use text_spaces::{line_parting, name_between, past_byte};
+use tree_reference::{TreeIndex, parse_tree_index};
 
 // A line; `start` and `len` say where its question's name stands.
 #[derive(Clone, Copy)]
@@ -23,19 +24,9 @@ pub struct Line {
 
 // The two references of a line, no and yes.
 #[derive(Clone, Copy)]
-pub enum Branches {
-    Found {
-        no: TreeIndex,
-        yes: TreeIndex,
-        next: usize,
-    },
-    NoBranches,
-}
-
-#[derive(Clone, Copy)]
-pub enum ReadLine {
-    Found { line: Line, next: usize },
-    NoLine,
+pub struct Branches {
+    pub no: TreeIndex,
+    pub yes: TreeIndex,
 }
 
 // A line, and where the next one stands; or the tree's last, and the place past its `}`.
@@ -47,60 +38,45 @@ pub enum LineStep {
 }
 
 // Blanks, and the yes reference of a line whose no reference is `no`.
-fn parse_yes(s: &[u8], at: usize, no: TreeIndex) -> Branches
+fn parse_yes(s: &[u8], at: usize, no: TreeIndex) -> Option<Read<Branches>>
     ensures { result ≡ yes_at s.now at no }
 {
     let start = blank_end(s, at);
     if start <= at {
-        return Branches::NoBranches;
+        return None;
     }
-    match parse_tree_index(s, start) {
-        Reference::Found { index, next } => Branches::Found {
-            no,
-            yes: index,
-            next,
-        },
-        Reference::NoReference => Branches::NoBranches,
-    }
+    let yes = parse_tree_index(s, start)?;
+    Some(Read {
+        value: Branches { no, yes: yes.value },
+        next: yes.next,
+    })
 }
 
 // The no reference, blanks, the yes reference.
-fn parse_branches(s: &[u8], at: usize) -> Branches
+fn parse_branches(s: &[u8], at: usize) -> Option<Read<Branches>>
     ensures { result ≡ branches_at s.now at }
 {
-    match parse_tree_index(s, at) {
-        Reference::Found { index, next } => parse_yes(s, next, index),
-        Reference::NoReference => Branches::NoBranches,
-    }
+    let no = parse_tree_index(s, at)?;
+    parse_yes(s, no.next, no.value)
 }
 
 // A line: id, blanks, question name, blanks, and its references.
-pub fn parse_line(s: &[u8], at: usize) -> ReadLine
+pub fn parse_line(s: &[u8], at: usize) -> Option<Read<Line>>
     ensures { result ≡ line_at s.now at }
 {
-    match parse_signed(s, at) {
-        Signed::Number { value, next } => match name_between(s, next) {
-            Name::Found {
-                start,
-                len,
-                next: past,
-            } => match parse_branches(s, past) {
-                Branches::Found { no, yes, next: end } => ReadLine::Found {
-                    line: Line {
-                        id: value,
-                        start,
-                        len,
-                        no,
-                        yes,
-                    },
-                    next: end,
-                },
-                Branches::NoBranches => ReadLine::NoLine,
-            },
-            Name::NoName => ReadLine::NoLine,
+    let id = parse_signed(s, at)?;
+    let name = name_between(s, id.next)?;
+    let branches = parse_branches(s, name.next)?;
+    Some(Read {
+        value: Line {
+            id: id.value,
+            start: name.value.start,
+            len: name.value.len,
+            no: branches.value.no,
+            yes: branches.value.yes,
         },
-        Signed::NoNumber => ReadLine::NoLine,
-    }
+        next: branches.next,
+    })
 }
 
 // What follows a line that ends at `end`: blanks and `}`, or what parts it from the next.
@@ -109,10 +85,10 @@ fn after_line(s: &[u8], line: Line, end: usize) -> LineStep
 {
     let past = blank_end(s, end);
     match past_byte(s, past, b'}') {
-        Place::At(next) => LineStep::Last { line, next },
-        Place::Nowhere => match line_parting(s, end, past) {
-            Place::At(next) => LineStep::Next { line, next },
-            Place::Nowhere => LineStep::Broken,
+        Some(next) => LineStep::Last { line, next },
+        None => match line_parting(s, end, past) {
+            Some(next) => LineStep::Next { line, next },
+            None => LineStep::Broken,
         },
     }
 }
@@ -122,7 +98,7 @@ pub fn next_line(s: &[u8], at: usize) -> LineStep
     ensures { result ≡ line_step_at s.now at }
 {
     match parse_line(s, at) {
-        ReadLine::Found { line, next } => after_line(s, line, next),
-        ReadLine::NoLine => LineStep::Broken,
+        Some(line) => after_line(s, line.value, line.next),
+        None => LineStep::Broken,
     }
 }

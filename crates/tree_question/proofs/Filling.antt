@@ -3,13 +3,14 @@ use mathlib.Core.Path.{◌≡◌, sym, ap, ◌∙◌}
 use mathlib.Core.List.{List, [], ◌∷◌}
 use Prim.Native.Nat.{ℕ}
 use lib.ListN.{length}
+use Rattle.text_parts.specs.Parts.{read_to, cut}
+use Rattle.std.specs.Prelude.{Some, None}
 use Rattle.written.specs.Bytes.{Span}
 use Rattle.written.specs.Said.{QuestionPlace}
 use Rattle.laws.specs.Steps.{done_at, broken_at, Reading, read_of, read}
 use Rattle.laws.proofs.Steps.{read_is}
 use Rattle.laws.proofs.Parted.{onward}
 use Rattle.tree_question.specs.Questions.{head_at, pattern_step_at, pattern_step, item_at, after_question, patterns_at, question_followed, question_read, question_headed, question_step_at, questions_from, questions_at}
-use Rattle.tree_question.specs.declared.QuestionHead.TheVariants as head
 use Rattle.tree_question.specs.declared.PatternStep.{PatternStep}
 use Rattle.tree_question.specs.declared.PatternStep.TheVariants as pattern
 use Rattle.tree_question.specs.declared.Item.TheVariants as item
@@ -46,7 +47,7 @@ module _ (s : List ℕ) where
   pub questions_are : (i : ℕ) → questions_from_here i ≡ read_of questions_from_here (question_step_at s i)
   questions_are i = read_is (question_step_at s) (length s) (onward (question_reads s)) i
 
-  module _ (i : ℕ) {b n f : ℕ} (h : head.Named b n f ≡ head_at s i) where
+  module _ (i : ℕ) {b n f : ℕ} (h : Some (read_to (cut b n) f) ≡ head_at s i) where
     -- the question that stands at i, where its patterns are read
     abbrev pub asked : QuestionPlace
     asked = record { name = span b n; patterns = (patterns_at s f).items }
@@ -66,7 +67,7 @@ module _ (s : List ℕ) where
     pub questions_stopped : {e : ℕ} → (patterns_at s f).ending ≡ broken_at e → questions_from_here i ≡ record { items = []; ending = broken_at i }
     questions_stopped d = questions_are i ∙ ap (read_of questions_from_here) (headed ∙ ap (question_read s i (span b n) (patterns_at s f).items) d)
 
-  pub questions_broken : (i : ℕ) → head.NoQuestion ≡ head_at s i → questions_from_here i ≡ record { items = []; ending = broken_at i }
+  pub questions_broken : (i : ℕ) → None ≡ head_at s i → questions_from_here i ≡ record { items = []; ending = broken_at i }
   unfolding question_step_at
   questions_broken i h = questions_are i ∙ ap (λ t. read_of questions_from_here (question_headed s i t)) (sym h)
 

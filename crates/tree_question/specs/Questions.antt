@@ -1,19 +1,15 @@
 -- What the readers of this crate answer, on the list of bytes and the place; and the questions of a text as a list.
-use Rattle.std.specs.Prelude.{Bool, false, cond, List, [], ℕ, ltb, length}
+use Rattle.text_parts.specs.Parts.{read_to, cut}
+use Rattle.text_parts.specs.declared.Read.{Read}
+use Rattle.text_parts.specs.declared.Span.{Span as Piece}
+use Rattle.std.specs.declared.option.Option.{Option}
+use Rattle.std.specs.Prelude.{Bool, false, cond, List, [], ℕ, ltb, length, Some, None}
 use Rattle.written.specs.Bytes.{comma, brace, blank, Span}
 use Rattle.written.specs.Said.{QuestionPlace}
 use Rattle.laws.specs.Runs.{stop}
 use Rattle.laws.specs.Steps.{Ending, done_at, broken_at, Step, next, last, broken, Reading, read}
 use Rattle.text_spaces.specs.Spaces.{past_byte, then_byte, name_at, close_at, parting_at}
-use Rattle.text_spaces.specs.declared.Name.{Name}
-use Rattle.text_spaces.specs.declared.Name.TheVariants as name
-use Rattle.text_spaces.specs.declared.Place.{Place}
-use Rattle.text_spaces.specs.declared.Place.TheVariants.{At, Nowhere}
 use Rattle.text_numbers.specs.Answers.{pattern_at}
-use Rattle.text_numbers.specs.declared.Pattern.{Pattern}
-use Rattle.text_numbers.specs.declared.Pattern.TheVariants as pattern
-use Rattle.tree_question.specs.declared.QuestionHead.{QuestionHead}
-use Rattle.tree_question.specs.declared.QuestionHead.TheVariants.{Named, NoQuestion}
 use Rattle.tree_question.specs.declared.PatternStep.{PatternStep}
 use Rattle.tree_question.specs.declared.PatternStep.TheVariants.{Next, Last, Broken}
 use Rattle.tree_question.specs.declared.Item.{Item}
@@ -22,12 +18,12 @@ use Rattle.tree_question.specs.declared.Item.TheVariants.{Question, Tree}
 -- ---- QS
 
 -- the place past QS
-unfoldable pub past_qs : List ℕ → ℕ → Place
+unfoldable pub past_qs : List ℕ → ℕ → Option ℕ
 past_qs s i = then_byte 83 s (past_byte 81 s i)
 
-abbrev pub blank_at : List ℕ → Place → Bool
-blank_at s (At i) = ltb i (stop blank s i)
-blank_at s Nowhere = false
+abbrev pub blank_at : List ℕ → Option ℕ → Bool
+blank_at s (Some i) = ltb i (stop blank s i)
+blank_at s None = false
 
 -- QS and a blank
 unfoldable pub starts_question : List ℕ → ℕ → Bool
@@ -36,40 +32,40 @@ starts_question s i = blank_at s (past_qs s i)
 -- ---- the head of a question
 
 -- after its name, that is n bytes from b on
-abbrev pub head_opened : List ℕ → ℕ → ℕ → Place → QuestionHead
-head_opened s b n (At i) = Named b n (stop blank s i)
-head_opened s b n Nowhere = NoQuestion
+abbrev pub head_opened : List ℕ → ℕ → ℕ → Option ℕ → Option (Read Piece)
+head_opened s b n (Some i) = Some (read_to (cut b n) (stop blank s i))
+head_opened s b n None = None
 
-abbrev pub head_named : List ℕ → Name → QuestionHead
-head_named s (name.Found b n i) = head_opened s b n (past_byte brace s i)
-head_named s name.NoName = NoQuestion
+abbrev pub head_named : List ℕ → Option (Read Piece) → Option (Read Piece)
+head_named s (Some r) = head_opened s r.value.start r.value.len (past_byte brace s r.next)
+head_named s None = None
 
-abbrev pub head_started : List ℕ → Place → QuestionHead
-head_started s (At i) = head_named s (name_at s i)
-head_started s Nowhere = NoQuestion
+abbrev pub head_started : List ℕ → Option ℕ → Option (Read Piece)
+head_started s (Some i) = head_named s (name_at s i)
+head_started s None = None
 
 -- QS, blanks, name, blanks, {, blanks
-unfoldable pub head_at : List ℕ → ℕ → QuestionHead
+unfoldable pub head_at : List ℕ → ℕ → Option (Read Piece)
 head_at s i = head_started s (past_qs s i)
 
 -- ---- patterns
 
 -- the pattern of n bytes from b on, where } stands next or not
-abbrev pub pattern_closed : ℕ → ℕ → Place → PatternStep
-pattern_closed b n (At i) = Last b n i
-pattern_closed b n Nowhere = Broken
+abbrev pub pattern_closed : ℕ → ℕ → Option ℕ → PatternStep
+pattern_closed b n (Some i) = Last b n i
+pattern_closed b n None = Broken
 
 -- the same, which ends at e, where a comma stands or not
-abbrev pub pattern_parted : List ℕ → ℕ → ℕ → ℕ → Place → PatternStep
-pattern_parted s b n e (At i) = Next b n (stop blank s i)
-pattern_parted s b n e Nowhere = pattern_closed b n (close_at s e)
+abbrev pub pattern_parted : List ℕ → ℕ → ℕ → ℕ → Option ℕ → PatternStep
+pattern_parted s b n e (Some i) = Next b n (stop blank s i)
+pattern_parted s b n e None = pattern_closed b n (close_at s e)
 
 unfoldable pub after_pattern : List ℕ → ℕ → ℕ → ℕ → PatternStep
 after_pattern s b n e = pattern_parted s b n e (past_byte comma s e)
 
-abbrev pub pattern_found : List ℕ → Pattern → PatternStep
-pattern_found s (pattern.Found b n e) = after_pattern s b n e
-pattern_found s pattern.NoPattern = Broken
+abbrev pub pattern_found : List ℕ → Option (Read Piece) → PatternStep
+pattern_found s (Some r) = after_pattern s r.value.start r.value.len r.next
+pattern_found s None = Broken
 
 -- a pattern and what follows it
 unfoldable pub pattern_step_at : List ℕ → ℕ → PatternStep
@@ -81,9 +77,9 @@ pattern_step_at s i = pattern_found s (pattern_at s i)
 unfoldable pub item_at : List ℕ → ℕ → Item
 item_at s i = cond (starts_question s i) (Question i) (Tree (stop blank s i))
 
-abbrev pub item_parted : List ℕ → ℕ → Place → Item
-item_parted s e (At i) = cond (starts_question s i) (Question i) (Tree (stop blank s e))
-item_parted s e Nowhere = Tree (stop blank s e)
+abbrev pub item_parted : List ℕ → ℕ → Option ℕ → Item
+item_parted s e (Some i) = cond (starts_question s i) (Question i) (Tree (stop blank s e))
+item_parted s e None = Tree (stop blank s e)
 
 -- what follows a question that ends at e
 unfoldable pub after_question : List ℕ → ℕ → Item
@@ -109,9 +105,9 @@ abbrev pub question_read : List ℕ → ℕ → Span → List Span → Ending �
 question_read s i w ps (done_at e) = question_followed (record { name = w; patterns = ps }) (after_question s e)
 question_read s i w ps (broken_at e) = broken i
 
-abbrev pub question_headed : List ℕ → ℕ → QuestionHead → Step QuestionPlace
-question_headed s i (Named b n f) = question_read s i (record { start = b; len = n }) (patterns_at s f).items (patterns_at s f).ending
-question_headed s i NoQuestion = broken i
+abbrev pub question_headed : List ℕ → ℕ → Option (Read Piece) → Step QuestionPlace
+question_headed s i (Some r) = question_read s i (record { start = r.value.start; len = r.value.len }) (patterns_at s r.next).items (patterns_at s r.next).ending
+question_headed s i None = broken i
 
 -- the question at i, and whether another follows it
 unfoldable pub question_step_at : List ℕ → ℕ → Step QuestionPlace

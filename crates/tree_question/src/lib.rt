@@ -7,19 +7,9 @@ ghost use Rattle.std.specs.Prelude.{◌≡◌};
 ghost use Rattle.tree_question.specs.Questions.{past_qs, starts_question, head_at, after_pattern, pattern_step_at, item_at, after_question};
 
 use text_base::blank_end;
-use text_numbers::{Pattern, parse_pattern};
-use text_spaces::{Name, Place, name_between, past_brace, past_byte, past_parting};
-
-// A question's name, and where its first pattern stands.
-#[derive(Clone, Copy)]
-pub enum QuestionHead {
-    Named {
-        start: usize,
-        len: usize,
-        first: usize,
-    },
-    NoQuestion,
-}
+use text_numbers::parse_pattern;
+use text_parts::{Read, Span};
+use text_spaces::{name_between, past_brace, past_byte, past_parting};
 
 // A pattern, without its quotes, and where the next one stands; or the question's last, and the place past its `}`.
 #[derive(Clone, Copy)]
@@ -45,13 +35,11 @@ pub enum Item {
 }
 
 // The place past `QS`.
-fn past_qs(s: &[u8], at: usize) -> Place
+fn past_qs(s: &[u8], at: usize) -> Option<usize>
     ensures { result ≡ past_qs s.now at }
 {
-    match past_byte(s, at, b'Q') {
-        Place::At(next) => past_byte(s, next, b'S'),
-        Place::Nowhere => Place::Nowhere,
-    }
+    let next = past_byte(s, at, b'Q')?;
+    past_byte(s, next, b'S')
 }
 
 // Whether `QS` and a blank stand here: what then stands here is a question, or nothing that fits.
@@ -59,29 +47,22 @@ fn starts_question(s: &[u8], at: usize) -> bool
     ensures { result ≡ starts_question s.now at }
 {
     match past_qs(s, at) {
-        Place::At(next) => next < blank_end(s, next),
-        Place::Nowhere => false,
+        Some(next) => next < blank_end(s, next),
+        None => false,
     }
 }
 
 // `QS`, blanks, name, blanks, `{`, blanks.
-pub fn question_head(s: &[u8], at: usize) -> QuestionHead
+pub fn question_head(s: &[u8], at: usize) -> Option<Read<Span>>
     ensures { result ≡ head_at s.now at }
 {
-    match past_qs(s, at) {
-        Place::At(past) => match name_between(s, past) {
-            Name::Found { start, len, next } => match past_byte(s, next, b'{') {
-                Place::At(inside) => QuestionHead::Named {
-                    start,
-                    len,
-                    first: blank_end(s, inside),
-                },
-                Place::Nowhere => QuestionHead::NoQuestion,
-            },
-            Name::NoName => QuestionHead::NoQuestion,
-        },
-        Place::Nowhere => QuestionHead::NoQuestion,
-    }
+    let past = past_qs(s, at)?;
+    let name = name_between(s, past)?;
+    let inside = past_byte(s, name.next, b'{')?;
+    Some(Read {
+        value: name.value,
+        next: blank_end(s, inside),
+    })
 }
 
 // What follows a pattern that ends at `end`: a comma at once and blanks, or blanks and `}`.
@@ -89,14 +70,14 @@ fn after_pattern(s: &[u8], start: usize, len: usize, end: usize) -> PatternStep
     ensures { result ≡ after_pattern s.now start len end }
 {
     match past_byte(s, end, b',') {
-        Place::At(past) => PatternStep::Next {
+        Some(past) => PatternStep::Next {
             start,
             len,
             next: blank_end(s, past),
         },
-        Place::Nowhere => match past_brace(s, end) {
-            Place::At(next) => PatternStep::Last { start, len, next },
-            Place::Nowhere => PatternStep::Broken,
+        None => match past_brace(s, end) {
+            Some(next) => PatternStep::Last { start, len, next },
+            None => PatternStep::Broken,
         },
     }
 }
@@ -106,8 +87,8 @@ pub fn next_pattern(s: &[u8], at: usize) -> PatternStep
     ensures { result ≡ pattern_step_at s.now at }
 {
     match parse_pattern(s, at) {
-        Pattern::Found { start, len, next } => after_pattern(s, start, len, next),
-        Pattern::NoPattern => PatternStep::Broken,
+        Some(found) => after_pattern(s, found.value.start, found.value.len, found.next),
+        None => PatternStep::Broken,
     }
 }
 
@@ -127,13 +108,13 @@ pub fn after_question(s: &[u8], at: usize) -> Item
     ensures { result ≡ after_question s.now at }
 {
     match past_parting(s, at) {
-        Place::At(next) => {
+        Some(next) => {
             if starts_question(s, next) {
                 Item::Question(next)
             } else {
                 Item::Tree(blank_end(s, at))
             }
         }
-        Place::Nowhere => Item::Tree(blank_end(s, at)),
+        None => Item::Tree(blank_end(s, at)),
     }
 }

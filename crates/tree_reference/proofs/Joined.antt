@@ -10,6 +10,10 @@ use native.Mathlib.Omega.{arith}
 use borrow.Author.Tests.{lt-ltb, ltb-true}
 use lib.Dec.{ltb}
 use lib.IntN.{ℤ, pos}
+use Rattle.text_parts.specs.Parts.{read_to}
+use Rattle.text_parts.specs.declared.Read.{Read}
+use Rattle.std.specs.declared.option.Option.{Option}
+use Rattle.std.specs.Prelude.{Some, None}
 use Rattle.written.specs.Bytes.{quote, digit, letter, in_word, byte_at}
 use Rattle.written.specs.Said.{Ref, node, pdf}
 use Rattle.written.specs.TreeText.{Byte, Run, stop as stops, more, Run₁, some, Digits, digits, Number, plus, minus, Bare, number, word, Reference, bare, quoted}
@@ -18,18 +22,12 @@ use Rattle.laws.specs.Runs.{stop}
 use Rattle.laws.proofs.Runs.{stop_from}
 use Rattle.laws.proofs.Stops.{run_is, run₁-stop, run₁_is}
 use Rattle.text_spaces.specs.Spaces.{past_byte}
-use Rattle.text_spaces.specs.declared.Place.{Place}
-use Rattle.text_spaces.specs.declared.Place.TheVariants.{At, Nowhere}
 use Rattle.text_spaces.proofs.Joined.{byte_past, past_byte_lem, clash}
 use Rattle.text_numbers.specs.Answers.{signed_at}
-use Rattle.text_numbers.specs.declared.Signed.{Signed}
-use Rattle.text_numbers.specs.declared.Signed.TheVariants as signed
 use Rattle.text_numbers.proofs.Joined.{number_signed, signed_number, no_number}
 use Rattle.tree_reference.specs.References.{index_of, digits_from, pdf_read, pdf_of, pdf_at, bare_read, bare_at, closed, quoted_read, quoted_at, opened, reference_at}
 use Rattle.tree_reference.specs.declared.TreeIndex.{TreeIndex}
 use Rattle.tree_reference.specs.declared.TreeIndex.TheVariants.{Node, Pdf}
-use Rattle.tree_reference.specs.declared.Reference.{Reference as Answer}
-use Rattle.tree_reference.specs.declared.Reference.TheVariants.{Found, NoReference}
 use Rattle.tree_reference.proofs.Digits.{from_digit, from_other, from_end}
 
 true-false : {A : Type 0} {b : Bool} → b ≡ true → b ≡ false → A
@@ -104,7 +102,7 @@ tail_is s i (suc e) l = go (dec_lt e i) (digit (byte_at s e)) refl (λ h. tail_i
 
 -- ---- without quotes
 
-pub bare_found : {s : List ℕ} {i j : ℕ} {r : Ref} → Bare s i j r → bare_at s i ≡ Found (index_of r) j
+pub bare_found : {s : List ℕ} {i j : ℕ} {r : Ref} → Bare s i j r → bare_at s i ≡ Some (read_to (index_of r) j)
 unfolding bare_at pdf_at pdf_of
 bare_found {s} {i} (number n) = ap (bare_read (pdf_at s i)) (number_signed n)
 bare_found {s} {i} (word {k = k} {j = j} {n = n} not r l a d f) =
@@ -113,9 +111,9 @@ bare_found {s} {i} (word {k = k} {j = j} {n = n} not r l a d f) =
     ∙ ap (pdf_of s j) (from_is s i k j l (omega (arith, digits_lt d)) a (λ m u v. digits_at d m u v))
     ∙ rw (lt-ltb (suc k) j (digits_lt d)) (ap pdf_read (number_signed (plus d f)))
   where
-    none : (t : Signed) → signed_at s i ≡ t → signed_at s i ≡ signed.NoNumber
-    none (signed.Number x e) q = absurd (not e x (signed_number s i e x q))
-    none signed.NoNumber q = q
+    none : (t : Option (Read ℤ)) → signed_at s i ≡ t → signed_at s i ≡ None
+    none (Some r) q = absurd (not r.next r.value (signed_number s i r.next r.value q))
+    none None q = q
 
 -- what a reference in code stands for in the text
 pub record Stands (Says : Ref → Type 0) (x : TreeIndex) : Type 0 where
@@ -123,11 +121,11 @@ pub record Stands (Says : Ref → Type 0) (x : TreeIndex) : Type 0 where
   pub says : Says ref
   pub is : x ≡ index_of ref
 
-found_pdf : (s : List ℕ) (i j : ℕ) (x : TreeIndex) → signed_at s i ≡ signed.NoNumber → pdf_at s i ≡ Found x j → Stands (Bare s i j) x
+found_pdf : (s : List ℕ) (i j : ℕ) (x : TreeIndex) → signed_at s i ≡ None → pdf_at s i ≡ Some (read_to x j) → Stands (Bare s i j) x
 unfolding pdf_at pdf_of
 found_pdf s i j x none e = go (stop in_word s i) refl (digits_from s i (stop in_word s i)) refl e
   where
-    go : (w : ℕ) → stop in_word s i ≡ w → (d : ℕ) → digits_from s i (stop in_word s i) ≡ d → pdf_of s w d ≡ Found x j → Stands (Bare s i j) x
+    go : (w : ℕ) → stop in_word s i ≡ w → (d : ℕ) → digits_from s i (stop in_word s i) ≡ d → pdf_of s w d ≡ Some (read_to x j) → Stands (Bare s i j) x
     go w p d q h = pick (ltb d w) refl (signed_at s d) refl h
       where
         tail : Tail s i w d
@@ -170,30 +168,30 @@ found_pdf s i j x none e = go (stop in_word s i) refl (digits_from s i (stop in_
                 same e = no_number s i none a (pos n) (subst (λ (m : ℕ). Number s m a (pos n)) e (plus g f))
         after k u v l z a (minus b g f) y t = true-false (let c = tail in c.all_digits d (omega arith) l) (dash_no s d (word_first b))
 
-        pick : (t : Bool) → ltb d w ≡ t → (r : Signed) → signed_at s d ≡ r → cond t (pdf_read r) NoReference ≡ Found x j → Stands (Bare s i j) x
-        pick true l (signed.Number z a) r h =
-            let y : Pdf z ≡ x = cc in
-            let u : a ≡ j = cc in
-            let m = signed_number s d a z r in
+        pick : (t : Bool) → ltb d w ≡ t → (r : Option (Read ℤ)) → signed_at s d ≡ r → cond t (pdf_read r) None ≡ Some (read_to x j) → Stands (Bare s i j) x
+        pick true l (Some q) r h =
+            let y : Pdf q.value ≡ x = grind arith in
+            let u : q.next ≡ j = grind arith in
+            let m = signed_number s d q.next q.value r in
             let c = tail in
-            from c.begins (ltb-true d w l) z a m y u
+            from c.begins (ltb-true d w l) q.value q.next m y u
           where
             from : (d ≡ i) ⊎ ((k : ℕ) × (d ≡ suc k) × (digit (byte_at s k) ≡ false)) → d < w → (z : ℤ) (a : ℕ) → Number s d a z → Pdf z ≡ x → a ≡ j → Stands (Bare s i j) x
             from (inl e) l z a m y u = absurd (no_number s i none a z (subst (λ (b : ℕ). Number s b a z) e m))
             from (inr (k, e, v)) l z a m y u = after k e v l z a m y u
-        pick true l signed.NoNumber r h = clash (cc)
+        pick true l None r h = clash (cc)
         pick false l r q h = clash (cc)
 
-pub found_bare : (s : List ℕ) (i j : ℕ) (x : TreeIndex) → bare_at s i ≡ Found x j → Stands (Bare s i j) x
+pub found_bare : (s : List ℕ) (i j : ℕ) (x : TreeIndex) → bare_at s i ≡ Some (read_to x j) → Stands (Bare s i j) x
 unfolding bare_at
 found_bare s i j x e = go (signed_at s i) refl e
   where
-    go : (t : Signed) → signed_at s i ≡ t → bare_read (pdf_at s i) t ≡ Found x j → Stands (Bare s i j) x
-    go (signed.Number z a) q h =
-        let y : Node z ≡ x = cc in
-        let u : a ≡ j = cc in
-        record { ref = node z; says = number (subst (λ (m : ℕ). Number s i m z) u (signed_number s i a z q)); is = sym y }
-    go signed.NoNumber q h = found_pdf s i j x q h
+    go : (t : Option (Read ℤ)) → signed_at s i ≡ t → bare_read (pdf_at s i) t ≡ Some (read_to x j) → Stands (Bare s i j) x
+    go (Some r) q h =
+        let y : Node r.value ≡ x = grind arith in
+        let u : r.next ≡ j = grind arith in
+        record { ref = node r.value; says = number (subst (λ (m : ℕ). Number s i m r.value) u (signed_number s i r.next r.value q)); is = sym y }
+    go None q h = found_pdf s i j x q h
 
 -- ---- bare or in "
 
@@ -202,37 +200,37 @@ unfolding digit in_word
 bare_not (number n) h = number_not 34 refl (λ z. omega arith) n refl h
 bare_not (word not r l a d f) h = true-false (first r) (ap in_word h)
 
-not_quote : {s : List ℕ} {i j : ℕ} {r : Ref} → Bare s i j r → past_byte quote s i ≡ Nowhere
+not_quote : {s : List ℕ} {i j : ℕ} {r : Ref} → Bare s i j r → past_byte quote s i ≡ None
 not_quote {s} {i} b = go (past_byte quote s i) refl
   where
-    go : (p : Place) → past_byte quote s i ≡ p → past_byte quote s i ≡ Nowhere
-    go (At k) e = absurd (bare_not b (word_first (past_byte_lem quote i k s e)))
-    go Nowhere e = e
+    go : (p : Option ℕ) → past_byte quote s i ≡ p → past_byte quote s i ≡ None
+    go (Some k) e = absurd (bare_not b (word_first (past_byte_lem quote i k s e)))
+    go None e = e
 
-pub reference_found : {s : List ℕ} {i j : ℕ} {r : Ref} → Reference s i j r → reference_at s i ≡ Found (index_of r) j
+pub reference_found : {s : List ℕ} {i j : ℕ} {r : Ref} → Reference s i j r → reference_at s i ≡ Some (read_to (index_of r) j)
 unfolding reference_at quoted_at
 reference_found {s} {i} (bare b) = ap (opened s i) (not_quote b) ∙ bare_found b
 reference_found {s} {i} (quoted {r = r} w b v) = ap (opened s i) (byte_past w) ∙ ap (quoted_read s) (bare_found b) ∙ ap (closed (index_of r)) (byte_past v)
 
-pub found_reference : (s : List ℕ) (i j : ℕ) (x : TreeIndex) → reference_at s i ≡ Found x j → Stands (Reference s i j) x
+pub found_reference : (s : List ℕ) (i j : ℕ) (x : TreeIndex) → reference_at s i ≡ Some (read_to x j) → Stands (Reference s i j) x
 unfolding reference_at quoted_at
 found_reference s i j x e = go (past_byte quote s i) refl e
   where
-    go : (p : Place) → past_byte quote s i ≡ p → opened s i p ≡ Found x j → Stands (Reference s i j) x
-    go (At a) q h = inner (bare_at s a) refl h
+    go : (p : Option ℕ) → past_byte quote s i ≡ p → opened s i p ≡ Some (read_to x j) → Stands (Reference s i j) x
+    go (Some a) q h = inner (bare_at s a) refl h
       where
-        inner : (t : Answer) → bare_at s a ≡ t → quoted_read s t ≡ Found x j → Stands (Reference s i j) x
-        inner (Found y b) r h = shut (past_byte quote s b) refl h
+        inner : (t : Option (Read TreeIndex)) → bare_at s a ≡ t → quoted_read s t ≡ Some (read_to x j) → Stands (Reference s i j) x
+        inner (Some z) r h = shut (past_byte quote s z.next) refl h
           where
-            shut : (p : Place) → past_byte quote s b ≡ p → closed y p ≡ Found x j → Stands (Reference s i j) x
-            shut (At c) t h =
-                let u : y ≡ x = cc in
-                let v : c ≡ j = cc in
-                let k = found_bare s a b y r in
-                record { ref = k.ref; says = quoted (past_byte_lem quote i a s q) k.says (subst (λ (m : ℕ). Byte s quote b m) v (past_byte_lem quote b c s t)); is = sym u ∙ k.is }
-            shut Nowhere t h = clash (cc)
-        inner NoReference r h = clash (cc)
-    go Nowhere q h = let k = found_bare s i j x h in record { ref = k.ref; says = bare k.says; is = k.is }
+            shut : (p : Option ℕ) → past_byte quote s z.next ≡ p → closed z.value p ≡ Some (read_to x j) → Stands (Reference s i j) x
+            shut (Some c) t h =
+                let u : z.value ≡ x = grind arith in
+                let v : c ≡ j = grind arith in
+                let k = found_bare s a z.next z.value r in
+                record { ref = k.ref; says = quoted (past_byte_lem quote i a s q) k.says (subst (λ (m : ℕ). Byte s quote z.next m) v (past_byte_lem quote z.next c s t)); is = sym u ∙ k.is }
+            shut None t h = clash (cc)
+        inner None r h = clash (cc)
+    go None q h = let k = found_bare s i j x h in record { ref = k.ref; says = bare k.says; is = k.is }
 
-pub no_reference : (s : List ℕ) (i : ℕ) → reference_at s i ≡ NoReference → (j : ℕ) (r : Ref) → ¬ Reference s i j r
+pub no_reference : (s : List ℕ) (i : ℕ) → reference_at s i ≡ None → (j : ℕ) (r : Ref) → ¬ Reference s i j r
 no_reference s i e j r h = let k = reference_found h in let u : ◌≡◌ {A = ℕ} 0 1 = cc in omega arith

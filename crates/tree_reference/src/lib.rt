@@ -3,13 +3,14 @@
 // Every function takes any bytes and any place, also one past the end. A place is an index into the slice.
 #![tactic(auto)]
 
-ghost use Rattle.std.specs.Prelude.{◌≡◌};
-ghost use Rattle.tree_reference.specs.declared.Reference.TheVariants.{Found};
+ghost use Rattle.std.specs.Prelude.{◌≡◌, Some};
 ghost use Rattle.tree_reference.specs.References.{pdf_of, pdf_at, bare_at, quoted_at, reference_at, same_index, pdf_count};
+ghost use Rattle.text_parts.specs.Parts.{read_to};
 
 use text_base::{is_digit, is_word};
-use text_numbers::{Signed, parse_signed};
-use text_spaces::{Place, past_byte};
+use text_numbers::parse_signed;
+use text_parts::Read;
+use text_spaces::past_byte;
 
 // Where a line leads: to the line that bears an id, or to the PDF of a number.
 #[derive(Clone, Copy)]
@@ -18,34 +19,27 @@ pub enum TreeIndex {
     Pdf(i64),
 }
 
-#[derive(Clone, Copy)]
-pub enum Reference {
-    Found { index: TreeIndex, next: usize },
-    NoReference,
-}
-
 // The PDF whose number the bytes from `start` up to `end` say, digits at the end of a word.
-fn some_pdf(s: &[u8], start: usize, end: usize) -> Reference
+fn some_pdf(s: &[u8], start: usize, end: usize) -> Option<Read<TreeIndex>>
     ensures { result ≡ pdf_of s.now end start }
 {
     if end <= start {
-        return Reference::NoReference;
+        return None;
     }
-    match parse_signed(s, start) {
-        Signed::Number { value, next } => Reference::Found {
-            index: TreeIndex::Pdf(value),
-            next,
-        },
-        Signed::NoNumber => Reference::NoReference,
-    }
+    let number = parse_signed(s, start)?;
+    Some(Read {
+        value: TreeIndex::Pdf(number.value),
+        next: number.next,
+    })
 }
 
 // Letters, digits and `_`, as far as they go; the digits at their end say the number, and begin at `start`.
-fn parse_pdf(s: &[u8], at: usize) -> Reference
+fn parse_pdf(s: &[u8], at: usize) -> Option<Read<TreeIndex>>
     ensures { result ≡ pdf_at s.now at }
 {
     let mut start = at;
     let mut i = at;
+    // A `while`: the place where the loop stops is an answer.
     while i < s.len() {
         let b = s[i];
         if !is_digit(b) {
@@ -60,57 +54,53 @@ fn parse_pdf(s: &[u8], at: usize) -> Reference
 }
 
 // A reference without quotes.
-fn parse_bare(s: &[u8], at: usize) -> Reference
+fn parse_bare(s: &[u8], at: usize) -> Option<Read<TreeIndex>>
     ensures { result ≡ bare_at s.now at }
 {
     match parse_signed(s, at) {
-        Signed::Number { value, next } => Reference::Found {
-            index: TreeIndex::Node(value),
-            next,
-        },
-        Signed::NoNumber => parse_pdf(s, at),
+        Some(number) => Some(Read {
+            value: TreeIndex::Node(number.value),
+            next: number.next,
+        }),
+        None => parse_pdf(s, at),
     }
 }
 
 // What was found, put together from its parts: copied whole, as bytes, it would be read before its parts are written, and a processor waits for that.
-fn found(index: TreeIndex, next: usize) -> Reference
-    ensures { result ≡ Found index next }
+fn found(index: TreeIndex, next: usize) -> Option<Read<TreeIndex>>
+    ensures { result ≡ Some (read_to index next) }
 {
     match index {
-        TreeIndex::Node(x) => Reference::Found {
-            index: TreeIndex::Node(x),
+        TreeIndex::Node(x) => Some(Read {
+            value: TreeIndex::Node(x),
             next,
-        },
-        TreeIndex::Pdf(x) => Reference::Found {
-            index: TreeIndex::Pdf(x),
+        }),
+        TreeIndex::Pdf(x) => Some(Read {
+            value: TreeIndex::Pdf(x),
             next,
-        },
+        }),
     }
 }
 
 // A reference from `at` on, and the quote behind it.
-fn parse_quoted(s: &[u8], at: usize) -> Reference
+fn parse_quoted(s: &[u8], at: usize) -> Option<Read<TreeIndex>>
     ensures { result ≡ quoted_at s.now at }
 {
-    match parse_bare(s, at) {
-        Reference::Found { index, next } => match past_byte(s, next, b'"') {
-            Place::At(past) => found(index, past),
-            Place::Nowhere => Reference::NoReference,
-        },
-        Reference::NoReference => Reference::NoReference,
-    }
+    let inside = parse_bare(s, at)?;
+    let past = past_byte(s, inside.next, b'"')?;
+    found(inside.value, past)
 }
 
 // A reference, bare or in `"`.
-pub fn parse_tree_index(s: &[u8], at: usize) -> Reference
+pub fn parse_tree_index(s: &[u8], at: usize) -> Option<Read<TreeIndex>>
     ensures { result ≡ reference_at s.now at }
 {
     match past_byte(s, at, b'"') {
-        Place::At(inside) => parse_quoted(s, inside),
-        Place::Nowhere => match parse_bare(s, at) {
-            Reference::Found { index, next } => found(index, next),
-            Reference::NoReference => Reference::NoReference,
-        },
+        Some(inside) => parse_quoted(s, inside),
+        None => {
+            let bare = parse_bare(s, at)?;
+            found(bare.value, bare.next)
+        }
     }
 }
 

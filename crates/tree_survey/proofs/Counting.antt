@@ -5,6 +5,8 @@ use mathlib.Core.List.{List, [], zip_with}
 use Prim.Native.Nat.{ℕ, suc, ◌+◌, ◌≤◌, ◌<◌}
 use native.Mathlib.Omega.{arith}
 use lib.ListN.{length}
+use Rattle.text_parts.specs.Parts.{read_to}
+use Rattle.std.specs.Prelude.{Some, None, Ok, Err}
 use Rattle.written.specs.Bytes.{Span}
 use Rattle.written.specs.Said as says
 use Rattle.written.specs.TreeText.{byte, end, BodyAt, one, none, lines, TreeAt, tree}
@@ -25,10 +27,8 @@ use Rattle.tree_body.specs.declared.TreeHead.TheVariants as head
 use Rattle.tree_body.specs.declared.TreeStep.TheVariants as after
 use Rattle.tree_body.proofs.Filling.{trees_are}
 use Rattle.tree_body.proofs.Joined.{reads}
-use Rattle.tree_survey.specs.Survey.{negative, body_records, tree_negative, tree_records, tree_lines, lines_counted, head_counted, tree_surveyed, trees_ended, trees_counted}
-use Rattle.tree_survey.specs.declared.TreeCount.TheVariants as count
+use Rattle.tree_survey.specs.Survey.{negative, body_records, tree_negative, tree_records, tree_lines, lines_counted, head_counted, tree_surveyed, trees_ended, trees_counted, tree_count, trees_of}
 use Rattle.tree_survey.specs.declared.TreeSurvey.TheVariants as surveyed
-use Rattle.tree_survey.specs.declared.Trees.TheVariants as all
 
 module _ (s : List ℕ) where
   -- ---- one tree
@@ -41,63 +41,63 @@ module _ (s : List ℕ) where
     pub records : tree_records it ≡ m
     pub lines : tree_lines it ≡ n
 
-  pub counted : (i : ℕ) {b : Bool} {m n e : ℕ} → count.Counted b m n e ≡ head_counted s (head_at s i) → Counted i b m n e
+  pub counted : (i : ℕ) {b : Bool} {m n e : ℕ} → Some (read_to (tree_count b m n) e) ≡ head_counted s (head_at s i) → Counted i b m n e
   unfolding tree_step_at lines_surveyed records_of
   counted i {b} {m} {n} {e} h = go (head_at s i) refl h
     where
-      go : (t : TreeHead) → head_at s i ≡ t → count.Counted b m n e ≡ head_counted s t → Counted i b m n e
+      go : (t : TreeHead) → head_at s i ≡ t → Some (read_to (tree_count b m n) e) ≡ head_counted s t → Counted i b m n e
       go (head.Lone x r f) q h =
-          let u : b ≡ negative x = cc in
-          let v : m ≡ 1 = cc in
-          let w : n ≡ 0 = cc in
-          let z : e ≡ f = cc in
+          let u : b ≡ negative x = grind arith in
+          let v : m ≡ 1 = grind arith in
+          let w : n ≡ 0 = grind arith in
+          let z : e ≡ f = grind arith in
           record { it = record { star = i; state = x; body = lone r }; follows = ap (tree_headed s i) q ∙ ap (λ (k : ℕ). tree_followed s (record { star = i; state = x; body = lone r }) (after_tree s k)) (sym z); below = sym u; records = sym v; lines = sym w }
       go (head.Empty x f) q h =
-          let u : b ≡ negative x = cc in
-          let v : m ≡ 0 = cc in
-          let w : n ≡ 0 = cc in
-          let z : e ≡ f = cc in
+          let u : b ≡ negative x = grind arith in
+          let v : m ≡ 0 = grind arith in
+          let w : n ≡ 0 = grind arith in
+          let z : e ≡ f = grind arith in
           record { it = record { star = i; state = x; body = braces [] }; follows = ap (tree_headed s i) q ∙ ap (λ (k : ℕ). tree_followed s (record { star = i; state = x; body = braces [] }) (after_tree s k)) (sym z); below = sym u; records = sym v; lines = sym w }
       go (head.Lines x f) q h = within (lines_at s f).ending refl h
         where
-          within : (d : Ending) → (lines_at s f).ending ≡ d → count.Counted b m n e ≡ lines_counted x (lines_ended (lines_at s f).items d) → Counted i b m n e
+          within : (d : Ending) → (lines_at s f).ending ≡ d → Some (read_to (tree_count b m n) e) ≡ lines_counted x (lines_ended (lines_at s f).items d) → Counted i b m n e
           within (done_at k) r h =
-              let u : b ≡ negative x = cc in
-              let v : m ≡ records_of (lines_at s f).items = cc in
-              let w : n ≡ length (lines_at s f).items = cc in
-              let z : e ≡ k = cc in
+              let u : b ≡ negative x = grind arith in
+              let v : m ≡ records_of (lines_at s f).items = grind arith in
+              let w : n ≡ length (lines_at s f).items = grind arith in
+              let z : e ≡ k = grind arith in
               record { it = record { star = i; state = x; body = braces (lines_at s f).items }; follows = ap (tree_headed s i) q ∙ ap (tree_read s i x (lines_at s f).items) (r ∙ ap done_at (sym z)); below = sym u; records = sym v; lines = sym w }
           within (broken_at k) r h = let u : ◌≡◌ {A = ℕ} 0 1 = cc in absurd (omega arith)
       go head.NoTree q h = let u : ◌≡◌ {A = ℕ} 0 1 = cc in absurd (omega arith)
 
-  not_counted : (i : ℕ) → count.Broken ≡ head_counted s (head_at s i) → tree_step_at s i ≡ broken i
+  not_counted : (i : ℕ) → None ≡ head_counted s (head_at s i) → tree_step_at s i ≡ broken i
   unfolding tree_step_at lines_surveyed
   not_counted i h = go (head_at s i) refl h
     where
-      go : (t : TreeHead) → head_at s i ≡ t → count.Broken ≡ head_counted s t → tree_headed s i (head_at s i) ≡ broken i
+      go : (t : TreeHead) → head_at s i ≡ t → None ≡ head_counted s t → tree_headed s i (head_at s i) ≡ broken i
       go (head.Lone x r f) q h = let u : ◌≡◌ {A = ℕ} 0 1 = cc in absurd (omega arith)
       go (head.Empty x f) q h = let u : ◌≡◌ {A = ℕ} 0 1 = cc in absurd (omega arith)
       go (head.Lines x f) q h = within (lines_at s f).ending refl h
         where
-          within : (d : Ending) → (lines_at s f).ending ≡ d → count.Broken ≡ lines_counted x (lines_ended (lines_at s f).items d) → tree_headed s i (head_at s i) ≡ broken i
+          within : (d : Ending) → (lines_at s f).ending ≡ d → None ≡ lines_counted x (lines_ended (lines_at s f).items d) → tree_headed s i (head_at s i) ≡ broken i
           within (done_at k) r h = let u : ◌≡◌ {A = ℕ} 0 1 = cc in absurd (omega arith)
           within (broken_at k) r h = ap (tree_headed s i) q ∙ ap (tree_read s i x (lines_at s f).items) r
       go head.NoTree q h = ap (tree_headed s i) q
 
-  pub followed_next : (i : ℕ) {b : Bool} {m n e j : ℕ} → count.Counted b m n e ≡ head_counted s (head_at s i) → after.Next j ≡ after_tree s e → surveyed.Next b m n j ≡ tree_surveyed (tree_step_at s i)
+  pub followed_next : (i : ℕ) {b : Bool} {m n e j : ℕ} → Some (read_to (tree_count b m n) e) ≡ head_counted s (head_at s i) → after.Next j ≡ after_tree s e → surveyed.Next b m n j ≡ tree_surveyed (tree_step_at s i)
   followed_next i {j = j} h a =
       let d = counted i h in
       sym (ap tree_surveyed (d.follows ∙ ap (tree_followed s d.it) (sym a)) ∙ λ t. surveyed.Next (d.below t) (d.records t) (d.lines t) j)
 
-  pub followed_end : (i : ℕ) {b : Bool} {m n e : ℕ} → count.Counted b m n e ≡ head_counted s (head_at s i) → after.End ≡ after_tree s e → surveyed.Last b m n ≡ tree_surveyed (tree_step_at s i)
+  pub followed_end : (i : ℕ) {b : Bool} {m n e : ℕ} → Some (read_to (tree_count b m n) e) ≡ head_counted s (head_at s i) → after.End ≡ after_tree s e → surveyed.Last b m n ≡ tree_surveyed (tree_step_at s i)
   followed_end i h a =
       let d = counted i h in
       sym (ap tree_surveyed (d.follows ∙ ap (tree_followed s d.it) (sym a)) ∙ λ t. surveyed.Last (d.below t) (d.records t) (d.lines t))
 
-  pub followed_other : (i : ℕ) {b : Bool} {m n e j : ℕ} → count.Counted b m n e ≡ head_counted s (head_at s i) → after.Broken j ≡ after_tree s e → surveyed.Broken j ≡ tree_surveyed (tree_step_at s i)
+  pub followed_other : (i : ℕ) {b : Bool} {m n e j : ℕ} → Some (read_to (tree_count b m n) e) ≡ head_counted s (head_at s i) → after.Broken j ≡ after_tree s e → surveyed.Broken j ≡ tree_surveyed (tree_step_at s i)
   followed_other i h a = let d = counted i h in sym (ap tree_surveyed (d.follows ∙ ap (tree_followed s d.it) (sym a)))
 
-  pub followed_none : (i : ℕ) → count.Broken ≡ head_counted s (head_at s i) → surveyed.Broken i ≡ tree_surveyed (tree_step_at s i)
+  pub followed_none : (i : ℕ) → None ≡ head_counted s (head_at s i) → surveyed.Broken i ≡ tree_surveyed (tree_step_at s i)
   followed_none i h = sym (ap tree_surveyed (not_counted i h))
 
   -- ---- records are no more than bytes
@@ -203,15 +203,15 @@ module _ (s : List ℕ) where
       }
 
   pub surveyed_end : {at i : ℕ} {b : Bool} {n m k : ℕ} {c : Bool} {r l : ℕ} {b' : Bool} {k' : ℕ} → Surveying at i b n m k → surveyed.Last c r l ≡ tree_surveyed (tree_step_at s i)
-      → b' ≡ b || c → k' ≡ larger k l → all.Counted b' (n + 1) (m + r) k' ≡ trees_counted false 0 0 0 (trees_at s at)
+      → b' ≡ b || c → k' ≡ larger k l → Ok (trees_of b' (n + 1) (m + r) k') ≡ trees_counted false 0 0 0 (trees_at s at)
   unfolding trees_counted total largest any_of
   surveyed_end {i = i} {b = b} {n = n} {m = m} {k = k} {c = c} {r = r} {l = l} {b' = b'} {k' = k'} d h p q =
       let t = seen_last i c r l h in
       let y : m + r ≡ m + (tree_records t.it + 0) = omega (arith, t.records) in
       let v : b' ≡ b || tree_negative t.it = p ∙ ap (b ||◌) (sym t.below) in
       let w : k' ≡ larger k (tree_lines t.it) = q ∙ ap (larger k) (sym t.lines) in
-      (λ z. all.Counted (v z) (n + 1) (y z) (w z)) ∙ sym (ap (trees_counted b n m k) (trees_are s i ∙ ap (read_of (trees_at s)) t.steps.1)) ∙ d.same
+      (λ z. Ok (trees_of (v z) (n + 1) (y z) (w z))) ∙ sym (ap (trees_counted b n m k) (trees_are s i ∙ ap (read_of (trees_at s)) t.steps.1)) ∙ d.same
 
-  pub surveyed_none : {at i : ℕ} {b : Bool} {n m k j : ℕ} → Surveying at i b n m k → surveyed.Broken j ≡ tree_surveyed (tree_step_at s i) → all.Broken j ≡ trees_counted false 0 0 0 (trees_at s at)
+  pub surveyed_none : {at i : ℕ} {b : Bool} {n m k j : ℕ} → Surveying at i b n m k → surveyed.Broken j ≡ tree_surveyed (tree_step_at s i) → Err j ≡ trees_counted false 0 0 0 (trees_at s at)
   unfolding trees_counted
   surveyed_none {i = i} {b = b} {n = n} {m = m} {k = k} {j = j} d h = sym (ap (trees_counted b n m k) (trees_are s i ∙ ap (read_of (trees_at s)) (seen_broken i j h))) ∙ d.same

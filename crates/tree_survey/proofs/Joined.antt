@@ -5,6 +5,8 @@ use mathlib.Core.List.{List, [], zip_with}
 use Prim.Native.Nat.{ℕ}
 use native.Mathlib.Omega.{arith}
 use lib.ListN.{length}
+use Rattle.tree_survey.specs.declared.SurveyError.TheVariants as fault
+use Rattle.std.specs.Prelude.{Ok, Err}
 use Rattle.written.specs.Bytes.{blank}
 use Rattle.written.specs.Said as says
 use Rattle.written.specs.TreeText.{Parted, stop as stops, more, Parting, QuestionAt, TreesAt, Says, without, with_questions}
@@ -20,9 +22,8 @@ use Rattle.tree_question.proofs.Joined.{question_starts, starts_qs, question_rea
 use Rattle.tree_body.specs.Trees.{tree_of}
 use Rattle.tree_body.proofs.Joined.{trees_read, read_trees}
 use Rattle.laws.specs.Totals.{any_of}
-use Rattle.tree_survey.specs.Survey.{text_read, text_at, tree_negative, survey_ended, survey_of, survey_at}
+use Rattle.tree_survey.specs.Survey.{text_read, text_at, tree_negative, survey_ended, survey_of, survey_at, counts_of}
 use Rattle.tree_survey.specs.Said.{text_of}
-use Rattle.tree_survey.specs.declared.Survey.TheVariants.{Counted, Broken, Negative}
 
 module _ (s : List ℕ) where
   -- ---- what a text begins with
@@ -89,16 +90,16 @@ module _ (s : List ℕ) where
   survey_says p = ap survey_of (says_read p)
 
   -- a text that says something isn't broken
-  pub says_whole : {i : ℕ} {t : says.Text} {l : says.Layout} (p : ℕ) → Says s i t l → ¬ (survey_at s i ≡ Broken p)
+  pub says_whole : {i : ℕ} {t : says.Text} {l : says.Layout} (p : ℕ) → Says s i t l → ¬ (survey_at s i ≡ Err (fault.Broken p))
   unfolding survey_of
   says_whole {t = t} {l = l} p h e = go (any_of tree_negative false (text_of s t l).trees) _ _ _ _ _ (sym (survey_says h) ∙ e)
     where
-      go : (b : Bool) (q m n r k : ℕ) → cond b Negative (Counted q m n r k) ≡ Broken p → ⊥
+      go : (b : Bool) (q m n r k : ℕ) → cond b (Err fault.Negative) (Ok (counts_of q m n r k)) ≡ Err (fault.Broken p) → ⊥
       go true q m n r k e = let u : ◌≡◌ {A = ℕ} 0 1 = cc in omega arith
       go false q m n r k e = let u : ◌≡◌ {A = ℕ} 0 1 = cc in omega arith
 
   -- a text that isn't broken says something
-  pub whole_says : (i : ℕ) → ((p : ℕ) → ¬ (survey_at s i ≡ Broken p)) → Spoken i
+  pub whole_says : (i : ℕ) → ((p : ℕ) → ¬ (survey_at s i ≡ Err (fault.Broken p))) → Spoken i
   unfolding survey_at survey_of
   whole_says i n = go (text_at s i).ending refl
     where
@@ -107,13 +108,13 @@ module _ (s : List ℕ) where
       go (broken_at p) q = absurd (n p (ap (survey_ended (text_at s i)) q))
 
   -- a text is broken exactly where it says nothing
-  pub silent_broken : (i : ℕ) → ((t : says.Text) (l : says.Layout) → ¬ Says s i t l) → (p : ℕ) × (survey_at s i ≡ Broken p)
+  pub silent_broken : (i : ℕ) → ((t : says.Text) (l : says.Layout) → ¬ Says s i t l) → (p : ℕ) × (survey_at s i ≡ Err (fault.Broken p))
   unfolding survey_at survey_of
   silent_broken i n = go (text_at s i).ending refl
     where
-      go : (d : Ending) → (text_at s i).ending ≡ d → (p : ℕ) × (survey_ended (text_at s i) (text_at s i).ending ≡ Broken p)
+      go : (d : Ending) → (text_at s i).ending ≡ d → (p : ℕ) × (survey_ended (text_at s i) (text_at s i).ending ≡ Err (fault.Broken p))
       go (done_at e) q = let r = read_says i e q in absurd (n r.text r.layout r.says)
       go (broken_at p) q = (p, ap (survey_ended (text_at s i)) q)
 
-  pub broken_silent : (i p : ℕ) → survey_at s i ≡ Broken p → (t : says.Text) (l : says.Layout) → ¬ Says s i t l
+  pub broken_silent : (i p : ℕ) → survey_at s i ≡ Err (fault.Broken p) → (t : says.Text) (l : says.Layout) → ¬ Says s i t l
   broken_silent i p e t l h = says_whole p h e

@@ -7,6 +7,8 @@ use Prim.Native.Nat.{ℕ, suc, ◌+◌}
 use native.Mathlib.Omega.{arith}
 use lib.IntN.{ℤ, pos, negsuc}
 use lib.ListN.{length, length-append}
+use Rattle.tree_survey.specs.declared.SurveyError.TheVariants as fault
+use Rattle.std.specs.Prelude.{Ok, Err}
 use Rattle.written.specs.Bytes.{Span}
 use Rattle.written.specs.Said as says
 use Rattle.written.specs.TreeText.{Parted, last as only, next as then, LineParting, LineAt, BodyAt, one, none, lines, TreeAt, tree, QuestionAt, question, TreesAt, trees, Says, without, with_questions}
@@ -19,9 +21,8 @@ use Rattle.tree_survey_questions.specs.Counts.{pattern_count}
 use Rattle.tree_line.specs.Lines.{line_of}
 use Rattle.tree_survey_lines.specs.Counts.{line_pdfs, records_of}
 use Rattle.tree_body.specs.Trees.{body_of, tree_of}
-use Rattle.tree_survey.specs.Survey.{negative, body_records, body_lines, tree_negative, tree_records, tree_lines, survey_of, survey_at}
+use Rattle.tree_survey.specs.Survey.{negative, body_records, body_lines, tree_negative, tree_records, tree_lines, survey_of, survey_at, counts_of}
 use Rattle.tree_survey.specs.Said.{said_patterns, said_records, said_body_records, said_body_lines, said_negative, said_tree_records, said_tree_lines, said_survey}
-use Rattle.tree_survey.specs.declared.Survey.TheVariants.{Counted, Broken, Negative}
 use Rattle.tree_survey.proofs.Joined.{survey_says, whole_says}
 
 -- ---- items that are parted: as many are said as are laid, and numbers of what is said are numbers of what is read
@@ -129,12 +130,12 @@ module _ {s : List ℕ} where
   unfolding survey_of said_survey total
   survey_said (without t) =
       let c = counts t in
-      survey_says s (without t) ∙ λ z. cond (c.below z) Negative (Counted 0 0 (c.count z) (c.records z) (c.longest z))
+      survey_says s (without t) ∙ λ z. cond (c.below z) (Err fault.Negative) (Ok (counts_of 0 0 (c.count z) (c.records z) (c.longest z)))
   survey_said (with_questions p t) =
       let c = counts t in
       let n = same_length p in
       let m = totals pattern_count said_patterns (λ i j x y t. question_patterns t) p in
-      survey_says s (with_questions p t) ∙ λ z. cond (c.below z) Negative (Counted (sym n z) (m z) (c.count z) (c.records z) (c.longest z))
+      survey_says s (with_questions p t) ∙ λ z. cond (c.below z) (Err fault.Negative) (Ok (counts_of (sym n z) (m z) (c.count z) (c.records z) (c.longest z)))
 
 -- ---- the counts in the words of `written`
 
@@ -186,22 +187,22 @@ negative_any b (there {y = y} k) e = negative_any (b || said_negative y) k e
 
 module _ {s : List ℕ} where
   -- 18: in the grammar, and a state is negative; both ways
-  pub said_negative_lem : {i : ℕ} {t : says.Text} {l : says.Layout} → Says s i t l → tables.Negative t.trees → survey_at s i ≡ Negative
+  pub said_negative_lem : {i : ℕ} {t : says.Text} {l : says.Layout} → Says s i t l → tables.Negative t.trees → survey_at s i ≡ (Err fault.Negative)
   unfolding said_survey
   said_negative_lem {t = t} h (tables.negative k e) = survey_said h ∙ rw (negative_any false k e)
 
-  pub negative_said : (i : ℕ) → survey_at s i ≡ Negative → (t : says.Text) × (l : says.Layout) × Says s i t l × tables.Negative t.trees
+  pub negative_said : (i : ℕ) → survey_at s i ≡ (Err fault.Negative) → (t : says.Text) × (l : says.Layout) × Says s i t l × tables.Negative t.trees
   unfolding said_survey
   negative_said i h =
-      let r = whole_says s i (λ p q. let e : Negative ≡ Broken p = sym h ∙ q in let u : ◌≡◌ {A = ℕ} 0 1 = cc in omega arith) in
+      let r = whole_says s i (λ p q. let e : (Err fault.Negative) ≡ Err (fault.Broken p) = sym h ∙ q in let u : ◌≡◌ {A = ℕ} 0 1 = cc in omega arith) in
       (r.text, r.layout, r.says, go r.text (any_of said_negative false r.text.trees) refl (sym (survey_said r.says) ∙ h))
     where
-      go : (t : says.Text) (c : Bool) → any_of said_negative false t.trees ≡ c → said_survey t ≡ Negative → tables.Negative t.trees
+      go : (t : says.Text) (c : Bool) → any_of said_negative false t.trees ≡ c → said_survey t ≡ (Err fault.Negative) → tables.Negative t.trees
       go t true e h = pick (any_negative false t.trees e)
         where
           pick : (false ≡ true) ⊎ tables.Negative t.trees → tables.Negative t.trees
           pick (inl e) = let u : ◌≡◌ {A = ℕ} 0 1 = cc in absurd (omega arith)
           pick (inr n) = n
       go t false e h =
-          let k : Counted (length t.questions) (total said_patterns t.questions) (length t.trees) (total said_tree_records t.trees) (largest said_tree_lines 0 t.trees) ≡ Negative = rw e at h in
+          let k : Ok (counts_of (length t.questions) (total said_patterns t.questions) (length t.trees) (total said_tree_records t.trees) (largest said_tree_lines 0 t.trees)) ≡ (Err fault.Negative) = rw e at h in
           let u : ◌≡◌ {A = ℕ} 0 1 = cc in absurd (omega arith)

@@ -1,5 +1,9 @@
 -- What is read of a text, and what its survey answers, as functions of what the text says.
-use Rattle.std.specs.Prelude.{Bool, false, cond, ℕ, ◌+◌, length}
+use Rattle.tree_survey.specs.declared.SurveyError.TheVariants as fault
+use Rattle.tree_survey.specs.declared.SurveyError.{SurveyError}
+use Rattle.tree_survey.specs.declared.Survey.{Survey}
+use Rattle.std.specs.declared.result.Result.{Result}
+use Rattle.std.specs.Prelude.{Bool, false, cond, ℕ, ◌+◌, length, Ok, Err}
 use mathlib.Core.List.{List, [], ◌∷◌, zip_with}
 use Rattle.written.specs.Said as says
 use Rattle.written.specs.Linking.{pdfs}
@@ -7,9 +11,7 @@ use Rattle.laws.specs.Steps.{done_at}
 use Rattle.laws.specs.Totals.{total, largest, any_of}
 use Rattle.tree_reference.specs.References.{index_of, same_index}
 use Rattle.tree_body.specs.Trees.{tree_of}
-use Rattle.tree_survey.specs.Survey.{Text, negative}
-use Rattle.tree_survey.specs.declared.Survey.{Survey}
-use Rattle.tree_survey.specs.declared.Survey.TheVariants.{Counted, Negative}
+use Rattle.tree_survey.specs.Survey.{Text, negative, counts_of}
 
 -- the whole of s is read: its questions where they stand, its trees in code
 abbrev pub text_of : List ℕ → says.Text → says.Layout → Text
@@ -44,7 +46,7 @@ abbrev pub said_tree_lines : says.Tree → ℕ
 said_tree_lines t = said_body_lines t.body
 
 -- the survey of what a text says
-unfoldable pub said_survey : says.Text → Survey
+unfoldable pub said_survey : says.Text → Result Survey SurveyError
 said_survey t =
-    cond (any_of said_negative false t.trees) Negative
-    (Counted (length t.questions) (total said_patterns t.questions) (length t.trees) (total said_tree_records t.trees) (largest said_tree_lines 0 t.trees))
+    cond (any_of said_negative false t.trees) (Err fault.Negative)
+    (Ok (counts_of (length t.questions) (total said_patterns t.questions) (length t.trees) (total said_tree_records t.trees) (largest said_tree_lines 0 t.trees)))

@@ -8,20 +8,17 @@ ghost use Rattle.laws.specs.Totals.{larger};
 ghost use Rattle.tree_body.specs.Trees.{head_at, tree_step_at, trees_at};
 ghost use Rattle.tree_survey.specs.Survey.{negative, head_counted, tree_surveyed, trees_counted, survey_at};
 
+use text_parts::Read;
 use tree_body::{TreeHead, TreeStep, after_tree, tree_head};
-use tree_survey_lines::{LineSurvey, survey_lines};
-use tree_survey_questions::{Questions, survey_questions};
+use tree_survey_lines::survey_lines;
+use tree_survey_questions::survey_questions;
 
 // What a tree needs, and the place past it.
 #[derive(Clone, Copy)]
-pub enum TreeCount {
-    Counted {
-        negative: bool,
-        records: usize,
-        lines: usize,
-        next: usize,
-    },
-    Broken,
+pub struct TreeCount {
+    pub negative: bool,
+    pub records: usize,
+    pub lines: usize,
 }
 
 // The same, and where the next tree stands; or the text's last; or the start of the one that doesn't fit, or of other text behind a tree.
@@ -43,32 +40,27 @@ pub enum TreeSurvey {
 
 // All trees; `lines` is that of the longest.
 #[derive(Clone, Copy)]
-pub enum Trees {
-    Counted {
-        negative: bool,
-        trees: usize,
-        records: usize,
-        lines: usize,
-    },
-    Broken(usize),
+pub struct Trees {
+    pub negative: bool,
+    pub trees: usize,
+    pub records: usize,
+    pub lines: usize,
 }
 
 // A whole text.
 #[derive(Clone, Copy)]
-pub enum Survey {
-    // the rows needed, and the lines of the longest tree
-    Counted {
-        questions: usize,
-        patterns: usize,
-        trees: usize,
-        records: usize,
-        lines: usize,
-    },
-    // 17: outside the grammar; the start of the question or tree that doesn't fit, or of other text behind a tree
-    Broken {
-        at: usize,
-    },
-    // 18: in the grammar, but a state is negative
+pub struct Survey {
+    pub questions: usize,
+    pub patterns: usize,
+    pub trees: usize,
+    pub records: usize,
+    pub lines: usize,
+}
+
+// Why a text has no counts: where it breaks off, or that a state is negative.
+#[derive(Clone, Copy)]
+pub enum SurveyError {
+    Broken(usize),
     Negative,
 }
 
@@ -91,7 +83,7 @@ fn either(a: bool, b: bool) -> bool
 }
 
 // The tree at `at`, without what follows it.
-fn count_tree(s: &[u8], at: usize) -> TreeCount
+fn count_tree(s: &[u8], at: usize) -> Option<Read<TreeCount>>
     ensures { result ≡ head_counted s.now (head_at s.now at) }
 {
     match tree_head(s, at) {
@@ -100,32 +92,34 @@ fn count_tree(s: &[u8], at: usize) -> TreeCount
             state,
             index: _,
             next,
-        } => TreeCount::Counted {
-            negative: is_negative(state),
-            records: 1,
-            lines: 0,
-            next,
-        },
-        TreeHead::Empty { state, next } => TreeCount::Counted {
-            negative: is_negative(state),
-            records: 0,
-            lines: 0,
-            next,
-        },
-        TreeHead::Lines { state, first } => match survey_lines(s, first) {
-            LineSurvey::Counted {
-                lines,
-                records,
-                next,
-            } => TreeCount::Counted {
+        } => Some(Read {
+            value: TreeCount {
                 negative: is_negative(state),
-                records,
-                lines,
-                next,
+                records: 1,
+                lines: 0,
             },
-            LineSurvey::Broken => TreeCount::Broken,
-        },
-        TreeHead::NoTree => TreeCount::Broken,
+            next,
+        }),
+        TreeHead::Empty { state, next } => Some(Read {
+            value: TreeCount {
+                negative: is_negative(state),
+                records: 0,
+                lines: 0,
+            },
+            next,
+        }),
+        TreeHead::Lines { state, first } => {
+            let body = survey_lines(s, first)?;
+            Some(Read {
+                value: TreeCount {
+                    negative: is_negative(state),
+                    records: body.value.records,
+                    lines: body.value.lines,
+                },
+                next: body.next,
+            })
+        }
+        TreeHead::NoTree => None,
     }
 }
 
@@ -134,31 +128,26 @@ pub fn survey_tree(s: &[u8], at: usize) -> TreeSurvey
     ensures { result ≡ tree_surveyed (tree_step_at s.now at) }
 {
     match count_tree(s, at) {
-        TreeCount::Counted {
-            negative,
-            records,
-            lines,
-            next: end,
-        } => match after_tree(s, end) {
+        Some(tree) => match after_tree(s, tree.next) {
             TreeStep::Next(next) => TreeSurvey::Next {
-                negative,
-                records,
-                lines,
+                negative: tree.value.negative,
+                records: tree.value.records,
+                lines: tree.value.lines,
                 next,
             },
             TreeStep::End => TreeSurvey::Last {
-                negative,
-                records,
-                lines,
+                negative: tree.value.negative,
+                records: tree.value.records,
+                lines: tree.value.lines,
             },
             TreeStep::Broken(other) => TreeSurvey::Broken(other),
         },
-        TreeCount::Broken => TreeSurvey::Broken(at),
+        None => TreeSurvey::Broken(at),
     }
 }
 
 // The trees from the first one's place on.
-pub fn survey_trees(s: &[u8], at: usize) -> Trees
+pub fn survey_trees(s: &[u8], at: usize) -> Result<Trees, usize>
     ensures { result ≡ trees_counted false 0 0 0 (trees_at s.now at) }
 {
     let mut i = at;
@@ -166,6 +155,7 @@ pub fn survey_trees(s: &[u8], at: usize) -> Trees
     let mut n = 0;
     let mut m = 0;
     let mut longest = 0;
+    // No `for`: where the next tree stands is what the reader of this one answers.
     loop {
         match survey_tree(s, i) {
             TreeSurvey::Next {
@@ -185,50 +175,41 @@ pub fn survey_trees(s: &[u8], at: usize) -> Trees
                 records,
                 lines,
             } => {
-                return Trees::Counted {
+                return Ok(Trees {
                     negative: either(below, negative),
                     trees: n + 1,
                     records: m + records,
                     lines: larger_of(longest, lines),
-                };
+                });
             }
             TreeSurvey::Broken(place) => {
-                return Trees::Broken(place);
+                return Err(place);
             }
         }
     }
 }
 
 // A whole text, from `at` on.
-pub fn survey_text(s: &[u8], at: usize) -> Survey
+pub fn survey_text(s: &[u8], at: usize) -> Result<Survey, SurveyError>
     ensures { result ≡ survey_at s.now at }
 {
     match survey_questions(s, at) {
-        Questions::Counted {
-            questions,
-            patterns,
-            next,
-        } => match survey_trees(s, next) {
-            Trees::Counted {
-                negative,
-                trees,
-                records,
-                lines,
-            } => {
-                if negative {
-                    Survey::Negative
+        Ok(asked) => match survey_trees(s, asked.next) {
+            Ok(all) => {
+                if all.negative {
+                    Err(SurveyError::Negative)
                 } else {
-                    Survey::Counted {
-                        questions,
-                        patterns,
-                        trees,
-                        records,
-                        lines,
-                    }
+                    Ok(Survey {
+                        questions: asked.value.questions,
+                        patterns: asked.value.patterns,
+                        trees: all.trees,
+                        records: all.records,
+                        lines: all.lines,
+                    })
                 }
             }
-            Trees::Broken(place) => Survey::Broken { at: place },
+            Err(place) => Err(SurveyError::Broken(place)),
         },
-        Questions::Broken(place) => Survey::Broken { at: place },
+        Err(place) => Err(SurveyError::Broken(place)),
     }
 }

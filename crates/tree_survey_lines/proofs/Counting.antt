@@ -5,6 +5,8 @@ use mathlib.Core.List.{List, [], ◌∷◌}
 use Prim.Native.Nat.{ℕ, suc, ◌+◌, ◌≤◌, ◌<◌}
 use native.Mathlib.Omega.{arith}
 use lib.ListN.{length}
+use Rattle.text_parts.specs.Parts.{read_to}
+use Rattle.std.specs.Prelude.{Some, None}
 use Rattle.written.specs.Bytes.{Span}
 use Rattle.written.specs.Said as says
 use Rattle.written.specs.TreeText.{LineAt, line}
@@ -23,9 +25,7 @@ use Rattle.tree_line.specs.declared.Line.{Line}
 use Rattle.tree_line.specs.declared.LineStep.{LineStep}
 use Rattle.tree_line.specs.declared.LineStep.TheVariants as answer
 use Rattle.tree_line.proofs.Joined.{step, reads, read_lines}
-use Rattle.tree_survey_lines.specs.Counts.{line_pdfs, line_records, records_of, count_ended, lines_counted, survey_ended, lines_surveyed}
-use Rattle.tree_survey_lines.specs.declared.LineCount.TheVariants as count
-use Rattle.tree_survey_lines.specs.declared.LineSurvey.TheVariants as survey
+use Rattle.tree_survey_lines.specs.Counts.{line_pdfs, line_records, records_of, count_ended, lines_counted, survey_ended, lines_surveyed, line_count, line_survey}
 
 pub pdf_few : (x : TreeIndex) → pdf_count x ≤ 1
 pdf_few (Node x) = omega arith
@@ -121,13 +121,13 @@ module _ (s : List ℕ) where
         few = omega (arith, c.few, u.0, line_few l);
       }
 
-  pub counted_last : {at i n m k j : ℕ} {l : Line} → Counting at i n m → answer.Last l j ≡ line_step_at s i → k ≡ line_pdfs l → count.Counted (n + 1) (m + k) j ≡ lines_counted 0 0 (lines_at s at)
+  pub counted_last : {at i n m k j : ℕ} {l : Line} → Counting at i n m → answer.Last l j ≡ line_step_at s i → k ≡ line_pdfs l → Some (read_to (line_count (n + 1) (m + k)) j) ≡ lines_counted 0 0 (lines_at s at)
   unfolding lines_counted total
   counted_last {i = i} {n = n} {m = m} {k = k} {j = j} {l = l} c e q =
       let r : m + k ≡ m + (line_pdfs l + 0) = omega arith in
-      ap (λ (x : ℕ). count.Counted (n + 1) x j) r ∙ sym (ap (lines_counted n m) (lines_are i ∙ ap (read_of (lines_at s)) (stepped i e))) ∙ c.same
+      ap (λ (x : ℕ). Some (read_to (line_count (n + 1) x) j)) r ∙ sym (ap (lines_counted n m) (lines_are i ∙ ap (read_of (lines_at s)) (stepped i e))) ∙ c.same
 
-  pub counted_broken : {at i n m : ℕ} → Counting at i n m → answer.Broken ≡ line_step_at s i → count.Broken ≡ lines_counted 0 0 (lines_at s at)
+  pub counted_broken : {at i n m : ℕ} → Counting at i n m → answer.Broken ≡ line_step_at s i → None ≡ lines_counted 0 0 (lines_at s at)
   unfolding lines_counted
   counted_broken {i = i} {n = n} {m = m} c e = sym (ap (lines_counted n m) (lines_are i ∙ ap (read_of (lines_at s)) (stepped i e))) ∙ c.same
 
@@ -140,23 +140,23 @@ module _ (s : List ℕ) where
     pub pdfs : total line_pdfs (lines_at s i).items ≡ m
     pub size : n + m + i ≤ e
 
-  pub counted : (i n m e : ℕ) → count.Counted n m e ≡ lines_counted 0 0 (lines_at s i) → Counted i n m e
+  pub counted : (i n m e : ℕ) → Some (read_to (line_count n m) e) ≡ lines_counted 0 0 (lines_at s i) → Counted i n m e
   unfolding lines_counted
   counted i n m e h = go (lines_at s i).ending refl h
     where
-      go : (d : Ending) → (lines_at s i).ending ≡ d → count.Counted n m e ≡ count_ended (0 + length (lines_at s i).items) (0 + total line_pdfs (lines_at s i).items) d → Counted i n m e
+      go : (d : Ending) → (lines_at s i).ending ≡ d → Some (read_to (line_count n m) e) ≡ count_ended (0 + length (lines_at s i).items) (0 + total line_pdfs (lines_at s i).items) d → Counted i n m e
       go (done_at x) q h =
-          let u : e ≡ x = cc in
-          let v : n ≡ 0 + length (lines_at s i).items = cc in
-          let w : m ≡ 0 + total line_pdfs (lines_at s i).items = cc in
+          let u : e ≡ x = grind arith in
+          let v : n ≡ 0 + length (lines_at s i).items = grind arith in
+          let w : m ≡ 0 + total line_pdfs (lines_at s i).items = grind arith in
           record { done = q ∙ ap done_at (sym u); lines = omega arith; pdfs = omega arith; size = omega (arith, lines_size i x q) }
       go (broken_at x) q h = let u : ◌≡◌ {A = ℕ} 0 1 = cc in absurd (omega arith)
 
-  pub not_counted : (i : ℕ) → count.Broken ≡ lines_counted 0 0 (lines_at s i) → (e : ℕ) × ((lines_at s i).ending ≡ broken_at e)
+  pub not_counted : (i : ℕ) → None ≡ lines_counted 0 0 (lines_at s i) → (e : ℕ) × ((lines_at s i).ending ≡ broken_at e)
   unfolding lines_counted
   not_counted i h = go (lines_at s i).ending refl h
     where
-      go : (d : Ending) → (lines_at s i).ending ≡ d → count.Broken ≡ count_ended (0 + length (lines_at s i).items) (0 + total line_pdfs (lines_at s i).items) d → (e : ℕ) × ((lines_at s i).ending ≡ broken_at e)
+      go : (d : Ending) → (lines_at s i).ending ≡ d → None ≡ count_ended (0 + length (lines_at s i).items) (0 + total line_pdfs (lines_at s i).items) d → (e : ℕ) × ((lines_at s i).ending ≡ broken_at e)
       go (done_at x) q h = let u : ◌≡◌ {A = ℕ} 0 1 = cc in absurd (omega arith)
       go (broken_at x) q h = (x, q)
 
@@ -170,33 +170,33 @@ module _ (s : List ℕ) where
       go (last k p) r q h = rw (ap (λ (m : Reading Line). m.items) q)
       go (broken p) r q h = let v : broken_at p ≡ done_at e = sym (ap (λ (m : Reading Line). m.ending) q) ∙ h in let u : ◌≡◌ {A = ℕ} 0 1 = cc in absurd (omega arith)
 
-  pub surveyed_more : (i j : ℕ) {n m k e : ℕ} {l : Line} → answer.Next l j ≡ line_step_at s i → count.Counted n m e ≡ lines_counted 0 0 (lines_at s j) → k ≡ line_pdfs l
-      → survey.Counted (n + 1) (n + 1 + (m + k)) e ≡ lines_surveyed (lines_at s i)
+  pub surveyed_more : (i j : ℕ) {n m k e : ℕ} {l : Line} → answer.Next l j ≡ line_step_at s i → Some (read_to (line_count n m) e) ≡ lines_counted 0 0 (lines_at s j) → k ≡ line_pdfs l
+      → Some (read_to (line_survey (n + 1) (n + 1 + (m + k))) e) ≡ lines_surveyed (lines_at s i)
   unfolding lines_surveyed total
   surveyed_more i j {n} {m} {k} {e} {l} a c q =
       let d = counted j n m e c in
       let r = records_more l j e d.done in
       let x : n + 1 ≡ suc (length (lines_at s j).items) = omega (arith, d.lines) in
       let y : n + 1 + (m + k) ≡ records_of (l ∷ (lines_at s j).items) = omega (arith, r, d.lines, d.pdfs) in
-      ap₂ (λ u v. survey.Counted u v e) x y
+      ap₂ (λ u v. Some (read_to (line_survey u v) e)) x y
       ∙ sym (ap lines_surveyed (lines_are i ∙ ap (read_of (lines_at s)) (stepped i a)) ∙ ap (survey_ended (l ∷ (lines_at s j).items)) d.done)
 
-  pub surveyed_stopped : (i j : ℕ) {l : Line} → answer.Next l j ≡ line_step_at s i → count.Broken ≡ lines_counted 0 0 (lines_at s j) → survey.Broken ≡ lines_surveyed (lines_at s i)
+  pub surveyed_stopped : (i j : ℕ) {l : Line} → answer.Next l j ≡ line_step_at s i → None ≡ lines_counted 0 0 (lines_at s j) → None ≡ lines_surveyed (lines_at s i)
   unfolding lines_surveyed
   surveyed_stopped i j {l} a c =
       let d = not_counted j c in
       sym (ap lines_surveyed (lines_are i ∙ ap (read_of (lines_at s)) (stepped i a)) ∙ ap (survey_ended (l ∷ (lines_at s j).items)) d.1)
 
-  pub surveyed_one : (i : ℕ) {k e : ℕ} {l : Line} → answer.Last l e ≡ line_step_at s i → k ≡ line_records l → survey.Counted 1 k e ≡ lines_surveyed (lines_at s i)
+  pub surveyed_one : (i : ℕ) {k e : ℕ} {l : Line} → answer.Last l e ≡ line_step_at s i → k ≡ line_records l → Some (read_to (line_survey 1 k) e) ≡ lines_surveyed (lines_at s i)
   unfolding lines_surveyed records_of
-  surveyed_one i {k} {e} a q = ap (λ (x : ℕ). survey.Counted 1 x e) q ∙ sym (ap lines_surveyed (lines_are i ∙ ap (read_of (lines_at s)) (stepped i a)))
+  surveyed_one i {k} {e} a q = ap (λ (x : ℕ). Some (read_to (line_survey 1 x) e)) q ∙ sym (ap lines_surveyed (lines_are i ∙ ap (read_of (lines_at s)) (stepped i a)))
 
-  pub surveyed_none : (i : ℕ) → answer.Broken ≡ line_step_at s i → survey.Broken ≡ lines_surveyed (lines_at s i)
+  pub surveyed_none : (i : ℕ) → answer.Broken ≡ line_step_at s i → None ≡ lines_surveyed (lines_at s i)
   unfolding lines_surveyed
   surveyed_none i a = sym (ap lines_surveyed (lines_are i ∙ ap (read_of (lines_at s)) (stepped i a)))
 
   -- the counts of a tree's lines fit
-  pub room : (i j : ℕ) {n m e : ℕ} {l : Line} → answer.Next l j ≡ line_step_at s i → count.Counted n m e ≡ lines_counted 0 0 (lines_at s j) → n + m + 3 ≤ length s
+  pub room : (i j : ℕ) {n m e : ℕ} {l : Line} → answer.Next l j ≡ line_step_at s i → Some (read_to (line_count n m) e) ≡ lines_counted 0 0 (lines_at s j) → n + m + 3 ≤ length s
   room i j {n} {m} {e} a c =
       let d = counted j n m e c in
       let r = read_lines s j e d.done in

@@ -8,29 +8,22 @@ ghost use Rattle.std.specs.Prelude.{◌≡◌};
 ghost use Rattle.tree_line.specs.Lines.{lines_at};
 ghost use Rattle.tree_survey_lines.specs.Counts.{line_pdfs, line_records, lines_counted, lines_surveyed};
 
+use text_parts::Read;
 use tree_line::{Line, LineStep, next_line};
 use tree_reference::{pdf_count, same_index};
 
 // How many lines there are, how many of their references are PDFs, and the place past the `}` behind them.
 #[derive(Clone, Copy)]
-pub enum LineCount {
-    Counted {
-        lines: usize,
-        pdfs: usize,
-        next: usize,
-    },
-    Broken,
+pub struct LineCount {
+    pub lines: usize,
+    pub pdfs: usize,
 }
 
 // A tree's lines, the records that they need, and the place past the `}` behind them.
 #[derive(Clone, Copy)]
-pub enum LineSurvey {
-    Counted {
-        lines: usize,
-        records: usize,
-        next: usize,
-    },
-    Broken,
+pub struct LineSurvey {
+    pub lines: usize,
+    pub records: usize,
 }
 
 // How many of a line's references are PDFs.
@@ -56,12 +49,13 @@ fn line_records(line: Line) -> usize
 }
 
 // The lines from `at` on.
-pub fn count_lines(s: &[u8], at: usize) -> LineCount
+pub fn count_lines(s: &[u8], at: usize) -> Option<Read<LineCount>>
     ensures { result ≡ lines_counted 0 0 (lines_at s.now at) }
 {
     let mut i = at;
     let mut n = 0;
     let mut m = 0;
+    // No `for`: where the next line stands is what the reader of this one answers.
     loop {
         match next_line(s, i) {
             LineStep::Next { line, next } => {
@@ -70,37 +64,43 @@ pub fn count_lines(s: &[u8], at: usize) -> LineCount
                 i = next;
             }
             LineStep::Last { line, next } => {
-                return LineCount::Counted {
-                    lines: n + 1,
-                    pdfs: m + line_pdfs(line),
+                return Some(Read {
+                    value: LineCount {
+                        lines: n + 1,
+                        pdfs: m + line_pdfs(line),
+                    },
                     next,
-                };
+                });
             }
             LineStep::Broken => {
-                return LineCount::Broken;
+                return None;
             }
         }
     }
 }
 
 // The lines of a tree, from its first line's place on.
-pub fn survey_lines(s: &[u8], at: usize) -> LineSurvey
+pub fn survey_lines(s: &[u8], at: usize) -> Option<Read<LineSurvey>>
     ensures { result ≡ lines_surveyed (lines_at s.now at) }
 {
     match next_line(s, at) {
-        LineStep::Next { line, next: second } => match count_lines(s, second) {
-            LineCount::Counted { lines, pdfs, next } => LineSurvey::Counted {
-                lines: lines + 1,
-                records: lines + 1 + (pdfs + line_pdfs(line)),
-                next,
+        LineStep::Next { line, next: second } => {
+            let count = count_lines(s, second)?;
+            Some(Read {
+                value: LineSurvey {
+                    lines: count.value.lines + 1,
+                    records: count.value.lines + 1 + (count.value.pdfs + line_pdfs(line)),
+                },
+                next: count.next,
+            })
+        }
+        LineStep::Last { line, next } => Some(Read {
+            value: LineSurvey {
+                lines: 1,
+                records: line_records(line),
             },
-            LineCount::Broken => LineSurvey::Broken,
-        },
-        LineStep::Last { line, next } => LineSurvey::Counted {
-            lines: 1,
-            records: line_records(line),
             next,
-        },
-        LineStep::Broken => LineSurvey::Broken,
+        }),
+        LineStep::Broken => None,
     }
 }

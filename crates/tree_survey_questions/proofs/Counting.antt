@@ -4,6 +4,11 @@ use mathlib.Core.List.{List}
 use Prim.Native.Nat.{ℕ, suc, ◌+◌, ◌≤◌, ◌<◌}
 use native.Mathlib.Omega.{arith}
 use lib.ListN.{length}
+use Rattle.text_parts.specs.declared.Span.{Span as Piece}
+use Rattle.text_parts.specs.declared.Read.{Read}
+use Rattle.text_parts.specs.Parts.{read_to, cut}
+use Rattle.std.specs.declared.option.Option.{Option}
+use Rattle.std.specs.Prelude.{Some, None, Ok, Err}
 use Rattle.written.specs.Bytes.{Span}
 use Rattle.written.specs.Said.{Question, QuestionPlace}
 use Rattle.written.specs.TreeText.{Parted, last as only, next as then, Comma, PatternAt, bare, quoted, byte, end, QuestionAt, question}
@@ -16,18 +21,14 @@ use Rattle.laws.proofs.Parted.{onward}
 use Rattle.laws.proofs.Steps.{each_weighs}
 use Rattle.text_spaces.proofs.Joined.{closed-lt, closed_inside}
 use Rattle.tree_question.specs.Questions.{head_at, pattern_step_at, pattern_step, patterns_at, item_at, after_question, question_followed, question_read, question_headed, question_step_at, questions_from, questions_at}
-use Rattle.tree_question.specs.declared.QuestionHead.{QuestionHead}
-use Rattle.tree_question.specs.declared.QuestionHead.TheVariants as head
 use Rattle.tree_question.specs.declared.Item.{Item}
 use Rattle.tree_question.specs.declared.Item.TheVariants as item
 use Rattle.tree_question.specs.declared.PatternStep.{PatternStep}
 use Rattle.tree_question.specs.declared.PatternStep.TheVariants as pattern
 use Rattle.tree_question.proofs.Filling.{patterns_are, headed, questions_from_here, questions_are}
 use Rattle.tree_question.proofs.Joined.{pattern_step_here, pattern_reads, question_reads}
-use Rattle.tree_survey_questions.specs.Counts.{patterns_ended, patterns_counted, pattern_count, question_surveyed, questions_ended, questions_counted}
-use Rattle.tree_survey_questions.specs.declared.Patterns.TheVariants as patterns
+use Rattle.tree_survey_questions.specs.Counts.{patterns_ended, patterns_counted, pattern_count, question_surveyed, questions_ended, questions_counted, questions_of}
 use Rattle.tree_survey_questions.specs.declared.QuestionSurvey.TheVariants as survey
-use Rattle.tree_survey_questions.specs.declared.Questions.TheVariants as questions
 
 module _ (s : List ℕ) where
   -- ---- patterns
@@ -61,34 +62,34 @@ module _ (s : List ℕ) where
         few = omega (arith, c.few, u.0);
       }
 
-  pub counted_last : {at i n b k j : ℕ} → Counting at i n → pattern.Last b k j ≡ pattern_step_at s i → patterns.Counted (n + 1) j ≡ patterns_counted 0 (patterns_at s at)
+  pub counted_last : {at i n b k j : ℕ} → Counting at i n → pattern.Last b k j ≡ pattern_step_at s i → Some (read_to (n + 1) j) ≡ patterns_counted 0 (patterns_at s at)
   unfolding patterns_counted
   counted_last {i = i} {n = n} c e = sym (ap (patterns_counted n) (patterns_are s i ∙ ap (read_of (patterns_at s)) (stepped i e))) ∙ c.same
 
-  pub counted_broken : {at i n : ℕ} → Counting at i n → pattern.Broken ≡ pattern_step_at s i → patterns.Broken ≡ patterns_counted 0 (patterns_at s at)
+  pub counted_broken : {at i n : ℕ} → Counting at i n → pattern.Broken ≡ pattern_step_at s i → None ≡ patterns_counted 0 (patterns_at s at)
   unfolding patterns_counted
   counted_broken {i = i} {n = n} c e = sym (ap (patterns_counted n) (patterns_are s i ∙ ap (read_of (patterns_at s)) (stepped i e))) ∙ c.same
 
   -- ---- one question
 
-  pub counted_done : (r : Reading Span) (k e : ℕ) → patterns.Counted k e ≡ patterns_counted 0 r → (r.ending ≡ done_at e) × (length r.items ≡ k)
+  pub counted_done : (r : Reading Span) (k e : ℕ) → Some (read_to k e) ≡ patterns_counted 0 r → (r.ending ≡ done_at e) × (length r.items ≡ k)
   unfolding patterns_counted
   counted_done r k e h = go r.ending refl h
     where
-      go : (d : Ending) → r.ending ≡ d → patterns.Counted k e ≡ patterns_ended (0 + length r.items) d → (r.ending ≡ done_at e) × (length r.items ≡ k)
-      go (done_at x) q h = let u : e ≡ x = cc in let v : k ≡ 0 + length r.items = cc in (q ∙ ap done_at (sym u), omega arith)
+      go : (d : Ending) → r.ending ≡ d → Some (read_to k e) ≡ patterns_ended (0 + length r.items) d → (r.ending ≡ done_at e) × (length r.items ≡ k)
+      go (done_at x) q h = let u : e ≡ x = grind arith in let v : k ≡ 0 + length r.items = grind arith in (q ∙ ap done_at (sym u), omega arith)
       go (broken_at x) q h = let u : ◌≡◌ {A = ℕ} 0 1 = cc in absurd (omega arith)
 
-  counted_not : (r : Reading Span) → patterns.Broken ≡ patterns_counted 0 r → (e : ℕ) × (r.ending ≡ broken_at e)
+  counted_not : (r : Reading Span) → None ≡ patterns_counted 0 r → (e : ℕ) × (r.ending ≡ broken_at e)
   unfolding patterns_counted
   counted_not r h = go r.ending refl h
     where
-      go : (d : Ending) → r.ending ≡ d → patterns.Broken ≡ patterns_ended (0 + length r.items) d → (e : ℕ) × (r.ending ≡ broken_at e)
+      go : (d : Ending) → r.ending ≡ d → None ≡ patterns_ended (0 + length r.items) d → (e : ℕ) × (r.ending ≡ broken_at e)
       go (done_at x) q h = let u : ◌≡◌ {A = ℕ} 0 1 = cc in absurd (omega arith)
       go (broken_at x) q h = (x, q)
 
-  module _ (i : ℕ) {b n f : ℕ} (h : head.Named b n f ≡ head_at s i) where
-    module _ {k e : ℕ} (d : patterns.Counted k e ≡ patterns_counted 0 (patterns_at s f)) where
+  module _ (i : ℕ) {b n f : ℕ} (h : Some (read_to (cut b n) f) ≡ head_at s i) where
+    module _ {k e : ℕ} (d : Some (read_to k e) ≡ patterns_counted 0 (patterns_at s f)) where
       followed : question_step_at s i ≡ question_followed (record { name = record { start = b; len = n }; patterns = (patterns_at s f).items }) (after_question s e)
       followed = headed s i h ∙ ap (question_read s i (record { start = b; len = n }) (patterns_at s f).items) (counted_done (patterns_at s f) k e d).0
 
@@ -105,10 +106,10 @@ module _ (s : List ℕ) where
           ap (λ (m : ℕ). survey.Last m j) (sym long)
           ∙ sym (ap question_surveyed (followed ∙ ap (question_followed (record { name = record { start = b; len = n }; patterns = (patterns_at s f).items })) (sym a)))
 
-    pub asked_broken : patterns.Broken ≡ patterns_counted 0 (patterns_at s f) → survey.Broken ≡ question_surveyed (question_step_at s i)
+    pub asked_broken : None ≡ patterns_counted 0 (patterns_at s f) → survey.Broken ≡ question_surveyed (question_step_at s i)
     asked_broken d = sym (ap question_surveyed (headed s i h ∙ ap (question_read s i (record { start = b; len = n }) (patterns_at s f).items) (counted_not (patterns_at s f) d).1))
 
-  pub asked_none : (i : ℕ) → head.NoQuestion ≡ head_at s i → survey.Broken ≡ question_surveyed (question_step_at s i)
+  pub asked_none : (i : ℕ) → None ≡ head_at s i → survey.Broken ≡ question_surveyed (question_step_at s i)
   unfolding question_step_at
   asked_none i h = ap (λ t. question_surveyed (question_headed s i t)) h
 
@@ -172,9 +173,9 @@ module _ (s : List ℕ) where
           pick (item.Tree j) h = let u : ◌≡◌ {A = ℕ} 0 1 = cc in absurd (omega arith)
       within b n f (broken_at e) h = refl
 
-      go : (t : QuestionHead) → survey.Broken ≡ question_surveyed (question_headed s i t) → question_headed s i t ≡ broken i
-      go (head.Named b n f) h = within b n f (patterns_at s f).ending h
-      go head.NoQuestion h = refl
+      go : (t : Option (Read Piece)) → survey.Broken ≡ question_surveyed (question_headed s i t) → question_headed s i t ≡ broken i
+      go (Some r) h = within r.value.start r.value.len r.next (patterns_at s r.next).ending h
+      go None h = refl
 
   pub more_in : (i k j : ℕ) → survey.Next k j ≡ question_surveyed (question_step_at s i) → (i < j) × (j ≤ length s) × (k + i ≤ j)
   more_in i k j h = let r = surveyed_next i k j h in let z = step_next i j r.0 r.1 in (z.0, z.1, omega (arith, z.2, r.2))
@@ -202,14 +203,14 @@ module _ (s : List ℕ) where
         few_patterns = omega (arith, c.few_patterns, u.2);
       }
 
-  pub surveyed_end : {at i n m k j : ℕ} → Surveying at i n m → survey.Last k j ≡ question_surveyed (question_step_at s i) → questions.Counted (n + 1) (m + k) j ≡ questions_counted 0 0 (questions_from_here s at)
+  pub surveyed_end : {at i n m k j : ℕ} → Surveying at i n m → survey.Last k j ≡ question_surveyed (question_step_at s i) → Ok (read_to (questions_of (n + 1) (m + k)) j) ≡ questions_counted 0 0 (questions_from_here s at)
   unfolding questions_counted total
   surveyed_end {i = i} {n = n} {m = m} {k = k} {j = j} c h =
       let r = surveyed_last i k j h in
       let q : m + k ≡ m + (pattern_count r.0 + 0) = omega (arith, r.2) in
-      ap (λ (x : ℕ). questions.Counted (n + 1) x j) q ∙ sym (ap (questions_counted n m) (questions_are s i ∙ ap (read_of (questions_from_here s)) r.1)) ∙ c.same
+      ap (λ (x : ℕ). Ok (read_to (questions_of (n + 1) x) j)) q ∙ sym (ap (questions_counted n m) (questions_are s i ∙ ap (read_of (questions_from_here s)) r.1)) ∙ c.same
 
-  pub surveyed_none : {at i n m : ℕ} → Surveying at i n m → survey.Broken ≡ question_surveyed (question_step_at s i) → questions.Broken i ≡ questions_counted 0 0 (questions_from_here s at)
+  pub surveyed_none : {at i n m : ℕ} → Surveying at i n m → survey.Broken ≡ question_surveyed (question_step_at s i) → Err i ≡ questions_counted 0 0 (questions_from_here s at)
   unfolding questions_counted
   surveyed_none {i = i} {n = n} {m = m} c h = sym (ap (questions_counted n m) (questions_are s i ∙ ap (read_of (questions_from_here s)) (surveyed_broken i h))) ∙ c.same
 

@@ -7,16 +7,8 @@ ghost use Rattle.tree_question.specs.Questions.{patterns_at, question_step_at, q
 ghost use Rattle.laws.specs.Steps.{read};
 ghost use Rattle.tree_survey_questions.specs.Counts.{patterns_counted, question_surveyed, questions_counted};
 
-use tree_question::{
-    Item, PatternStep, QuestionHead, after_question, first_item, next_pattern, question_head,
-};
-
-// How many patterns there are, and the place past the `}` behind them.
-#[derive(Clone, Copy)]
-pub enum Patterns {
-    Counted { patterns: usize, next: usize },
-    Broken,
-}
+use text_parts::Read;
+use tree_question::{Item, PatternStep, after_question, first_item, next_pattern, question_head};
 
 // A question: how many patterns it has, and where the next question, or after the last one the first tree, stands.
 #[derive(Clone, Copy)]
@@ -28,21 +20,18 @@ pub enum QuestionSurvey {
 
 // All questions; or the start of the one that doesn't fit.
 #[derive(Clone, Copy)]
-pub enum Questions {
-    Counted {
-        questions: usize,
-        patterns: usize,
-        next: usize,
-    },
-    Broken(usize),
+pub struct Questions {
+    pub questions: usize,
+    pub patterns: usize,
 }
 
 // The patterns from `at` on.
-pub fn count_patterns(s: &[u8], at: usize) -> Patterns
+pub fn count_patterns(s: &[u8], at: usize) -> Option<Read<usize>>
     ensures { result ≡ patterns_counted 0 (patterns_at s.now at) }
 {
     let mut i = at;
     let mut n = 0;
+    // No `for`: where the next pattern stands is what the reader of this one answers.
     loop {
         match next_pattern(s, i) {
             PatternStep::Next {
@@ -58,13 +47,10 @@ pub fn count_patterns(s: &[u8], at: usize) -> Patterns
                 len: _,
                 next,
             } => {
-                return Patterns::Counted {
-                    patterns: n + 1,
-                    next,
-                };
+                return Some(Read { value: n + 1, next });
             }
             PatternStep::Broken => {
-                return Patterns::Broken;
+                return None;
             }
         }
     }
@@ -75,31 +61,31 @@ pub fn survey_question(s: &[u8], at: usize) -> QuestionSurvey
     ensures { result ≡ question_surveyed (question_step_at s.now at) }
 {
     match question_head(s, at) {
-        QuestionHead::Named {
-            start: _,
-            len: _,
-            first,
-        } => match count_patterns(s, first) {
-            Patterns::Counted {
-                patterns,
-                next: end,
-            } => match after_question(s, end) {
-                Item::Question(next) => QuestionSurvey::Next { patterns, next },
-                Item::Tree(next) => QuestionSurvey::Last { patterns, next },
+        Some(head) => match count_patterns(s, head.next) {
+            Some(patterns) => match after_question(s, patterns.next) {
+                Item::Question(next) => QuestionSurvey::Next {
+                    patterns: patterns.value,
+                    next,
+                },
+                Item::Tree(next) => QuestionSurvey::Last {
+                    patterns: patterns.value,
+                    next,
+                },
             },
-            Patterns::Broken => QuestionSurvey::Broken,
+            None => QuestionSurvey::Broken,
         },
-        QuestionHead::NoQuestion => QuestionSurvey::Broken,
+        None => QuestionSurvey::Broken,
     }
 }
 
 // The questions from the first one's place on.
-fn count_questions(s: &[u8], at: usize) -> Questions
+fn count_questions(s: &[u8], at: usize) -> Result<Read<Questions>, usize>
     ensures { result ≡ questions_counted 0 0 (read (question_step_at s.now) (length s.now) at) }
 {
     let mut i = at;
     let mut n = 0;
     let mut m = 0;
+    // No `for`: where the next question stands is what the reader of this one answers.
     loop {
         match survey_question(s, i) {
             QuestionSurvey::Next { patterns, next } => {
@@ -108,29 +94,33 @@ fn count_questions(s: &[u8], at: usize) -> Questions
                 i = next;
             }
             QuestionSurvey::Last { patterns, next } => {
-                return Questions::Counted {
-                    questions: n + 1,
-                    patterns: m + patterns,
+                return Ok(Read {
+                    value: Questions {
+                        questions: n + 1,
+                        patterns: m + patterns,
+                    },
                     next,
-                };
+                });
             }
             QuestionSurvey::Broken => {
-                return Questions::Broken(i);
+                return Err(i);
             }
         }
     }
 }
 
 // The questions of a text that begins at `at`, possibly none.
-pub fn survey_questions(s: &[u8], at: usize) -> Questions
+pub fn survey_questions(s: &[u8], at: usize) -> Result<Read<Questions>, usize>
     ensures { result ≡ questions_counted 0 0 (questions_at s.now at) }
 {
     match first_item(s, at) {
         Item::Question(first) => count_questions(s, first),
-        Item::Tree(next) => Questions::Counted {
-            questions: 0,
-            patterns: 0,
+        Item::Tree(next) => Ok(Read {
+            value: Questions {
+                questions: 0,
+                patterns: 0,
+            },
             next,
-        },
+        }),
     }
 }

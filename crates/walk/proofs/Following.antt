@@ -4,18 +4,17 @@ use mathlib.Core.Bool.{Bool, true, false, cond}
 use mathlib.Core.List.{List}
 use Prim.Native.Nat.{ℕ, ◌+◌, ◌-◌, ◌≤◌, ◌<◌, min}
 use native.Mathlib.Omega.{arith}
+use Rattle.error.specs.declared.Refusal.{Refusal}
+use Rattle.walk.specs.declared.Walked.{Walked}
+use Rattle.std.specs.declared.result.Result.{Result}
+use Rattle.std.specs.Prelude.{Ok, Err}
 use Rattle.error.specs.declared.Refusal.TheVariants.{WalkTable, Steps}
 use Rattle.table_rows.specs.Rows.{tree_there, tree_first, tree_records, records_in}
 use Rattle.walk.specs.declared.Met.{Met}
 use Rattle.walk.specs.declared.Met.TheVariants.{Leaf, Line, Wrong}
-use Rattle.walk.specs.declared.Walked.{Walked}
-use Rattle.walk.specs.declared.Walked.TheVariants.{Pdf, Refused}
-use Rattle.walk.specs.Walking.{walk_from, meet_at, walk_of}
+use Rattle.walk.specs.Walking.{walk_from, meet_at, walk_of, walked}
 use Rattle.walk.proofs.Judged.{line_within}
 use Rattle.walk.proofs.Round.{plus, plus_none, plus_more, walk_leaf, walk_wrong, walk_stop, walk_on, enough_min}
-
-further : {a b : ℕ} → a ≤ b → (a ≡ b → ⊥) → a + 1 ≤ b
-further h d = omega (arith, d)
 
 one_less : (x a : ℕ) → x - a - 1 ≡ x - (a + 1)
 one_less x a = omega arith
@@ -40,38 +39,37 @@ following_none R first count bytes limit {most} e =
     }
 
 module _ (meets : ℕ → Met) (limit most k asked : ℕ) (f : Following meets limit most k asked) where
-  pub following_leaf : {n : ℕ} → meets k ≡ Leaf n → Pdf n asked ≡ walk_from meets limit 0
-  following_leaf {n} e = let z : asked ≡ asked + 0 = omega arith in ap (Pdf n) z ∙ sym (ap (plus asked) (walk_leaf meets (min limit most - asked) k n e)) ∙ f.rest
+  pub following_leaf : {n : ℕ} → meets k ≡ Leaf n → Ok (walked n asked) ≡ walk_from meets limit 0
+  following_leaf {n} e = let z : asked ≡ asked + 0 = omega arith in ap (λ (k : ℕ). Ok (walked n k)) z ∙ sym (ap (plus asked) (walk_leaf meets (min limit most - asked) k n e)) ∙ f.rest
 
-  pub following_wrong : meets k ≡ Wrong → Refused WalkTable ≡ walk_from meets limit 0
+  pub following_wrong : meets k ≡ Wrong → Err WalkTable ≡ walk_from meets limit 0
   following_wrong e = sym (ap (plus asked) (walk_wrong meets (min limit most - asked) k e)) ∙ f.rest
 
   module _ {j : ℕ} (e : meets k ≡ Line j) where
-    pub following_limit : asked ≡ limit → Refused Steps ≡ walk_from meets limit 0
-    following_limit q = sym (ap (plus asked) (walk_stop meets (min limit most - asked) k j (omega (arith, f.bounded)) e)) ∙ f.rest
+    pub following_end : min limit most ≤ asked → Err Steps ≡ walk_from meets limit 0
+    following_end q = sym (ap (plus asked) (walk_stop meets (min limit most - asked) k j (omega arith) e)) ∙ f.rest
 
-    pub following_reach : asked ≡ most → Refused Steps ≡ walk_from meets limit 0
-    following_reach q = sym (ap (plus asked) (walk_stop meets (min limit most - asked) k j (omega (arith, f.limited)) e)) ∙ f.rest
-
-    pub following_on : (asked ≡ limit → ⊥) → (asked ≡ most → ⊥) → Following meets limit most j (asked + 1)
-    following_on a b =
+    pub following_on : asked < min limit most → Following meets limit most j (asked + 1)
+    following_on h =
+        let a : asked + 1 ≤ limit = omega arith in
+        let b : asked + 1 ≤ most = omega arith in
         record {
-          limited = further f.limited a;
-          bounded = further f.bounded b;
+          limited = a;
+          bounded = b;
           rest = sym (ap (λ (l : ℕ). plus (asked + 1) (walk_from meets l j)) (one_less (min limit most) asked))
               ∙ sym (plus_more asked (walk_from meets (min limit most - asked - 1) j))
-              ∙ sym (ap (plus asked) (walk_on meets (min limit most - asked) k j (some_left asked (further f.limited a) (further f.bounded b)) e)) ∙ f.rest;
+              ∙ sym (ap (plus asked) (walk_on meets (min limit most - asked) k j (some_left asked a b) e)) ∙ f.rest;
         }
 
 -- ---- a tree
 
-pub walk_there : (T R : List ℕ) (t : ℕ) (bytes : List ℕ) (limit : ℕ) {w : Walked} {first count : ℕ} → tree_there T t ≡ true
+pub walk_there : (T R : List ℕ) (t : ℕ) (bytes : List ℕ) (limit : ℕ) {w : Result Walked Refusal} {first count : ℕ} → tree_there T t ≡ true
     → first ≡ tree_first T t → count ≡ tree_records T t → w ≡ walk_from (meet_at R first count bytes) limit 0 → w ≡ walk_of T R t bytes limit
 unfolding walk_of
 walk_there T R t bytes limit e f c h =
     h ∙ ap₂ (λ (a b : ℕ). walk_from (meet_at R a b bytes) limit 0) f c
-    ∙ sym (ap (λ (b : Bool). cond b (walk_from (meet_at R (tree_first T t) (tree_records T t) bytes) limit 0) (Refused WalkTable)) e)
+    ∙ sym (ap (λ (b : Bool). cond b (walk_from (meet_at R (tree_first T t) (tree_records T t) bytes) limit 0) (Err WalkTable)) e)
 
-pub walk_missing : (T R : List ℕ) (t : ℕ) (bytes : List ℕ) (limit : ℕ) → tree_there T t ≡ false → Refused WalkTable ≡ walk_of T R t bytes limit
+pub walk_missing : (T R : List ℕ) (t : ℕ) (bytes : List ℕ) (limit : ℕ) → tree_there T t ≡ false → Err WalkTable ≡ walk_of T R t bytes limit
 unfolding walk_of
-walk_missing T R t bytes limit e = sym (ap (λ (b : Bool). cond b (walk_from (meet_at R (tree_first T t) (tree_records T t) bytes) limit 0) (Refused WalkTable)) e)
+walk_missing T R t bytes limit e = sym (ap (λ (b : Bool). cond b (walk_from (meet_at R (tree_first T t) (tree_records T t) bytes) limit 0) (Err WalkTable)) e)

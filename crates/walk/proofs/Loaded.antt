@@ -7,6 +7,10 @@ use native.Mathlib.Omega.{arith}
 use borrow.Author.Tests.{ltb-true, ltb-false, eqb-true, eqb-false}
 use lib.Dec.{ltb, eqb}
 use lib.ListN.{length, get_or, take, drop}
+use Rattle.error.specs.declared.Refusal.{Refusal}
+use Rattle.walk.specs.declared.Walked.{Walked}
+use Rattle.std.specs.declared.result.Result.{Result}
+use Rattle.std.specs.Prelude.{Ok, Err}
 use Rattle.written.specs.Linking.{Nth, Row, branch}
 use Rattle.written.specs.Walks.{is_yes, chosen, Outcome, refused, afterwards, Loaded, LoadedTree}
 use Rattle.written.proofs.Walk.{nth_once, loaded_once}
@@ -15,15 +19,13 @@ use Rattle.table_rows.specs.Rows.{tree_there, tree_first, tree_records, record_t
 use Rattle.table_rows.proofs.Stand.{nth_at, nth_below, tree_there_lem, tree_missing, record_stands, record_out}
 use Rattle.walk.specs.declared.Met.{Met}
 use Rattle.walk.specs.declared.Met.TheVariants.{Leaf, Line, Wrong}
-use Rattle.walk.specs.declared.Walked.{Walked}
-use Rattle.walk.specs.declared.Walked.TheVariants.{Pdf, Refused}
 use Rattle.walk.specs.Walking.{line_at, kind_at, meet_at, one_more, by_met, walk_from, walk_of}
 use Rattle.walk.specs.Answer.{outcome_of}
 
 -- one question more, of either
-more : (w : Walked) → afterwards (outcome_of w) ≡ outcome_of (one_more w)
-more (Pdf n a) = refl
-more (Refused r) = refl
+more : (w : Result Walked Refusal) → afterwards (outcome_of w) ≡ outcome_of (one_more w)
+more (Ok r) = refl
+more (Err r) = refl
 
 module _ (bytes : List ℕ) where
   -- what is met, as the rows have it
@@ -74,7 +76,7 @@ module _ (bytes : List ℕ) where
     unfolding walk_from
     loaded_from zero k = go (sees k)
       where
-        go : {x : Met} → Sees (take count (drop first (record_table R))) k x → Loaded bytes (take count (drop first (record_table R))) k zero (outcome_of (by_met (λ j. Refused Steps) x))
+        go : {x : Met} → Sees (take count (drop first (record_table R))) k x → Loaded bytes (take count (drop first (record_table R))) k zero (outcome_of (by_met (λ j. Err Steps) x))
         go (wrong f) = f zero
         go (leaf h) = Loaded.leaf h
         go (line h b) = Loaded.met h b
@@ -96,7 +98,7 @@ unfolding walk_of
 walk_loaded T R t bytes limit = go (tree_there T t) refl
   where
     go : (b : Bool) → tree_there T t ≡ b
-        → LoadedTree bytes (tree_table T) (record_table R) t limit (outcome_of (cond b (walk_from (meet_at R (tree_first T t) (tree_records T t) bytes) limit 0) (Refused WalkTable)))
+        → LoadedTree bytes (tree_table T) (record_table R) t limit (outcome_of (cond b (walk_from (meet_at R (tree_first T t) (tree_records T t) bytes) limit 0) (Err WalkTable)))
     go true e = LoadedTree.there (tree_there_lem T t e) (loaded_from bytes R (tree_first T t) (tree_records T t) limit 0)
     go false e = LoadedTree.missing (tree_missing T t e)
 

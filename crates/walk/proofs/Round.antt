@@ -5,43 +5,45 @@ use mathlib.Core.Logic.{◌⊎◌, inl, inr}
 use Prim.Native.Nat.{ℕ, zero, suc, ◌+◌, ◌-◌, ◌≤◌, ◌<◌, min}
 use native.Mathlib.Decide.{dec_lt}
 use native.Mathlib.Omega.{arith}
+use Rattle.error.specs.declared.Refusal.{Refusal}
+use Rattle.walk.specs.declared.Walked.{Walked}
+use Rattle.std.specs.declared.result.Result.{Result}
+use Rattle.std.specs.Prelude.{Ok, Err}
 use Rattle.error.specs.declared.Refusal.TheVariants.{WalkTable, Steps}
 use Rattle.walk.specs.declared.Met.{Met}
 use Rattle.walk.specs.declared.Met.TheVariants.{Leaf, Line, Wrong}
-use Rattle.walk.specs.declared.Walked.{Walked}
-use Rattle.walk.specs.declared.Walked.TheVariants.{Pdf, Refused}
-use Rattle.walk.specs.Walking.{one_more, by_met, walk_from}
+use Rattle.walk.specs.Walking.{one_more, by_met, walk_from, walked}
 use Rattle.written_depth.proofs.Pigeonhole.{Twice, twice}
 
 -- so many questions more
-abbrev pub plus : ℕ → Walked → Walked
-plus n (Pdf p a) = Pdf p (n + a)
-plus n (Refused r) = Refused r
+abbrev pub plus : ℕ → Result Walked Refusal → Result Walked Refusal
+plus n (Ok r) = Ok (walked r.number (n + r.asked))
+plus n (Err r) = Err r
 
-pub plus_none : (w : Walked) → plus 0 w ≡ w
-plus_none (Pdf p a) = let e : 0 + a ≡ a = omega arith in ap (Pdf p) e
-plus_none (Refused r) = refl
+pub plus_none : (w : Result Walked Refusal) → plus 0 w ≡ w
+plus_none (Ok r) = let e : 0 + r.asked ≡ r.asked = omega arith in ap (λ (k : ℕ). Ok (walked r.number k)) e
+plus_none (Err r) = refl
 
-pub plus_more : (n : ℕ) (w : Walked) → plus n (one_more w) ≡ plus (n + 1) w
-plus_more n (Pdf p a) = let e : n + suc a ≡ n + 1 + a = omega arith in ap (Pdf p) e
-plus_more n (Refused r) = refl
+pub plus_more : (n : ℕ) (w : Result Walked Refusal) → plus n (one_more w) ≡ plus (n + 1) w
+plus_more n (Ok r) = let e : n + suc r.asked ≡ n + 1 + r.asked = omega arith in ap (λ (k : ℕ). Ok (walked r.number k)) e
+plus_more n (Err r) = refl
 
 -- ---- one record
 
 module _ (meets : ℕ → Met) where
-  pub walk_leaf : (l k n : ℕ) → meets k ≡ Leaf n → walk_from meets l k ≡ Pdf n 0
+  pub walk_leaf : (l k n : ℕ) → meets k ≡ Leaf n → walk_from meets l k ≡ Ok (walked n 0)
   unfolding walk_from
-  walk_leaf zero k n e = ap (by_met (λ j. Refused Steps)) e
+  walk_leaf zero k n e = ap (by_met (λ j. Err Steps)) e
   walk_leaf (suc l) k n e = ap (by_met (λ j. one_more (walk_from meets l j))) e
 
-  pub walk_wrong : (l k : ℕ) → meets k ≡ Wrong → walk_from meets l k ≡ Refused WalkTable
+  pub walk_wrong : (l k : ℕ) → meets k ≡ Wrong → walk_from meets l k ≡ Err WalkTable
   unfolding walk_from
-  walk_wrong zero k e = ap (by_met (λ j. Refused Steps)) e
+  walk_wrong zero k e = ap (by_met (λ j. Err Steps)) e
   walk_wrong (suc l) k e = ap (by_met (λ j. one_more (walk_from meets l j))) e
 
-  pub walk_stop : (l k j : ℕ) → l ≡ 0 → meets k ≡ Line j → walk_from meets l k ≡ Refused Steps
+  pub walk_stop : (l k j : ℕ) → l ≡ 0 → meets k ≡ Line j → walk_from meets l k ≡ Err Steps
   unfolding walk_from
-  walk_stop zero k j z e = ap (by_met (λ j. Refused Steps)) e
+  walk_stop zero k j z e = ap (by_met (λ j. Err Steps)) e
   walk_stop (suc l) k j z e = absurd (omega arith)
 
   pub walk_on : (l k j : ℕ) → 0 < l → meets k ≡ Line j → walk_from meets l k ≡ one_more (walk_from meets (l - 1) j)
@@ -124,7 +126,7 @@ module _ (meets : ℕ → Met) (start : ℕ) where
             let g = r (t.i + d) (omega (arith, t.before, t.up_to)) in
             leads n (met_at (suc (t.i + d))) (ap meets (sym (again d ∙ ap met_at e)) ∙ g)
 
-    forever : (l : ℕ) → walk_from meets l start ≡ Refused Steps
+    forever : (l : ℕ) → walk_from meets l start ≡ Err Steps
     unfolding Lines
     forever l =
         let z : l - l ≡ 0 = omega arith in

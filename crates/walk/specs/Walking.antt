@@ -1,13 +1,17 @@
 -- The walk over flat tables, by computation (01, 'Linking and tables'): records are judged as they are met, inside the tree's records and
 -- the table, then kind, then answer byte, then limit.
-use Rattle.std.specs.Prelude.{Bool, cond, List, ℕ, zero, suc, ◌+◌, ltb, eqb, length, get_or}
+use Rattle.error.specs.declared.Refusal.{Refusal}
+use Rattle.walk.specs.declared.Walked.{Walked}
+use Rattle.std.specs.declared.result.Result.{Result}
+use Rattle.std.specs.Prelude.{Bool, cond, List, ℕ, zero, suc, ◌+◌, ltb, eqb, length, get_or, Ok, Err}
 use Rattle.written.specs.Walks.{chosen, is_yes}
 use Rattle.error.specs.declared.Refusal.TheVariants.{WalkTable, Steps}
 use Rattle.table_rows.specs.Rows.{tree_there, tree_first, tree_records, record_there, record_kind, record_question, record_pdf, record_yes, record_no}
 use Rattle.walk.specs.declared.Met.{Met}
 use Rattle.walk.specs.declared.Met.TheVariants.{Leaf, Line, Wrong}
-use Rattle.walk.specs.declared.Walked.{Walked}
-use Rattle.walk.specs.declared.Walked.TheVariants.{Pdf, Refused}
+
+abbrev pub walked : ℕ → ℕ → Walked
+walked n a = record { number = n; asked = a }
 
 -- ---- a record met
 
@@ -34,22 +38,22 @@ meet_at R first count bytes k = cond (record_there R first count k) (kind_at R b
 -- ---- from a record on
 
 -- one question more
-abbrev pub one_more : Walked → Walked
-one_more (Pdf n a) = Pdf n (suc a)
-one_more (Refused r) = Refused r
+abbrev pub one_more : Result Walked Refusal → Result Walked Refusal
+one_more (Ok r) = Ok (walked r.number (suc r.asked))
+one_more (Err r) = Err r
 
 -- how the walk ends by what is met; `on` is how it ends where a line leads
-abbrev pub by_met : (ℕ → Walked) → Met → Walked
-by_met on (Leaf n) = Pdf n 0
+abbrev pub by_met : (ℕ → Result Walked Refusal) → Met → Result Walked Refusal
+by_met on (Leaf n) = Ok (walked n 0)
 by_met on (Line j) = on j
-by_met on Wrong = Refused WalkTable
+by_met on Wrong = Err WalkTable
 
 -- from record k on, with so many questions still allowed
-unfoldable pub walk_from : (ℕ → Met) → ℕ → ℕ → Walked
-walk_from meets zero k = by_met (λ j. Refused Steps) (meets k)
+unfoldable pub walk_from : (ℕ → Met) → ℕ → ℕ → Result Walked Refusal
+walk_from meets zero k = by_met (λ j. Err Steps) (meets k)
 walk_from meets (suc left) k = by_met (λ j. one_more (walk_from meets left j)) (meets k)
 
 -- ---- a tree
 
-unfoldable pub walk_of : List ℕ → List ℕ → ℕ → List ℕ → ℕ → Walked
-walk_of T R t bytes limit = cond (tree_there T t) (walk_from (meet_at R (tree_first T t) (tree_records T t) bytes) limit 0) (Refused WalkTable)
+unfoldable pub walk_of : List ℕ → List ℕ → ℕ → List ℕ → ℕ → Result Walked Refusal
+walk_of T R t bytes limit = cond (tree_there T t) (walk_from (meet_at R (tree_first T t) (tree_records T t) bytes) limit 0) (Err WalkTable)

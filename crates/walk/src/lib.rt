@@ -14,9 +14,9 @@ use table_rows::{
 
 // How a walk ends: at a PDF, after so many questions; or refused, by 24 or 25.
 #[derive(Clone, Copy)]
-pub enum Walked {
-    Pdf { number: u64, asked: u64 },
-    Refused(Refusal),
+pub struct Walked {
+    pub number: u64,
+    pub asked: u64,
 }
 
 // What stands where the walk is.
@@ -67,40 +67,45 @@ fn meet(records: &[u64], first: u64, count: u64, k: u64, answers: &[u8]) -> Met
 
 // The walk from a tree's first record on. A line met after as many questions as the tree has records in the table was met before: the
 // walk goes round, and whatever the limit is, it is met.
-fn follow(records: &[u64], first: u64, count: u64, answers: &[u8], limit: u64) -> Walked
+fn follow(
+    records: &[u64],
+    first: u64,
+    count: u64,
+    answers: &[u8],
+    limit: u64,
+) -> Result<Walked, Refusal>
     ensures { result ≡ walk_from (meet_at records.now first count answers.now) limit 0 }
 {
     let most = records_in(records, first, count);
     let mut k = 0;
-    let mut asked = 0;
-    loop {
+    for asked in 0..=limit.min(most) {
         match meet(records, first, count, k, answers) {
             Met::Leaf(number) => {
-                return Walked::Pdf { number, asked };
+                return Ok(Walked { number, asked });
             }
             Met::Line(next) => {
-                if asked == limit {
-                    return Walked::Refused(Refusal::Steps);
-                }
-                if asked == most {
-                    return Walked::Refused(Refusal::Steps);
-                }
-                asked = asked + 1;
                 k = next;
             }
             Met::Wrong => {
-                return Walked::Refused(Refusal::WalkTable);
+                return Err(Refusal::WalkTable);
             }
         }
     }
+    Err(Refusal::Steps)
 }
 
 // The walk of one tree, with an answer byte for each question and a limit on the questions asked.
-pub fn walk(trees: &[u64], records: &[u64], tree: u64, answers: &[u8], limit: u64) -> Walked
+pub fn walk(
+    trees: &[u64],
+    records: &[u64],
+    tree: u64,
+    answers: &[u8],
+    limit: u64,
+) -> Result<Walked, Refusal>
     ensures { result ≡ walk_of trees.now records.now tree answers.now limit }
 {
     if !tree_there(trees, tree) {
-        return Walked::Refused(Refusal::WalkTable);
+        return Err(Refusal::WalkTable);
     }
     follow(
         records,

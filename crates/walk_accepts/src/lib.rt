@@ -6,88 +6,60 @@ ghost use Rattle.std.specs.Prelude.{◌≡◌};
 ghost use Rattle.tree_question.specs.Questions.{questions_at};
 ghost use Rattle.walk_accepts.specs.Accepting.{in_text, chosen_tree, accepted_of, accepts_of, accepts_told};
 
-use error::{Refusal, Told};
-use link_alone::{Judged, judge_tree};
+use error::{LineFault, Refusal, Told};
+use link_alone::judge_tree;
 use link_find::find_tree;
-use text_spaces::Place;
-use tree_survey::{Survey, survey_text};
-use tree_survey_questions::{Questions, survey_questions};
-
-// Where the chosen tree stands; or why it can't be chosen: 17, 18, 24.
-#[derive(Clone, Copy)]
-pub enum Choice {
-    Tree(usize),
-    Refused(Refusal),
-}
-
-#[derive(Clone, Copy)]
-pub enum Accepted {
-    Yes,
-    Refused(Refusal),
-}
+use tree_survey::{SurveyError, survey_text};
+use tree_survey_questions::survey_questions;
 
 // A tree of a text that can be read, by its number.
-fn tree_in(s: &[u8], tree: u64) -> Choice
+fn tree_in(s: &[u8], tree: u64) -> Result<usize, Refusal>
     ensures { result ≡ in_text s.now tree (questions_at s.now 0).ending }
 {
     match survey_questions(s, 0) {
-        Questions::Counted {
-            questions: _,
-            patterns: _,
-            next,
-        } => match find_tree(s, next, tree) {
-            Place::At(star) => Choice::Tree(star),
-            Place::Nowhere => Choice::Refused(Refusal::WalkTable),
+        Ok(asked) => match find_tree(s, asked.next, tree) {
+            Some(star) => Ok(star),
+            None => Err(Refusal::WalkTable),
         },
         // never, of a text that can be read
-        Questions::Broken(_) => Choice::Refused(Refusal::WalkTable),
+        Err(_) => Err(Refusal::WalkTable),
     }
 }
 
 // A tree of a text: 17 and 18 for the text first, then 24 where there is no such tree.
-pub fn choose_tree(s: &[u8], tree: u64) -> Choice
+pub fn choose_tree(s: &[u8], tree: u64) -> Result<usize, Refusal>
     ensures { result ≡ chosen_tree s.now tree }
 {
     match survey_text(s, 0) {
-        Survey::Counted {
-            questions: _,
-            patterns: _,
-            trees: _,
-            records: _,
-            lines: _,
-        } => tree_in(s, tree),
-        Survey::Broken { at } => Choice::Refused(Refusal::Text(at)),
-        Survey::Negative => Choice::Refused(Refusal::State),
+        Ok(counts) => tree_in(s, tree),
+        Err(SurveyError::Broken(at)) => Err(Refusal::Text(at)),
+        Err(SurveyError::Negative) => Err(Refusal::State),
     }
 }
 
 // What was judged of a tree: 21 to 23, then 37.
-fn accepted_of(tree: u64, judged: Judged) -> Accepted
+fn accepted_of(tree: u64, judged: Result<bool, LineFault>) -> Result<(), Refusal>
     ensures { result ≡ accepted_of tree judged }
 {
     let tree = tree as usize;
     match judged {
-        Judged::Told(fits) => {
+        Ok(fits) => {
             if fits {
-                Accepted::Yes
+                Ok(())
             } else {
-                Accepted::Refused(Refusal::OtherRows)
+                Err(Refusal::OtherRows)
             }
         }
-        Judged::Refused { fault, line } => {
-            Accepted::Refused(Refusal::Unlinked { fault, tree, line })
-        }
+        Err(LineFault { fault, line }) => Err(Refusal::Unlinked { fault, tree, line }),
     }
 }
 
 // Whether the rows are those of a tree of the text.
-pub fn accepts(s: &[u8], tree: u64, records: &[u64]) -> Accepted
+pub fn accepts(s: &[u8], tree: u64, records: &[u64]) -> Result<(), Refusal>
     ensures { result ≡ accepts_of s.now tree records.now }
 {
-    match choose_tree(s, tree) {
-        Choice::Tree(star) => accepted_of(tree, judge_tree(s, 0, star, records)),
-        Choice::Refused(refusal) => Accepted::Refused(refusal),
-    }
+    let star = choose_tree(s, tree)?;
+    accepted_of(tree, judge_tree(s, 0, star, records))
 }
 
 // The same in numbers; 0 where they are accepted.
@@ -95,11 +67,11 @@ pub fn accepts_said(s: &[u8], tree: u64, records: &[u64]) -> Told
     ensures { result ≡ accepts_told (accepts_of s.now tree records.now) }
 {
     match accepts(s, tree, records) {
-        Accepted::Yes => Told {
+        Ok(()) => Told {
             number: 0,
             place: 0,
             line: 0,
         },
-        Accepted::Refused(refusal) => refusal.told(),
+        Err(refusal) => refusal.told(),
     }
 }

@@ -7,6 +7,12 @@ use native.Mathlib.Nat.{mul-suc, mul-le-mul_right, div-mul-le_self, div-lt_iff_l
 use native.Mathlib.Omega.{arith}
 use borrow.Author.Tests.{lt-ltb, le-ltb}
 use lib.ListN.{length, get_or}
+use Rattle.error.specs.declared.LineFault.{LineFault}
+use Rattle.walk_bare.specs.declared.Bare.{Bare}
+use Rattle.std.specs.declared.result.Result.{Result}
+use Rattle.error.specs.declared.Refusal.{Refusal}
+use Rattle.std.specs.Prelude.{Some, None, Ok, Err}
+use Rattle.std.specs.declared.option.Option.{Option}
 use Rattle.written.specs.Said.{QuestionPlace}
 use Rattle.written.specs.Linking.{Nth, here, there}
 use Rattle.written.specs.Walks.{chosen, is_yes}
@@ -18,39 +24,28 @@ use Rattle.tree_line.specs.Lines.{lines_at}
 use Rattle.tree_line.specs.declared.Line as code
 use Rattle.link_order.specs.Keys.{id_key}
 use Rattle.text_parts.specs.Parts.{part_inside}
-use Rattle.link_search.specs.declared.Found.{Found}
 use Rattle.link_find.specs.Find.{asked, bearer, bearing}
-use Rattle.link_find.specs.declared.Borne.{Borne}
 use Rattle.link_find.proofs.Finding.{Stands, nowhere, stands, kept}
 use Rattle.text_parts.specs.Parts.{nat_of}
 use Rattle.link_alone.specs.Alone.{single_in}
-use Rattle.link_alone.specs.declared.Single.{Single}
-use Rattle.link_alone.specs.declared.Single.TheVariants as single
 use Rattle.link_shape.specs.Shapes.{shape_single, shape_ending, shape_braces, shape_head}
 use Rattle.link_shape.specs.declared.Shape.{Shape}
 use Rattle.link_shape.specs.declared.Shape.TheVariants as shape
-use Rattle.walk.specs.Walking.{walk_from}
+use Rattle.walk.specs.Walking.{walk_from, walked}
 use Rattle.walk.specs.declared.Met.{Met}
 use Rattle.walk.specs.declared.Met.TheVariants.{Leaf, Line, Wrong}
-use Rattle.walk.specs.declared.Walked.TheVariants as walked
 use Rattle.walk.proofs.Round.{plus_none, enough_min}
-use Rattle.walk.proofs.Following.{Following, following_leaf, following_wrong, following_limit, following_reach, following_on}
-use Rattle.walk_bare.specs.Bare.{reply_in, reply_found, reply_to, reply_borne, first_of, sought_in, turn_of, line_number, goal_in, met_reply, met_in, meets_in, read_count, ended_of, alone_of, single_of, ending_of, braces_of, head_of, metered_of, linked_as, meter_at, chosen_of, bare_of, BareTells, no_room, told}
+use Rattle.walk.proofs.Following.{Following, following_leaf, following_wrong, following_end, following_on}
+use Rattle.walk_bare.specs.Bare.{reply_in, reply_found, reply_to, reply_borne, first_of, sought_in, turn_of, line_number, goal_in, met_reply, met_in, meets_in, read_count, ended_of, alone_of, single_of, ending_of, braces_of, head_of, metered_of, linked_as, meter_at, chosen_of, bare_of, BareTells, no_room, told, bare}
 use Rattle.walk_accepts.specs.Accepting.{chosen_tree}
-use Rattle.walk_accepts.specs.declared.Choice.{Choice}
 use Rattle.link_window.specs.Windows.{fault_head}
-use Rattle.link_window.specs.declared.Linking.{Linking}
 use Rattle.tree_question.specs.Questions.{questions_at}
 use Rattle.tree_body.specs.Trees.{head_at}
 use Rattle.tree_body.specs.declared.TreeHead.{TreeHead}
 use Rattle.tree_body.specs.declared.TreeHead.TheVariants as head
 use Rattle.walk_bare.specs.declared.Meter.{Meter}
-use Rattle.walk_bare.specs.declared.Reply.{Reply}
-use Rattle.walk_bare.specs.declared.Reply.TheVariants.{Goes, Missing}
 use Rattle.walk_bare.specs.declared.Sought.TheVariants as sought
 use Rattle.walk_bare.specs.declared.Turn.TheVariants as turn
-use Rattle.walk_bare.specs.declared.Bare.{Bare}
-use Rattle.walk_bare.specs.declared.Bare.TheVariants as bare
 
 -- ---- a line's reply
 
@@ -63,22 +58,22 @@ module _ (bytes : List ℕ) (q : ℕ) (y n : TreeIndex) where
   is_yes_lem zero e = absurd (e refl)
   is_yes_lem (suc b) e = refl
 
-  there_is : q < length bytes → reply_in bytes q y n ≡ Goes (chosen (is_yes (get_or bytes q 0)) y n)
+  there_is : q < length bytes → reply_in bytes q y n ≡ Some (chosen (is_yes (get_or bytes q 0)) y n)
   unfolding reply_in
-  there_is h = ap (λ (b : Bool). cond b (Goes (chosen (is_yes (get_or bytes q 0)) y n)) Missing) (lt-ltb q (length bytes) h)
+  there_is h = ap (λ (b : Bool). cond b (Some (chosen (is_yes (get_or bytes q 0)) y n)) None) (lt-ltb q (length bytes) h)
 
-  pub reply_no : q < length bytes → get_or bytes q 0 ≡ 0 → Goes n ≡ reply_in bytes q y n
-  reply_no h e = sym (there_is h ∙ ap (λ (b : Bool). Goes (chosen b y n)) (is_no (get_or bytes q 0) e))
+  pub reply_no : q < length bytes → get_or bytes q 0 ≡ 0 → Some n ≡ reply_in bytes q y n
+  reply_no h e = sym (there_is h ∙ ap (λ (b : Bool). Some (chosen b y n)) (is_no (get_or bytes q 0) e))
 
-  pub reply_yes : q < length bytes → ¬ (get_or bytes q 0 ≡ 0) → Goes y ≡ reply_in bytes q y n
-  reply_yes h e = sym (there_is h ∙ ap (λ (b : Bool). Goes (chosen b y n)) (is_yes_lem (get_or bytes q 0) e))
+  pub reply_yes : q < length bytes → ¬ (get_or bytes q 0 ≡ 0) → Some y ≡ reply_in bytes q y n
+  reply_yes h e = sym (there_is h ∙ ap (λ (b : Bool). Some (chosen b y n)) (is_yes_lem (get_or bytes q 0) e))
 
-  pub reply_none : length bytes ≤ q → Missing ≡ reply_in bytes q y n
+  pub reply_none : length bytes ≤ q → None ≡ reply_in bytes q y n
   unfolding reply_in
-  reply_none h = sym (ap (λ (b : Bool). cond b (Goes (chosen (is_yes (get_or bytes q 0)) y n)) Missing) (le-ltb q (length bytes) h))
+  reply_none h = sym (ap (λ (b : Bool). cond b (Some (chosen (is_yes (get_or bytes q 0)) y n)) None) (le-ltb q (length bytes) h))
 
 -- by the question that is found
-pub reply_at : (s : List ℕ) (qs : List QuestionPlace) (bytes : List ℕ) (l : code.Line) {f : Found} {r : Reply} → f ≡ asked s (part_inside s l.start l.len) qs → r ≡ reply_found bytes l.yes l.no f → r ≡ reply_to s qs bytes l
+pub reply_at : (s : List ℕ) (qs : List QuestionPlace) (bytes : List ℕ) (l : code.Line) {f : Option ℕ} {r : Option TreeIndex} → f ≡ asked s (part_inside s l.start l.len) qs → r ≡ reply_found bytes l.yes l.no f → r ≡ reply_to s qs bytes l
 unfolding reply_to
 reply_at s qs bytes l e h = h ∙ ap (reply_found bytes l.yes l.no) e
 
@@ -137,7 +132,7 @@ module _ (s : List ℕ) (qs : List QuestionPlace) (bytes : List ℕ) (ls : List 
   meets_bearing : (x : ℕ) → meets_in s qs bytes ls (line_number (length ls) (bearer x ls)) ≡ met_reply ls (reply_borne s qs bytes (bearing x ls))
   meets_bearing x = go (kept x ls)
     where
-      go : {f : Found} {g : Borne} → Stands ls f g → meets_in s qs bytes ls (line_number (length ls) f) ≡ met_reply ls (reply_borne s qs bytes g)
+      go : {f : Option ℕ} {g : Option code.Line} → Stands ls f g → meets_in s qs bytes ls (line_number (length ls) f) ≡ met_reply ls (reply_borne s qs bytes g)
       go nowhere = meets_none
       go (stands n) = meets_line n
 
@@ -154,12 +149,12 @@ module _ (s : List ℕ) (qs : List QuestionPlace) (bytes : List ℕ) (ls : List 
   -- ---- the loop
 
   -- at a line that was answered, after so many questions
-  pub record Walking (limit n : ℕ) (reply : Reply) (asked : ℕ) : Type 0 where
+  pub record Walking (limit n : ℕ) (reply : Option TreeIndex) (asked : ℕ) : Type 0 where
     pub k : ℕ
     pub said : meets_in s qs bytes ls k ≡ met_reply ls reply
     pub follows : Following (meets_in s qs bytes ls) limit n k asked
 
-  pub walking_none : (limit n : ℕ) {r : Reply} → n ≡ length ls → r ≡ reply_borne s qs bytes (sought_in ls sought.First) → Walking limit n r 0
+  pub walking_none : (limit n : ℕ) {r : Option TreeIndex} → n ≡ length ls → r ≡ reply_borne s qs bytes (sought_in ls sought.First) → Walking limit n r 0
   walking_none limit n e h =
       let z : min limit n - 0 ≡ min limit (length ls) = omega arith in
       record {
@@ -173,31 +168,31 @@ module _ (s : List ℕ) (qs : List QuestionPlace) (bytes : List ℕ) (ls : List 
         };
       }
 
-  module _ {limit n : ℕ} {r : Reply} {a : ℕ} (w : Walking limit n r a) where
-    met_here : {g : Reply} → r ≡ g → meets_in s qs bytes ls w.k ≡ met_reply ls g
+  module _ {limit n : ℕ} {r : Option TreeIndex} {a : ℕ} (w : Walking limit n r a) where
+    met_here : {g : Option TreeIndex} → r ≡ g → meets_in s qs bytes ls w.k ≡ met_reply ls g
     met_here e = w.said ∙ ap (met_reply ls) e
 
-    pub walking_missing : r ≡ Missing → walked.Refused WalkTable ≡ walk_from (meets_in s qs bytes ls) limit 0
+    pub walking_missing : r ≡ None → Err WalkTable ≡ walk_from (meets_in s qs bytes ls) limit 0
     walking_missing e = following_wrong (meets_in s qs bytes ls) limit n w.k a w.follows (met_here e)
 
-    module _ {x : TreeIndex} (e : r ≡ Goes x) where
+    module _ {x : TreeIndex} (e : r ≡ Some x) where
       goes_on : meets_in s qs bytes ls w.k ≡ Line (goal_in ls x)
       goes_on = met_here e
 
-      pub walking_limit : a ≡ limit → walked.Refused Steps ≡ walk_from (meets_in s qs bytes ls) limit 0
-      walking_limit q = following_limit (meets_in s qs bytes ls) limit n w.k a w.follows goes_on q
+      pub walking_limit : a ≡ limit → Err Steps ≡ walk_from (meets_in s qs bytes ls) limit 0
+      walking_limit q = following_end (meets_in s qs bytes ls) limit n w.k a w.follows goes_on (omega (arith, q))
 
-      pub walking_reach : a ≡ n → walked.Refused Steps ≡ walk_from (meets_in s qs bytes ls) limit 0
-      walking_reach q = following_reach (meets_in s qs bytes ls) limit n w.k a w.follows goes_on q
+      pub walking_reach : a ≡ n → Err Steps ≡ walk_from (meets_in s qs bytes ls) limit 0
+      walking_reach q = following_end (meets_in s qs bytes ls) limit n w.k a w.follows goes_on (omega (arith, q))
 
       module _ (p : a ≡ limit → ⊥) (q : a ≡ n → ⊥) where
         further : Following (meets_in s qs bytes ls) limit n (goal_in ls x) (a + 1)
-        further = following_on (meets_in s qs bytes ls) limit n w.k a w.follows goes_on p q
+        further = following_on (meets_in s qs bytes ls) limit n w.k a w.follows goes_on (omega (arith, p, q, w.follows.limited, w.follows.bounded))
 
-        pub walking_leaf : {m : ℕ} → turn.Leaf m ≡ turn_of x → walked.Pdf m (a + 1) ≡ walk_from (meets_in s qs bytes ls) limit 0
+        pub walking_leaf : {m : ℕ} → turn.Leaf m ≡ turn_of x → Ok (walked m (a + 1)) ≡ walk_from (meets_in s qs bytes ls) limit 0
         walking_leaf h = following_leaf (meets_in s qs bytes ls) limit n (goal_in ls x) (a + 1) further (turn_leaf x h)
 
-        pub walking_on : {m : ℕ} → turn.Line m ≡ turn_of x → {t : Reply} → t ≡ reply_borne s qs bytes (sought_in ls (sought.Bearing m)) → Walking limit n t (a + 1)
+        pub walking_on : {m : ℕ} → turn.Line m ≡ turn_of x → {t : Option TreeIndex} → t ≡ reply_borne s qs bytes (sought_in ls (sought.Bearing m)) → Walking limit n t (a + 1)
         walking_on {m} h v = record { k = goal_in ls x; said = ap (meets_in s qs bytes ls) (turn_line x h) ∙ meets_bearing m ∙ ap (met_reply ls) (sym v); follows = further }
 
 -- ---- the lines read
@@ -233,11 +228,11 @@ module _ (n a : ℕ) where
 -- ---- a tree, by its shape
 
 module _ (s : List ℕ) (qs : List QuestionPlace) (bytes : List ℕ) (limit : ℕ) where
-  abbrev pub walk_shape : Shape → Bare
+  abbrev pub walk_shape : Shape → Result Bare Refusal
   walk_shape (shape.One x n) = alone_of n x
-  walk_shape shape.Empty = bare.Refused WalkTable
+  walk_shape shape.Empty = Err WalkTable
   walk_shape (shape.Lines f n) = ended_of n (walk_from (meets_in s qs bytes (lines_at s f).items) limit 0)
-  walk_shape shape.Broken = bare.Refused WalkTable
+  walk_shape shape.Broken = Err WalkTable
 
   pub walk_shape_lem : (h : TreeHead) → walk_shape (shape_head s h) ≡ head_of s qs bytes limit h
   unfolding shape_braces braces_of
@@ -246,25 +241,25 @@ module _ (s : List ℕ) (qs : List QuestionPlace) (bytes : List ℕ) (limit : �
   walk_shape_lem head.NoTree = refl
   walk_shape_lem (head.Lines x f) = go (lines_at s f).ending
     where
-      one : (t : Single) → walk_shape (shape_single f (length (lines_at s f).items) t) ≡ single_of s qs bytes limit (lines_at s f).items t
-      one (single.One y) = refl
-      one single.Several = refl
+      one : (t : Option TreeIndex) → walk_shape (shape_single f (length (lines_at s f).items) t) ≡ single_of s qs bytes limit (lines_at s f).items t
+      one (Some y) = refl
+      one None = refl
 
       go : (e : Ending) → walk_shape (shape_ending f (lines_at s f).items e) ≡ ending_of s qs bytes limit (lines_at s f).items e
       go (done_at e) = one (single_in (lines_at s f).items)
       go (broken_at e) = refl
 
-pub ended_pdf : (n : ℕ) {p a r : ℕ} → r ≡ read_count n a → bare.Pdf p a r ≡ ended_of n (walked.Pdf p a)
-ended_pdf n {p = p} {a = a} e = ap (bare.Pdf p a) e
+pub ended_pdf : (n : ℕ) {p a r : ℕ} → r ≡ read_count n a → Ok (bare p a r) ≡ ended_of n (Ok (walked p a))
+ended_pdf n {p = p} {a = a} e = ap (λ (k : ℕ). Ok (bare p a k)) e
 
 -- ---- the call
 
 module _ (s : List ℕ) (t : ℕ) (bytes : List ℕ) (limit : ℕ) where
-  pub meter_so : (i : ℕ) {l : Linking} {m : Meter} → l ≡ fault_head s (questions_at s 0).items (head_at s i) → m ≡ linked_as t (metered_of (head_of s (questions_at s 0).items bytes limit (head_at s i))) l → m ≡ meter_at s t bytes limit i
+  pub meter_so : (i : ℕ) {l : Result Unit LineFault} {m : Meter} → l ≡ fault_head s (questions_at s 0).items (head_at s i) → m ≡ linked_as t (metered_of (head_of s (questions_at s 0).items bytes limit (head_at s i))) l → m ≡ meter_at s t bytes limit i
   unfolding meter_at
   meter_so i e h = h ∙ ap (linked_as t (metered_of (head_of s (questions_at s 0).items bytes limit (head_at s i)))) e
 
-  pub bare_so : {c : Choice} {m : Meter} → c ≡ chosen_tree s t → m ≡ chosen_of s t bytes limit c → m ≡ bare_of s t bytes limit
+  pub bare_so : {c : Result ℕ Refusal} {m : Meter} → c ≡ chosen_tree s t → m ≡ chosen_of s t bytes limit c → m ≡ bare_of s t bytes limit
   unfolding bare_of
   bare_so e h = h ∙ ap (chosen_of s t bytes limit) e
 

@@ -10,17 +10,16 @@ ghost use Rattle.tree_body.specs.Trees.{head_at};
 ghost use Rattle.walk.specs.Walking.{walk_from};
 ghost use Rattle.walk_bare.specs.Bare.{reply_in, reply_to, reply_borne, first_of, sought_in, turn_of, meets_in, read_count, ended_of, alone_of, head_of, refused_by, refused_as, metered_of, meter_at, bare_of, BareTells};
 
-use error::Refusal;
-use link_find::{Borne, last_bearing, last_question};
+use error::{LineFault, Refusal};
+use link_find::{last_bearing, last_question};
 use link_order::id_key;
-use link_search::Found;
 use link_shape::{Shape, shape_of};
-use link_window::{Linking, link_tree};
+use link_window::link_tree;
 use text_parts::{natural, part_inside};
 use tree_line::{Line, LineStep, next_line};
 use tree_reference::TreeIndex;
 use walk::Walked;
-use walk_accepts::{Choice, choose_tree};
+use walk_accepts::choose_tree;
 
 // 20: a lent slice is too short.
 const ROOM: u64 = 20;
@@ -28,47 +27,39 @@ const ROOM: u64 = 20;
 // Number, place, line, PDF number, questions asked, lines read.
 const BARE_OUT: usize = 6;
 
-// Where the answer to a line's question leads; or there is none.
+// How the walk of a tree ends that is not refused: at a PDF, after so many questions and lines read.
 #[derive(Clone, Copy)]
-pub enum Reply {
-    Goes(TreeIndex),
-    Missing,
-}
-
-// How the walk of a tree ends: at a PDF, after so many questions and lines read; or refused, by 24 or 25.
-#[derive(Clone, Copy)]
-pub enum Bare {
-    Pdf { number: u64, asked: u64, read: u64 },
-    Refused(Refusal),
+pub struct Bare {
+    pub number: u64,
+    pub asked: u64,
+    pub read: u64,
 }
 
 // ---- one line
 
 // The byte of a question: any but 0 is yes.
-fn reply_of(answers: &[u8], question: u64, yes: TreeIndex, no: TreeIndex) -> Reply
+fn reply_of(answers: &[u8], question: u64, yes: TreeIndex, no: TreeIndex) -> Option<TreeIndex>
     ensures { result ≡ reply_in answers.now question yes no }
 {
     if question < answers.len() as u64 {
         if answers[question as usize] == 0 {
-            Reply::Goes(no)
+            Some(no)
         } else {
-            Reply::Goes(yes)
+            Some(yes)
         }
     } else {
-        Reply::Missing
+        None
     }
 }
 
 // The answer to a line's question, the last of its name in the text that begins at `at`.
-fn reply_to(s: &[u8], at: usize, answers: &[u8], line: Line) -> Reply
+fn reply_to(s: &[u8], at: usize, answers: &[u8], line: Line) -> Option<TreeIndex>
     ensures { result ≡ reply_to s.now (questions_at s.now at).items answers.now line }
 {
     let yes = line.yes;
     let no = line.no;
-    match last_question(s, at, part_inside(s, line.start as u64, line.len as u64)) {
-        Found::At(question) => reply_of(answers, question, yes, no),
-        Found::Nothing => Reply::Missing,
-    }
+    let question = last_question(s, at, part_inside(s, line.start as u64, line.len as u64))?;
+    reply_of(answers, question, yes, no)
 }
 
 // ---- which line is asked
@@ -81,19 +72,19 @@ pub enum Sought {
 }
 
 // The line that stands at a place.
-fn line_at(s: &[u8], place: usize) -> Borne
+fn line_at(s: &[u8], place: usize) -> Option<Line>
     ensures { result ≡ first_of (lines_at s.now place).items }
 {
     match next_line(s, place) {
-        LineStep::Next { line, next: _ } => Borne::Line(line),
-        LineStep::Last { line, next: _ } => Borne::Line(line),
+        LineStep::Next { line, next: _ } => Some(line),
+        LineStep::Last { line, next: _ } => Some(line),
         // never, of a tree that can be read
-        LineStep::Broken => Borne::Nothing,
+        LineStep::Broken => None,
     }
 }
 
 // One line is read for the first, all from `first` on for an id.
-fn seek(s: &[u8], first: usize, sought: Sought) -> Borne
+fn seek(s: &[u8], first: usize, sought: Sought) -> Option<Line>
     ensures { result ≡ sought_in (lines_at s.now first).items sought }
 {
     match sought {
@@ -103,14 +94,12 @@ fn seek(s: &[u8], first: usize, sought: Sought) -> Borne
 }
 
 // The answer to the question of the line that is sought, among those from `first` on.
-fn ask(s: &[u8], at: usize, first: usize, answers: &[u8], sought: Sought) -> Reply
+fn ask(s: &[u8], at: usize, first: usize, answers: &[u8], sought: Sought) -> Option<TreeIndex>
     ensures { result ≡ reply_borne s.now (questions_at s.now at).items answers.now (sought_in (lines_at s.now first).items sought) }
 {
-    match seek(s, first, sought) {
-        Borne::Line(line) => reply_to(s, at, answers, line),
-        // never, of a tree that links
-        Borne::Nothing => Reply::Missing,
-    }
+    // None: never, of a tree that links.
+    let line = seek(s, first, sought)?;
+    reply_to(s, at, answers, line)
 }
 
 // ---- line after line
@@ -133,33 +122,41 @@ fn turn_of(index: TreeIndex) -> Turn
 
 // From the first of n lines on. A line met after as many questions as there are lines was met before: the walk goes round, and whatever the limit is, it is met.
 // It asks in two places, so that asking, with the line that it finds, has a frame of its own, which does not stand below the windows of linking.
-fn follow(s: &[u8], at: usize, first: usize, n: u64, answers: &[u8], limit: u64) -> Walked
+fn follow(
+    s: &[u8],
+    at: usize,
+    first: usize,
+    n: u64,
+    answers: &[u8],
+    limit: u64,
+) -> Result<Walked, Refusal>
     requires { n ≡ length (lines_at s.now first).items }
     ensures { result ≡ walk_from (meets_in s.now (questions_at s.now at).items answers.now (lines_at s.now first).items) limit 0 }
 {
     let mut reply = ask(s, at, first, answers, Sought::First);
     let mut asked: u64 = 0;
+    // No `for`: a limit is met only where another line is to be asked.
     loop {
         match reply {
-            Reply::Goes(index) => {
+            Some(index) => {
                 if asked == limit {
-                    return Walked::Refused(Refusal::Steps);
+                    return Err(Refusal::Steps);
                 }
                 if asked == n {
-                    return Walked::Refused(Refusal::Steps);
+                    return Err(Refusal::Steps);
                 }
                 asked = asked + 1;
                 match turn_of(index) {
                     Turn::Leaf(number) => {
-                        return Walked::Pdf { number, asked };
+                        return Ok(Walked { number, asked });
                     }
                     Turn::Line(key) => {
                         reply = ask(s, at, first, answers, Sought::Bearing(key));
                     }
                 }
             }
-            Reply::Missing => {
-                return Walked::Refused(Refusal::WalkTable);
+            None => {
+                return Err(Refusal::WalkTable);
             }
         }
     }
@@ -182,52 +179,50 @@ fn read_count(lines: u64, asked: u64) -> u64
 }
 
 // How the walk of so many lines ended.
-fn ended(lines: u64, walked: Walked) -> Bare
+fn ended(lines: u64, walked: Result<Walked, Refusal>) -> Result<Bare, Refusal>
     ensures { result ≡ ended_of lines walked }
 {
-    match walked {
-        Walked::Pdf { number, asked } => Bare::Pdf {
-            number,
-            asked,
-            read: read_count(lines, asked),
-        },
-        Walked::Refused(refusal) => Bare::Refused(refusal),
-    }
+    let walked = walked?;
+    Ok(Bare {
+        number: walked.number,
+        asked: walked.asked,
+        read: read_count(lines, walked.asked),
+    })
 }
 
 // ---- a tree
 
 // A tree that is one reference, for which so many lines were read.
-fn alone(index: TreeIndex, read: u64) -> Bare
+fn alone(index: TreeIndex, read: u64) -> Result<Bare, Refusal>
     ensures { result ≡ alone_of read index }
 {
     match index {
-        TreeIndex::Pdf(number) => Bare::Pdf {
+        TreeIndex::Pdf(number) => Ok(Bare {
             number: natural(number),
             asked: 0,
             read,
-        },
+        }),
         // never, of a tree that links
-        TreeIndex::Node(_) => Bare::Refused(Refusal::WalkTable),
+        TreeIndex::Node(_) => Err(Refusal::WalkTable),
     }
 }
 
 // The tree that stands at `star`, once it is known to link.
-fn walk_tree(s: &[u8], at: usize, star: usize, answers: &[u8], limit: u64) -> Bare
+fn walk_tree(s: &[u8], at: usize, star: usize, answers: &[u8], limit: u64) -> Result<Bare, Refusal>
     ensures { result ≡ head_of s.now (questions_at s.now at).items answers.now limit (head_at s.now star) }
 {
     match shape_of(s, star) {
         Shape::One { index, lines } => alone(index, lines),
-        Shape::Empty => Bare::Refused(Refusal::WalkTable),
+        Shape::Empty => Err(Refusal::WalkTable),
         Shape::Lines { first, n } => ended(n, follow(s, at, first, n, answers, limit)),
         // never, of a tree that can be read
-        Shape::Broken => Bare::Refused(Refusal::WalkTable),
+        Shape::Broken => Err(Refusal::WalkTable),
     }
 }
 
 // ---- the call
 
-// Number, place and line of a refusal, else 0; PDF number, questions asked and lines read, or 0.
+// Number, place and line of a refusal, else 0; PDF number, questions asked and lines read, or 0. An exported call hands it to C number by number.
 #[derive(Clone, Copy)]
 pub struct Meter {
     pub number: u64,
@@ -258,23 +253,19 @@ fn refused_as(refusal: Refusal) -> Meter
     refused_by(told.number, told.place as u64, told.line as u64)
 }
 
-fn metered(bare: Bare) -> Meter
+fn metered(bare: Result<Bare, Refusal>) -> Meter
     ensures { result ≡ metered_of bare }
 {
     match bare {
-        Bare::Pdf {
-            number,
-            asked,
-            read,
-        } => Meter {
+        Ok(walked) => Meter {
             number: 0,
             place: 0,
             line: 0,
-            pdf: number,
-            asked,
-            read,
+            pdf: walked.number,
+            asked: walked.asked,
+            read: walked.read,
         },
-        Bare::Refused(refusal) => refused_by(refusal.number(), 0, 0),
+        Err(refusal) => refused_by(refusal.number(), 0, 0),
     }
 }
 
@@ -283,8 +274,8 @@ fn meter_tree(s: &[u8], tree: u64, star: usize, answers: &[u8], limit: u64) -> M
     ensures { result ≡ meter_at s.now tree answers.now limit star }
 {
     match link_tree(s, 0, star) {
-        Linking::Whole => metered(walk_tree(s, 0, star, answers, limit)),
-        Linking::Refused { fault, line } => refused_by(fault.number(), tree, line as u64),
+        Ok(()) => metered(walk_tree(s, 0, star, answers, limit)),
+        Err(LineFault { fault, line }) => refused_by(fault.number(), tree, line as u64),
     }
 }
 
@@ -293,8 +284,8 @@ fn meter_text(s: &[u8], tree: u64, answers: &[u8], limit: u64) -> Meter
     ensures { result ≡ bare_of s.now tree answers.now limit }
 {
     match choose_tree(s, tree) {
-        Choice::Tree(star) => meter_tree(s, tree, star, answers, limit),
-        Choice::Refused(refusal) => refused_as(refusal),
+        Ok(star) => meter_tree(s, tree, star, answers, limit),
+        Err(refusal) => refused_as(refusal),
     }
 }
 

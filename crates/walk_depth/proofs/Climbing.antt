@@ -10,15 +10,15 @@ use borrow.Author.Tests.{lt-ltb, le-ltb}
 use lib.Dec.{ltb}
 use lib.IntN.{ℤ, pos}
 use lib.ListN.{length, set, replicate, length-set}
+use Rattle.std.specs.Prelude.{Some, None}
 use Rattle.written.specs.Linking.{Row}
-use Rattle.written.specs.Depths.{Path, Refers, Met, Round}
+use Rattle.written.specs.Depths.{Path, Refers, Met}
 use Rattle.written_depth.proofs.Deepest.{Deep, deep_round, way_path, long_round}
 use Rattle.walk_reach.specs.Work.{slot_at, zeros}
 use Rattle.walk_reach.proofs.Rows.{met_on}
 use Rattle.walk_reach.proofs.Slots.{slot_same, slot_other, slot_zero, zeros_same, zeros_fewer, zeros_all}
 use Rattle.walk_depth.specs.Climbing.{Small, Knows, Settles, settled, down, Deepest}
 use Rattle.walk_depth.specs.declared.Next.TheVariants.{Settled, Down}
-use Rattle.walk_depth.specs.declared.Ended.TheVariants as ended
 
 -- a way of n records, and one behind it
 abbrev longer : (ℕ → ℕ) → ℕ → ℕ → ℕ → ℕ
@@ -174,7 +174,7 @@ module _ (rows : List Row) (n : ℕ) where
 
         module _ (below : j < n) where
           -- as many references as there are records
-          pub climbing_round : len ≡ n → Deepest rows ended.Round
+          pub climbing_round : len ≡ n → Deepest rows None
           climbing_round q = Deepest.round (long_round f n first step under)
             where
               f : ℕ → ℕ
@@ -260,7 +260,7 @@ module _ (rows : List Row) (n : ℕ) where
 
     -- ---- the way is empty
 
-    pub climbing_found : {d : ℕ} → 0 < n → len ≤ 0 → d ≡ slot_at 2 w 0 → Deepest rows (ended.Found (d - 1))
+    pub climbing_found : {d : ℕ} → 0 < n → len ≤ 0 → d ≡ slot_at 2 w 0 → Deepest rows (Some (d - 1))
     climbing_found {d} some h e =
         let t : slot_at 2 w 0 ≡ suc (d - 1) = omega (arith, s.ended (omega arith)) in
         Deepest.found (s.knows.deep 0 (d - 1) some t)

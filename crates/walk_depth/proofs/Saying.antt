@@ -9,6 +9,8 @@ use native.Mathlib.Omega.{arith}
 use borrow.Author.Tests.{eq-eqb, ne_eqb}
 use lib.IntN.{ℤ, pos}
 use lib.ListN.{length, replicate, length-replicate}
+use Rattle.std.specs.declared.option.Option.{Option}
+use Rattle.std.specs.Prelude.{Some, None}
 use Rattle.written.specs.Linking.{Row}
 use Rattle.written.specs.Depths as depths
 use Rattle.written.specs.Depths.{DepthSaid, TreeDepth}
@@ -21,8 +23,6 @@ use Rattle.walk_reach.specs.Reaching.{Reaches}
 use Rattle.walk_depth.specs.Climbing.{Deepest}
 use Rattle.walk_depth.specs.Said.{AllGood, said_as, JudgedAs, work_after, DepthSays}
 use Rattle.walk_depth.specs.declared.Depth.{Depth}
-use Rattle.walk_depth.specs.declared.Ended.{Ended}
-use Rattle.walk_depth.specs.declared.Ended.TheVariants as ended
 
 -- work that was made zero
 pub zeroed : (m : ℕ) {w : List ℤ} → w ≡ replicate m (pos 0) → w ≡ replicate (length w) (pos 0)
@@ -39,11 +39,11 @@ module _ {rows : List Row} where
   judged_bad (Reaches.all_good f) e q = let z : ◌≡◌ {A = ℕ} 0 1 = cc in absurd (omega arith)
   judged_bad (Reaches.one_bad m g) e q = subst (JudgedAs rows) (sym q) (depths.Depth.bad m g)
 
-  pub judged-found : {x : Ended} {d : ℕ} {r : Depth} → AllGood rows → Deepest rows x → x ≡ ended.Found d → r ≡ (record { number = 0; answer = 1; questions = d }) → JudgedAs rows r
+  pub judged-found : {x : Option ℕ} {d : ℕ} {r : Depth} → AllGood rows → Deepest rows x → x ≡ Some d → r ≡ (record { number = 0; answer = 1; questions = d }) → JudgedAs rows r
   judged-found {d = d} g (Deepest.found {d = e} h) p q = let z : e ≡ d = cc in subst (JudgedAs rows) (sym q) (subst (λ (m : ℕ). depths.Depth rows (depths.deep m)) z (depth_deep g h))
   judged-found g (Deepest.round h) p q = let z : ◌≡◌ {A = ℕ} 0 1 = cc in absurd (omega arith)
 
-  pub judged_round : {x : Ended} {r : Depth} → AllGood rows → Deepest rows x → x ≡ ended.Round → r ≡ (record { number = 0; answer = 0; questions = 0 }) → JudgedAs rows r
+  pub judged_round : {x : Option ℕ} {r : Depth} → AllGood rows → Deepest rows x → x ≡ None → r ≡ (record { number = 0; answer = 0; questions = 0 }) → JudgedAs rows r
   judged_round g (Deepest.found h) p q = let z : ◌≡◌ {A = ℕ} 0 1 = cc in absurd (omega arith)
   judged_round g (Deepest.round h) p q = subst (JudgedAs rows) (sym q) (depths.Depth.round g h)
 

@@ -1,13 +1,12 @@
 -- Depths from the leaves up, in the work: what settling a record says, and how the way from the first record ends.
-use Rattle.std.specs.Prelude.{◌≡◌, List, ◌⊎◌, ℕ, suc, ◌≤◌, ◌<◌, ℤ}
+use Rattle.std.specs.declared.option.Option.{Option}
+use Rattle.std.specs.Prelude.{◌≡◌, List, ◌⊎◌, ℕ, suc, ◌≤◌, ◌<◌, ℤ, Some, None}
 use Rattle.written.specs.Linking.{Row}
 use Rattle.written.specs.Depths.{Refers, Round}
 use Rattle.written_depth.proofs.Deepest.{Deep}
 use Rattle.walk_reach.specs.Work.{slot_at}
 use Rattle.walk_depth.specs.declared.Next.{Next}
 use Rattle.walk_depth.specs.declared.Next.TheVariants.{Settled, Down}
-use Rattle.walk_depth.specs.declared.Ended.{Ended}
-use Rattle.walk_depth.specs.declared.Ended.TheVariants as ended
 
 -- no depth that the work knows is above n
 pub record Small (n : ℕ) (w : List ℤ) : Type 0 where
@@ -24,6 +23,6 @@ module _ (rows : List Row) (n : ℕ) where
     down : {j : ℕ} → Refers rows k j → slot_at 2 w j ≡ 0 → Settles w k (Down j)
 
 -- the depth of the first record, or a path that meets a record twice
-pub data Deepest (rows : List Row) : Ended → Type 0 where
-  found : {d : ℕ} → Deep rows 0 d → Deepest rows (ended.Found d)
-  round : Round rows → Deepest rows ended.Round
+pub data Deepest (rows : List Row) : Option ℕ → Type 0 where
+  found : {d : ℕ} → Deep rows 0 d → Deepest rows (Some d)
+  round : Round rows → Deepest rows None

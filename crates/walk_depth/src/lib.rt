@@ -21,7 +21,7 @@ const ROOM: u64 = 20;
 // 24: no such tree, no record in it, or a record that a path can meet is outside or of another kind.
 const OUTSIDE: u64 = 24;
 
-// Number; 1 where no path meets a record twice; the greatest number of questions on any path.
+// Number; 1 where no path meets a record twice; the greatest number of questions on any path. An exported call hands it to C number by number.
 #[repr(C)]
 #[derive(Clone, Copy)]
 pub struct Depth {
@@ -37,15 +37,6 @@ enum Next {
     Settled(u64),
     // the depth of this record, to which it refers, has to be known first
     Down(u64),
-}
-
-// How the way ended.
-#[derive(Clone, Copy)]
-enum Ended {
-    // it is empty: the depth of the first record
-    Found(u64),
-    // as many references as there are records
-    Round,
 }
 
 fn said(number: u64, answer: u64, questions: u64) -> Depth
@@ -84,13 +75,14 @@ fn settle(records: &[u64], first: u64, count: u64, work: &[i64], k: u64) -> Next
     }
 }
 
-// From the first record: the last of the way is settled and leaves it, or what it needs goes behind it, unless the way has all records already. The work is zero before.
-fn climb(records: &[u64], first: u64, count: u64, work: &mut [i64]) -> Ended
+// From the first record: the last of the way is settled and leaves it, or what it needs goes behind it, unless the way has all records already: then there is none. The work is zero before.
+fn climb(records: &[u64], first: u64, count: u64, work: &mut [i64]) -> Option<u64>
     requires { AllGood (tree_records_of records.now first count) × (4 * records_in records.now first count ≤ length work.old) × (work.old ≡ replicate (length work.old) (pos 0)) }
     ensures { Deepest (tree_records_of records.now first count) result }
 {
     let many = records_in(records, first, count);
     let mut len = 1;
+    // No `for`: the way grows and shrinks.
     while 0 < len {
         let k = slot(work, WAY, len - 1);
         match settle(records, first, count, work, k) {
@@ -100,14 +92,14 @@ fn climb(records: &[u64], first: u64, count: u64, work: &mut [i64]) -> Ended
             }
             Next::Down(j) => {
                 if len == many {
-                    return Ended::Round;
+                    return None;
                 }
                 put_slot(work, WAY, len, j);
                 len = len + 1;
             }
         }
     }
-    Ended::Found(slot(work, KNOWN, 0) - 1)
+    Some(slot(work, KNOWN, 0) - 1)
 }
 
 // The records of a tree, with work that is zero before and enough.
@@ -120,8 +112,8 @@ fn judge(records: &[u64], first: u64, count: u64, work: &mut [i64]) -> Depth
     }
     zero_work(work);
     match climb(records, first, count, work) {
-        Ended::Found(deep) => said(0, 1, deep),
-        Ended::Round => said(0, 0, 0),
+        Some(deep) => said(0, 1, deep),
+        None => said(0, 0, 0),
     }
 }
 

@@ -10,7 +10,7 @@ ghost use Rattle.walk_leaves.specs.Conditions.{leaf_fits};
 
 use table_rows::{
     question_there, record_kind, record_no, record_pdf, record_question, record_there, record_yes,
-    tree_entries, tree_first, tree_records, tree_there, tree_value,
+    tree_entries, tree_first, tree_records, tree_rows, tree_value,
 };
 
 // Whether a leaf's number is that of an entry of its tree's block: entries count from 1.
@@ -80,14 +80,7 @@ fn record_fits(
 fn records_fit(questions: &[u64], records: &[u64], first: u64, count: u64, entries: u64) -> bool
     ensures { result ≡ all (record_fits questions.now records.now first count entries) 0 count }
 {
-    let mut k = 0;
-    while k < count {
-        if !record_fits(questions, records, first, count, entries, k) {
-            return false;
-        }
-        k = k + 1;
-    }
-    true
+    (0..count).all(|k| record_fits(questions, records, first, count, entries, k))
 }
 
 // Tree t: its values, its records.
@@ -125,12 +118,5 @@ pub fn leaves_fit(
 ) -> bool
     ensures { result ≡ leaves_fit questions.now trees.now records.now values.now width }
 {
-    let mut t = 0;
-    while tree_there(trees, t) {
-        if !tree_fits(questions, trees, records, values, width, t) {
-            return false;
-        }
-        t = t + 1;
-    }
-    true
+    (0..tree_rows(trees)).all(|t| tree_fits(questions, trees, records, values, width, t))
 }

@@ -8,12 +8,12 @@ use native.Mathlib.Decide.{dec_lt, ℕ_discrete}
 use native.Mathlib.Omega.{arith}
 use lib.IntN.{ℤ, pos}
 use lib.ListN.{length, set, replicate, length-set}
+use Rattle.std.specs.declared.option.Option.{Option}
+use Rattle.std.specs.Prelude.{Some, None}
 use Rattle.written.specs.Linking.{Row, Nth, branch}
 use Rattle.written.specs.Depths.{Path, stay, on, Refers, Met, Good}
 use Rattle.walk_reach.specs.Work.{slot_at, zeros, Pushed, known, new}
 use Rattle.walk_reach.specs.Reaching.{Queue, Marked, Grown, Visits, Reaches}
-use Rattle.walk_reach.specs.declared.Visited.{Visited}
-use Rattle.walk_reach.specs.declared.Visited.TheVariants.{Tail, Outside}
 use Rattle.walk_reach.proofs.Slots.{slot_same, slot_other, slot_zero, zeros_fewer, zeros_all}
 use Rattle.walk_reach.proofs.Rows.{line_refers, leaf_refers}
 
@@ -119,10 +119,10 @@ module _ (rows : List Row) (n : ℕ) where
 
     -- ---- a visit
 
-    pub visit_leaf : {k p a b : ℕ} → Nth rows k (1 ∷ p ∷ a ∷ b ∷ []) → Visits rows n w tail k (Tail tail) w
+    pub visit_leaf : {k p a b : ℕ} → Nth rows k (1 ∷ p ∷ a ∷ b ∷ []) → Visits rows n w tail k (Some tail) w
     visit_leaf h = Visits.on q grown_none (Good.leaf h) (λ j r. absurd (leaf_refers h r))
 
-    pub visit_line : {k x y z v next : ℕ} {w₁ w₂ : List ℤ} → Nth rows k (branch x y z) → More w tail w₁ v y → More w₁ v w₂ next z → Visits rows n w tail k (Tail next) w₂
+    pub visit_line : {k x y z v next : ℕ} {w₁ w₂ : List ℤ} → Nth rows k (branch x y z) → More w tail w₁ v y → More w₁ v w₂ next z → Visits rows n w tail k (Some next) w₂
     visit_line {y = y} {z = z} {w₂ = w₂} h a b =
         Visits.on b.queue
         (record {
@@ -158,7 +158,7 @@ module _ (rows : List Row) (n : ℕ) where
     pub head_below : head < n
     head_below = omega (arith, s.queue.counted)
 
-    pub reaching_more : {k next : ℕ} {v : Visited} {w' : List ℤ} → k ≡ slot_at 1 w head → Visits rows n w tail k v w' → v ≡ Tail next → Reaching w' (head + 1) next
+    pub reaching_more : {k next : ℕ} {v : Option ℕ} {w' : List ℤ} → k ≡ slot_at 1 w head → Visits rows n w tail k v w' → v ≡ Some next → Reaching w' (head + 1) next
     reaching_more {k} {next} {w' = w'} e (Visits.on {next = m} q g a f) u =
         let z : m ≡ next = cc in
         subst (Reaching w' (head + 1)) z
@@ -185,7 +185,7 @@ module _ (rows : List Row) (n : ℕ) where
         closed_of i l (no d) j r = f j (subst (λ (x : ℕ). Refers rows x j) (sym (last i l d)) r)
     reaching_more e (Visits.outside m g) u = let z : ◌≡◌ {A = ℕ} 0 1 = cc in absurd (omega arith)
 
-    pub reaching_bad : {k : ℕ} {v : Visited} {w' : List ℤ} → Visits rows n w tail k v w' → v ≡ Outside → Reaches rows false
+    pub reaching_bad : {k : ℕ} {v : Option ℕ} {w' : List ℤ} → Visits rows n w tail k v w' → v ≡ None → Reaches rows false
     reaching_bad (Visits.on q g a f) u = let z : ◌≡◌ {A = ℕ} 0 1 = cc in absurd (omega arith)
     reaching_bad (Visits.outside m g) u = Reaches.one_bad m g
 

@@ -5,6 +5,7 @@ use Prim.Native.Nat.{ℕ, ◌+◌, ◌*◌, ◌≤◌, ◌<◌}
 use native.Mathlib.Omega.{arith}
 use lib.IntN.{ℤ}
 use lib.ListN.{length}
+use Rattle.std.specs.Prelude.{Some, None}
 use Rattle.written.specs.Linking.{Nth, branch}
 use Rattle.written.specs.Depths.{by_yes, by_no, Met}
 use Rattle.table_rows.specs.Rows.{records_in}
@@ -13,15 +14,14 @@ use Rattle.walk_reach.specs.Seeing.{tree_records_of, seen_at}
 use Rattle.walk_reach.specs.Reaching.{Queue, Visits}
 use Rattle.walk_reach.specs.declared.Seen.{Seen}
 use Rattle.walk_reach.specs.declared.Seen.TheVariants.{Leaf, Line, Wrong}
-use Rattle.walk_reach.specs.declared.Visited.TheVariants.{Tail, Outside}
 use Rattle.walk_reach.proofs.Rows.{met_on, sees, line_there, leaf_there, wrong_there, not_good}
 use Rattle.walk_reach.proofs.Queue.{More, pushed_more, push_room, push_inside, visit_leaf, visit_line}
 
 module _ (R : List ℕ) (first count : ℕ) {k : ℕ} {s : Seen} (seen : s ≡ seen_at R first count k) where
-  pub visited_leaf : {w : List ℤ} {tail : ℕ} → Queue (tree_records_of R first count) (records_in R first count) w tail → s ≡ Leaf → Visits (tree_records_of R first count) (records_in R first count) w tail k (Tail tail) w
+  pub visited_leaf : {w : List ℤ} {tail : ℕ} → Queue (tree_records_of R first count) (records_in R first count) w tail → s ≡ Leaf → Visits (tree_records_of R first count) (records_in R first count) w tail k (Some tail) w
   visited_leaf q e = let h = leaf_there (sees R first count k) (sym seen ∙ e) in visit_leaf (tree_records_of R first count) (records_in R first count) q h.3
 
-  pub visited_wrong : {w w' : List ℤ} {tail : ℕ} → Met (tree_records_of R first count) k → s ≡ Wrong → Visits (tree_records_of R first count) (records_in R first count) w tail k Outside w'
+  pub visited_wrong : {w w' : List ℤ} {tail : ℕ} → Met (tree_records_of R first count) k → s ≡ Wrong → Visits (tree_records_of R first count) (records_in R first count) w tail k None w'
   visited_wrong m e = Visits.outside m (wrong_there (sees R first count k) (sym seen ∙ e))
 
   module _ {y n many : ℕ} (e : s ≡ Line y n) (m : Met (tree_records_of R first count) k) (all : many ≡ records_in R first count) where
@@ -34,10 +34,10 @@ module _ (R : List ℕ) (first count : ℕ) {k : ℕ} {s : Seen} (seen : s ≡ s
     no_met : Met (tree_records_of R first count) n
     no_met = met_on m (by_no line.1)
 
-    pub yes_outside : {w w' : List ℤ} {tail : ℕ} → many ≤ y → Visits (tree_records_of R first count) (records_in R first count) w tail k Outside w'
+    pub yes_outside : {w w' : List ℤ} {tail : ℕ} → many ≤ y → Visits (tree_records_of R first count) (records_in R first count) w tail k None w'
     yes_outside h = Visits.outside yes_met (not_good R first count all h)
 
-    pub no_outside : {w w' : List ℤ} {tail : ℕ} → many ≤ n → Visits (tree_records_of R first count) (records_in R first count) w tail k Outside w'
+    pub no_outside : {w w' : List ℤ} {tail : ℕ} → many ≤ n → Visits (tree_records_of R first count) (records_in R first count) w tail k None w'
     no_outside h = Visits.outside no_met (not_good R first count all h)
 
     module _ {w : List ℤ} {tail : ℕ} (q : Queue (tree_records_of R first count) (records_in R first count) w tail) (below : y < many) where
@@ -55,7 +55,7 @@ module _ (R : List ℕ) (first count : ℕ) {k : ℕ} {s : Seen} (seen : s ≡ s
             let h : n < records_in R first count = omega arith in
             (push_inside (tree_records_of R first count) (records_in R first count) yes_more.queue h no_met, push_room (tree_records_of R first count) (records_in R first count) yes_more.queue h no_met)
 
-        pub visited_line : {next : ℕ} {w₂ : List ℤ} → Pushed w₁ v n next w₂ → Visits (tree_records_of R first count) (records_in R first count) w tail k (Tail next) w₂
+        pub visited_line : {next : ℕ} {w₂ : List ℤ} → Pushed w₁ v n next w₂ → Visits (tree_records_of R first count) (records_in R first count) w tail k (Some next) w₂
         visited_line p₂ =
             visit_line (tree_records_of R first count) (records_in R first count) q line.1 yes_more
             (pushed_more (tree_records_of R first count) (records_in R first count) yes_more.queue (omega arith) no_met p₂)

@@ -1,10 +1,9 @@
 -- What can be met of a tree's records: the queue in the work while they are visited, and what the visits say in the end.
-use Rattle.std.specs.Prelude.{◌≡◌, Bool, true, false, List, ℕ, ◌+◌, ◌*◌, ◌≤◌, ◌<◌, ℤ, length}
+use Rattle.std.specs.declared.option.Option.{Option}
+use Rattle.std.specs.Prelude.{◌≡◌, Bool, true, false, List, ℕ, ◌+◌, ◌*◌, ◌≤◌, ◌<◌, ℤ, length, Some, None}
 use Rattle.written.specs.Linking.{Row}
 use Rattle.written.specs.Depths.{Refers, Met, Good}
 use Rattle.walk_reach.specs.Work.{slot_at, zeros}
-use Rattle.walk_reach.specs.declared.Visited.{Visited}
-use Rattle.walk_reach.specs.declared.Visited.TheVariants.{Tail, Outside}
 
 module _ (rows : List Row) (n : ℕ) where
   -- the queue up to its end has just the marked records, of n; each of them can be met
@@ -27,9 +26,9 @@ module _ (rows : List Row) (n : ℕ) where
     pub marks : (j : ℕ) → Marked w j → Marked w' j
 
   -- record k is a line or a leaf, and all that it refers to is marked; or it, or one that it refers to, is neither
-  pub data Visits (w : List ℤ) (tail k : ℕ) : Visited → List ℤ → Type 0 where
-    on : {next : ℕ} {w' : List ℤ} → Queue w' next → Grown w tail w' next → Good rows k → ((j : ℕ) → Refers rows k j → Marked w' j) → Visits w tail k (Tail next) w'
-    outside : {j : ℕ} {w' : List ℤ} → Met rows j → ¬ Good rows j → Visits w tail k Outside w'
+  pub data Visits (w : List ℤ) (tail k : ℕ) : Option ℕ → List ℤ → Type 0 where
+    on : {next : ℕ} {w' : List ℤ} → Queue w' next → Grown w tail w' next → Good rows k → ((j : ℕ) → Refers rows k j → Marked w' j) → Visits w tail k (Some next) w'
+    outside : {j : ℕ} {w' : List ℤ} → Met rows j → ¬ Good rows j → Visits w tail k None w'
 
 -- every record that can be met is a line or a leaf; or one is neither
 pub data Reaches (rows : List Row) : Bool → Type 0 where

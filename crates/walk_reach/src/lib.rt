@@ -32,13 +32,6 @@ pub enum Seen {
     Wrong,
 }
 
-// What a visit leaves: where the queue ends, or that a record isn't there or of another kind.
-#[derive(Clone, Copy)]
-enum Visited {
-    Tail(u64),
-    Outside,
-}
-
 // Number `part` of record i.
 pub fn slot(work: &[i64], part: usize, i: u64) -> u64
     requires { 4 * i + part < length work.now }
@@ -93,24 +86,31 @@ fn push(work: &mut [i64], tail: u64, j: u64) -> u64
 }
 
 // Record k, which a path meets: what it refers to goes to the queue.
-fn visit(records: &[u64], first: u64, count: u64, work: &mut [i64], k: u64, tail: u64) -> Visited
+fn visit(
+    records: &[u64],
+    first: u64,
+    count: u64,
+    work: &mut [i64],
+    k: u64,
+    tail: u64,
+) -> Option<u64>
     requires { Queue (tree_records_of records.now first count) (records_in records.now first count) work.old tail × Met (tree_records_of records.now first count) k }
     ensures { Visits (tree_records_of records.now first count) (records_in records.now first count) work.old tail k result work.new }
 {
     match look(records, first, count, k) {
-        Seen::Leaf => Visited::Tail(tail),
+        Seen::Leaf => Some(tail),
         Seen::Line { yes, no } => {
             let many = records_in(records, first, count);
             if many <= yes {
-                return Visited::Outside;
+                return None;
             }
             if many <= no {
-                return Visited::Outside;
+                return None;
             }
             let next = push(work, tail, yes);
-            Visited::Tail(push(work, next, no))
+            Some(push(work, next, no))
         }
-        Seen::Wrong => Visited::Outside,
+        Seen::Wrong => None,
     }
 }
 
@@ -124,14 +124,15 @@ pub fn reach(records: &[u64], first: u64, count: u64, work: &mut [i64]) -> bool
     }
     let mut head = 0;
     let mut tail = push(work, 0, 0);
+    // No `for`: the queue grows as it is read.
     while head < tail {
         let k = slot(work, QUEUE, head);
         match visit(records, first, count, work, k, tail) {
-            Visited::Tail(next) => {
+            Some(next) => {
                 tail = next;
                 head = head + 1;
             }
-            Visited::Outside => {
+            None => {
                 return false;
             }
         }

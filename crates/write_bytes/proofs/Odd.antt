@@ -3,49 +3,26 @@ use mathlib.Core.Path.{◌≡◌, refl, sym, ap, ◌∙◌}
 use mathlib.Core.Bool.{Bool, true, false, cond, ◌&&◌}
 use mathlib.Core.Logic.{⊎_elim}
 use mathlib.Core.List.{List, [], ◌∷◌}
-use Prim.Native.Nat.{ℕ, zero, suc, ◌+◌, ◌-◌, ◌≤◌, ◌<◌, min}
+use Prim.Native.Nat.{ℕ, zero, suc, ◌+◌, ◌-◌, ◌<◌, min}
 use native.Mathlib.Omega.{arith}
 use lib.ListN.{length, get_or, drop, length-take, length-drop}
 use lib.Seq.{get_or-take, get_or-drop}
+use Rattle.std.specs.List.{list_all}
 use Rattle.written.specs.Bytes.{in_name, in_pattern, part}
 use Rattle.written.specs.Writing.{Among, OddByte, in_a_name, in_a_pattern, first_four}
 use Rattle.laws.specs.Every.{all}
-use Rattle.laws.proofs.Every.{first_of, second_of, not_first, then_second, all_each}
+use Rattle.laws.proofs.Every.{first_of, second_of, all_each}
 use Rattle.table_rows.specs.Rows.{question_rows, question_start, question_len, pattern_rows, pattern_start, pattern_len, question_row, pattern_row, question_table, pattern_table, tree_table, record_table}
 use Rattle.table_rows.proofs.Stand.{row_of, all_there}
-use Rattle.write_put.proofs.Puts.{part_none, part_over, part_more}
 use Rattle.write_rows.specs.Tests.{rows_in}
 use Rattle.write_rows.proofs.Outside.{either_fails, Fails, all_fails, name_in, pattern_in_lem}
 use Rattle.write_bytes.specs.Tests.{fits, every, name_fits, pattern_fits, bytes_fit}
 
--- ---- the loop over a part
-
-module _ (p : ℕ → Bool) (d : List ℕ) (a n : ℕ) where
-  pub record Going (i left : ℕ) : Type 0 where
-    pub rest : every p (part d i left) ≡ every p (part d a n)
-
-  pub going_none : Going a n
-  going_none = record { rest = refl }
-
-  module _ (i left : ℕ) (g : Going i left) where
-    pub going_empty : left ≡ 0 → true ≡ every p (part d a n)
-    unfolding every
-    going_empty h = sym (ap (every p) (part_none d i left h)) ∙ g.rest
-
-    pub going_over : length d ≤ i → true ≡ every p (part d a n)
-    unfolding every
-    going_over h = sym (ap (every p) (part_over d i left h)) ∙ g.rest
-
-    module _ (h : i < length d) (z : left ≡ 0 → ⊥) where
-      step : (p (get_or d i 0) && every p (part d (i + 1) (left - 1))) ≡ every p (part d a n)
-      unfolding every
-      step = sym (ap (every p) (part_more d i left h z)) ∙ g.rest
-
-      pub going_off : p (get_or d i 0) ≡ false → false ≡ every p (part d a n)
-      going_off e = not_first _ e ∙ step
-
-      pub going_on : p (get_or d i 0) ≡ true → Going (i + 1) (left - 1)
-      going_on e = record { rest = then_second e refl ∙ step }
+-- `every` is the library's word
+pub every_list : (p : ℕ → Bool) (s : List ℕ) → list_all p s ≡ every p s
+unfolding every
+every_list p [] = refl
+every_list p (b ∷ s) = ap (λ (r : Bool). p b && r) (every_list p s)
 
 -- ---- a class by its name
 

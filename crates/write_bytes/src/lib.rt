@@ -12,6 +12,7 @@ use table_rows::{
     pattern_len, pattern_rows, pattern_start, question_len, question_rows, question_start,
 };
 use text_base::{is_name, is_pattern};
+use text_parts::part_of;
 
 // Whether a name has such a byte, or else a pattern.
 fn byte_fits(name: bool, x: u8) -> bool
@@ -24,19 +25,7 @@ fn byte_fits(name: bool, x: u8) -> bool
 fn part_fits(s: &[u8], a: usize, n: usize, name: bool) -> bool
     ensures { result ≡ every (fits name) (part s.now a n) }
 {
-    let mut i = a;
-    let mut left = n;
-    while i < s.len() {
-        if left == 0 {
-            return true;
-        }
-        if !byte_fits(name, s[i]) {
-            return false;
-        }
-        i = i + 1;
-        left = left - 1;
-    }
-    true
+    part_of(s, a, n).iter().all(|&x| byte_fits(name, x))
 }
 
 fn name_fits(s: &[u8], questions: &[u64], q: u64) -> bool
@@ -52,14 +41,7 @@ fn names_fit(s: &[u8], questions: &[u64]) -> bool
     ensures { result ≡ all (name_fits s.now questions.now) 0 (question_rows questions.now) }
 {
     let n = question_rows(questions);
-    let mut q = 0;
-    while q < n {
-        if !name_fits(s, questions, q) {
-            return false;
-        }
-        q = q + 1;
-    }
-    true
+    (0..n).all(|q| name_fits(s, questions, q))
 }
 
 fn pattern_fits(s: &[u8], patterns: &[u64], p: u64) -> bool
@@ -75,14 +57,7 @@ fn patterns_fit(s: &[u8], patterns: &[u64]) -> bool
     ensures { result ≡ all (pattern_fits s.now patterns.now) 0 (pattern_rows patterns.now) }
 {
     let n = pattern_rows(patterns);
-    let mut p = 0;
-    while p < n {
-        if !pattern_fits(s, patterns, p) {
-            return false;
-        }
-        p = p + 1;
-    }
-    true
+    (0..n).all(|p| pattern_fits(s, patterns, p))
 }
 
 // All names and all patterns.

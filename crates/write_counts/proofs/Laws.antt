@@ -3,7 +3,7 @@ use mathlib.Core.Path.{◌≡◌, refl, sym, ap, ap₂, ◌∙◌, subst}
 use mathlib.Core.Bool.{Bool, true, false, not, cond, ◌&&◌, ◌||◌}
 use mathlib.Core.List.{List, [], ◌∷◌}
 use Prim.Native.Nat.{ℕ, zero, suc, ◌+◌, ◌-◌, ◌*◌, ◌≤◌, ◌<◌}
-use native.Mathlib.Decide.{dec_lt, ℕ_discrete}
+use native.Mathlib.Decide.{dec_lt, dec_le, ℕ_discrete}
 use native.Mathlib.Omega.{arith}
 use borrow.Author.Tests.{lt-ltb, le-ltb, le-leb, lt-leb, eq-eqb, ne_eqb}
 use lib.Dec.{ltb, leb, eqb}
@@ -35,9 +35,6 @@ module _ (R : List ℕ) (f x k m : ℕ) where
     pub from : k ≤ i
     pub rest : i - k + run_of R f x i (m - i) ≡ run_of R f x k (m - k)
 
-  pub running_none : Running k
-  running_none = record { from = omega arith; rest = omega arith }
-
   module _ (i : ℕ) (s : Running i) where
     next : i < m → run_of R f x i (m - i) ≡ cond (eqb (of_record record_pdf R f i) x) (suc (run_of R f x (suc i) (m - (i + 1)))) 0
     unfolding run_of
@@ -55,9 +52,16 @@ module _ (R : List ℕ) (f x k m : ℕ) where
         let b : run_of R f x i (m - i) ≡ 0 = next h ∙ ap (λ (c : Bool). cond c (suc (run_of R f x (suc i) (m - (i + 1)))) 0) (ne_eqb (of_record record_pdf R f i) x (λ e. v (u ∙ e))) in
         omega (arith, s.rest, b)
 
-    pub running_end : m ≤ i → i - k ≡ run_of R f x k (m - k)
+    pub running_end : m ≤ i → (k ≤ m → i ≤ m) → m - k ≡ run_of R f x k (m - k)
     unfolding run_of
-    running_end h = let e : m - i ≡ 0 = omega arith in let b : run_of R f x i (m - i) ≡ 0 = ap (run_of R f x i) e in omega (arith, s.rest, b)
+    running_end h l = go (dec_le k m)
+      where
+        b : run_of R f x i (m - i) ≡ 0
+        b = let e : m - i ≡ 0 = omega arith in ap (run_of R f x i) e
+
+        go : Dec (k ≤ m) → m - k ≡ run_of R f x k (m - k)
+        go (yes u) = omega (arith, s.rest, b, l u)
+        go (no u) = let e : m - k ≡ 0 = omega arith in let z : run_of R f x k (m - k) ≡ 0 = ap (run_of R f x k) e in omega (arith, z)
 
 -- with the number by its name
 pub run_so : (R : List ℕ) (f k m : ℕ) {x r : ℕ} → x ≡ of_record record_pdf R f k → r ≡ run_of R f x k (m - k) → r ≡ run_of R f (of_record record_pdf R f k) k (m - k)
@@ -155,11 +159,6 @@ module _ (R : List ℕ) (f n base : ℕ) (t₀ : List ℕ) where
     pub long : length t ≡ length t₀
     pub left : Left t (goals R f k (n - k))
 
-  pub tallying_none : Zeros t₀ → Tallying t₀ 0
-  tallying_none z =
-      let e : n - 0 ≡ n = omega arith in
-      record { within = omega arith; long = refl; left = λ j h. omega (arith, z j, ap (λ (i : ℕ). times (base + j) (goals R f 0 i)) e) }
-
   -- no count is near the greatest number
   small : (t l : List ℕ) → n ≤ record_rows R → length R ≤ 18446744073709551615 → length t ≡ length t₀ → Left t l → Small t
   small t l h s e u j = go (dec_lt j (length t₀))
@@ -224,9 +223,6 @@ module _ (p : ℕ → Bool) (base size : ℕ) where
   pub record Inside (j : ℕ) : Type 0 where
     pub within : j ≤ size
     pub rest : all p (base + j) (size - j) ≡ all p base size
-
-  pub inside_none : Inside 0
-  inside_none = let a : base + 0 ≡ base = omega arith in let b : size - 0 ≡ size = omega arith in record { within = omega arith; rest = ap₂ (all p) a b }
 
   module _ (j : ℕ) (s : Inside j) where
     step : j < size → (p (base + j) && all p (base + (j + 1)) (size - (j + 1))) ≡ all p base size

@@ -26,14 +26,12 @@ fn run_of(records: &[u64], first: u64, count: u64, k: u64) -> u64
     ensures { result ≡ run_of records.now first (of_record record_pdf records.now first k) k (count - k) }
 {
     let x = number(records, first, k);
-    let mut i = k;
-    while i < count {
+    for i in k..count {
         if number(records, first, i) != x {
             return i - k;
         }
-        i = i + 1;
     }
-    i - k
+    count.saturating_sub(k)
 }
 
 // How often lines have to refer to leaf k.
@@ -66,11 +64,9 @@ fn tally_refs(tally: &mut [u64], records: &[u64], first: u64, lines: u64, base: 
     requires { (lines ≤ record_rows records.now) × Zeros tally.old }
     ensures { Tallied base (goals records.now first 0 lines) tally.old tally.new }
 {
-    let mut k = 0;
-    while k < lines {
+    for k in 0..lines {
         add(tally, base, goes_yes(records, first, k));
         add(tally, base, goes_no(records, first, k));
-        k = k + 1;
     }
 }
 
@@ -87,13 +83,11 @@ fn window_fits(
     requires { (size ≤ length tally.now) × (base + size ≤ count) × (lines ≤ base) × Says base (goals records.now first 0 lines) tally.now size }
     ensures { result ≡ all (counted records.now first count lines) base size }
 {
-    let mut j = 0;
-    while j < size {
+    for j in 0..size {
         let at = j as usize;
         if tally[at] != due(records, first, count, lines, base + j) {
             return false;
         }
-        j = j + 1;
     }
     true
 }
@@ -121,12 +115,13 @@ pub fn all_counted(records: &[u64], first: u64, count: u64, lines: u64) -> bool
     ensures { result ≡ all (counted records.now first count lines) lines (count - lines) }
 {
     let mut base = lines;
+    // No `for`: the last window is shorter.
     while base < count {
         let size = window(count - base);
         if !window_counted(records, first, count, lines, base, size) {
             return false;
         }
-        base = base + size;
+        base += size;
     }
     true
 }

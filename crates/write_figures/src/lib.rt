@@ -14,6 +14,7 @@ pub fn figures_len(n: u64) -> usize
 {
     let mut m = n;
     let mut k = 1;
+    // No `for`: a figure less each time, as many as there are.
     while 10 <= m {
         m = m / 10;
         k = k + 1;
@@ -31,6 +32,7 @@ pub fn put_figures(b: &mut [u8], at: usize, n: u64) -> usize
     }
     let mut m = n;
     let mut k = len;
+    // No `for`: a figure less each time, as many as there are.
     while 10 <= m {
         k = k - 1;
         put1(b, at + k, (48 + m % 10) as u8);

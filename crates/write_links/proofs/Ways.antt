@@ -169,9 +169,6 @@ module _ (T R : List ℕ) where
     pub room : k ≤ record_rows R
     pub rest : grown T R k t (n - t) ≡ grown T R 0 0 n
 
-  pub growing_none : (n : ℕ) → Growing n 0 0
-  growing_none n = let e : n - 0 ≡ n = omega arith in record { within = omega arith; room = omega arith; rest = ap (grown T R 0 0) e }
-
   module _ (n t k : ℕ) (g : Growing n t k) where
     step : t < n → (tree_in T R k t && grown T R (k + tree_records T t) (suc t) (n - (t + 1))) ≡ grown T R 0 0 n
     unfolding grown

@@ -47,14 +47,7 @@ fn leaf_in(records: &[u64], first: u64, lines: u64, k: u64) -> bool
 fn leaves_in(records: &[u64], first: u64, count: u64, lines: u64) -> bool
     ensures { result ≡ all (leaf_in records.now first lines) lines (count - lines) }
 {
-    let mut k = lines;
-    while k < count {
-        if !leaf_in(records, first, lines, k) {
-            return false;
-        }
-        k = k + 1;
-    }
-    true
+    (lines..count).all(|k| leaf_in(records, first, lines, k))
 }
 
 // A reference to record k: a line, or the first leaf of its number.
@@ -85,14 +78,7 @@ fn line_in(records: &[u64], first: u64, count: u64, lines: u64, k: u64) -> bool
 fn lines_stand(records: &[u64], first: u64, count: u64, lines: u64) -> bool
     ensures { result ≡ all (line_in records.now first count lines) 0 lines }
 {
-    let mut k = 0;
-    while k < lines {
-        if !line_in(records, first, count, lines, k) {
-            return false;
-        }
-        k = k + 1;
-    }
-    true
+    (0..lines).all(|k| line_in(records, first, count, lines, k))
 }
 
 // Whether it isn't one line with two like references.
@@ -173,13 +159,11 @@ fn grow(trees: &[u64], records: &[u64]) -> bool
 {
     let n = tree_rows(trees);
     let mut k = 0;
-    let mut t = 0;
-    while t < n {
+    for t in 0..n {
         if !tree_in(trees, records, k, t) {
             return false;
         }
-        k = k + tree_records(trees, t);
-        t = t + 1;
+        k += tree_records(trees, t);
     }
     k == record_rows(records)
 }

@@ -1,13 +1,12 @@
 -- Bytes put one behind the other, and a loop that puts what is left.
 use mathlib.Core.Path.{◌≡◌, refl, sym, ap, ◌∙◌, subst}
 use mathlib.Core.List.{List, [], ◌∷◌, ◌++◌}
-use Prim.Native.Nat.{ℕ, suc, ◌+◌, ◌-◌, ◌≤◌, ◌<◌}
+use Prim.Native.Nat.{ℕ, suc, ◌+◌, ◌≤◌, ◌<◌}
 use native.Mathlib.Decide.{dec_le}
 use native.Mathlib.Omega.{arith}
-use lib.ListN.{length, get_or, take, set, length-set, length-append, drop_of_length-le}
-use lib.Seq.{sets, length-sets, set_out, drop-cons, take-nil}
+use lib.ListN.{length, get_or, drop, set, length-set, length-append}
+use lib.Seq.{sets, length-sets, set_out, drop-cons}
 use Rattle.laws.proofs.Tables.{sets-append}
-use Rattle.written.specs.Bytes.{part}
 use Rattle.write_put.specs.Puts.{Put}
 
 -- behind the end nothing is stored
@@ -69,17 +68,7 @@ module _ {b₀ whole b rest : List ℕ} {at₀ at : ℕ} (p : Leads b₀ at₀ w
   pub leads_done : rest ≡ [] → Put b₀ at₀ whole at b
   leads_done q = p.on at b (put_as (sym q) (put_none p.short p.place))
 
--- ---- a part of a slice
+-- ---- a byte of a slice, before those behind it
 
-module _ (d : List ℕ) (i : ℕ) where
-  pub part_none : (n : ℕ) → n ≡ 0 → part d i n ≡ []
-  part_none n h = ap (part d i) h
-
-  pub part_over : (n : ℕ) → length d ≤ i → part d i n ≡ []
-  part_over n h = ap (take n) (drop_of_length-le d {i = i} h) ∙ take-nil n
-
-  pub part_more : (n : ℕ) → i < length d → (n ≡ 0 → ⊥) → part d i n ≡ (get_or d i 0 ∷ []) ++ part d (i + 1) (n - 1)
-  part_more n h z =
-      let e : n ≡ suc (n - 1) = omega arith in
-      let s : suc i ≡ i + 1 = omega arith in
-      ap (part d i) e ∙ ap (take (suc (n - 1))) (drop-cons d i 0 h) ∙ ap (λ (j : ℕ). get_or d i 0 ∷ part d j (n - 1)) s
+pub next_byte : (d : List ℕ) (i : ℕ) → i < length d → drop i d ≡ (get_or d i 0 ∷ []) ++ drop (i + 1) d
+next_byte d i h = let s : suc i ≡ i + 1 = omega arith in drop-cons d i 0 h ∙ ap (λ (j : ℕ). get_or d i 0 ∷ drop j d) s

@@ -6,6 +6,8 @@ ghost use Rattle.std.specs.Prelude.{◌≡◌, [], ◌∷◌, ◌+◌, min};
 ghost use Rattle.written.specs.Bytes.{part};
 ghost use Rattle.write_put.specs.Puts.{Put};
 
+use text_parts::part_of;
+
 const LAST: usize = 18446744073709551615;
 
 // The place n behind `at`; the last one where that is no number.
@@ -50,16 +52,9 @@ pub fn put5(b: &mut [u8], at: usize, x: u8, y: u8, z: u8, v: u8, w: u8) -> usize
 pub fn put_part(b: &mut [u8], at: usize, s: &[u8], a: usize, n: usize) -> usize
     ensures { Put b.old at (part s.now a n) result b.new }
 {
-    let mut i = a;
-    let mut left = n;
     let mut k = at;
-    while i < s.len() {
-        if left == 0 {
-            return k;
-        }
-        k = put1(b, k, s[i]);
-        i = i + 1;
-        left = left - 1;
+    for &x in part_of(s, a, n) {
+        k = put1(b, k, x);
     }
     k
 }

@@ -6,12 +6,12 @@ use Prim.Native.Nat.{ℕ, ◌+◌, ◌-◌}
 use native.Mathlib.Omega.{arith}
 use borrow.Author.Tests.{ltb-false, eq-eqb, ne_eqb, eqb-true}
 use lib.Dec.{ltb, eqb}
+use Rattle.std.specs.declared.cmp.Ordering.TheVariants.{Less, Equal, Greater}
 use Rattle.written.specs.Bytes.{same}
 use Rattle.laws.specs.Every.{all}
 use Rattle.laws.proofs.Every.{first_of, second_of}
 use Rattle.link_order.specs.Keys.{name_key, name_at}
 use Rattle.link_order.specs.Sides.{side_of}
-use Rattle.link_order.specs.declared.Side.TheVariants.{Below, Same, Above}
 use Rattle.link_order.proofs.Names.{Small, name_one, is_same}
 use Rattle.table_rows.specs.Rows.{question_rows, record_rows, record_kind, record_question}
 use Rattle.write_questions.specs.Tests.{unlike_name, last_named, asks_other, not_hidden}
@@ -39,11 +39,11 @@ not_same u v n = go (same u v) refl
 
 -- by how their keys stand
 module _ (u v : List ℕ) where
-  sides : (b c : Bool) → ltb (name_key u) (name_key v) ≡ b → ltb (name_key v) (name_key u) ≡ c → side_of (name_key u) (name_key v) ≡ cond b Below (cond c Above Same)
+  sides : (b c : Bool) → ltb (name_key u) (name_key v) ≡ b → ltb (name_key v) (name_key u) ≡ c → side_of (name_key u) (name_key v) ≡ cond b Less (cond c Greater Equal)
   unfolding side_of
-  sides b c e f = ap₂ (λ (x y : Bool). cond x Below (cond y Above Same)) e f
+  sides b c e f = ap₂ (λ (x y : Bool). cond x Less (cond y Greater Equal)) e f
 
-  pub by_same : Small u → Small v → Same ≡ side_of (name_key u) (name_key v) → true ≡ same u v
+  pub by_same : Small u → Small v → Equal ≡ side_of (name_key u) (name_key v) → true ≡ same u v
   by_same s t q = go (ltb (name_key u) (name_key v)) (ltb (name_key v) (name_key u)) refl refl
     where
       go : (b c : Bool) → ltb (name_key u) (name_key v) ≡ b → ltb (name_key v) (name_key u) ≡ c → true ≡ same u v
@@ -56,10 +56,10 @@ module _ (u v : List ℕ) where
   unlike : (name_key u ≡ name_key v → ⊥) → false ≡ same u v
   unlike n = sym (not_same u v (λ e. n (ap name_key e)))
 
-  pub by_below : Below ≡ side_of (name_key u) (name_key v) → false ≡ same u v
+  pub by_below : Less ≡ side_of (name_key u) (name_key v) → false ≡ same u v
   by_below q = unlike (λ e. let z = q ∙ sym (is_same e) in let w : ◌≡◌ {A = ℕ} 0 1 = cc in omega arith)
 
-  pub by_above : Above ≡ side_of (name_key u) (name_key v) → false ≡ same u v
+  pub by_above : Greater ≡ side_of (name_key u) (name_key v) → false ≡ same u v
   by_above q = unlike (λ e. let z = q ∙ sym (is_same e) in let w : ◌≡◌ {A = ℕ} 0 1 = cc in omega arith)
 
 -- ---- a record

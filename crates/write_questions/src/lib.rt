@@ -7,7 +7,8 @@ ghost use Rattle.laws.specs.Every.{all};
 ghost use Rattle.table_rows.specs.Rows.{question_rows, pattern_rows, record_rows};
 ghost use Rattle.write_questions.specs.Tests.{next_in, chained, some_byte, questions_fit, last_named, asks_other, not_hidden, none_hidden};
 
-use link_order::{Side, compare_names, name_of};
+use link_order::{compare_names, name_of};
+use std::cmp::Ordering;
 use table_rows::{
     pattern_len, pattern_rows, question_first, question_len, question_patterns, question_rows,
     record_kind, record_question, record_rows,
@@ -37,13 +38,11 @@ fn follow(questions: &[u64], patterns: &[u64]) -> bool
 {
     let n = question_rows(questions);
     let mut k = 0;
-    let mut q = 0;
-    while q < n {
+    for q in 0..n {
         if !next_in(questions, patterns, k, q) {
             return false;
         }
-        k = k + question_patterns(questions, q);
-        q = q + 1;
+        k += question_patterns(questions, q);
     }
     k == pattern_rows(patterns)
 }
@@ -60,14 +59,7 @@ fn some_bytes(patterns: &[u64]) -> bool
     ensures { result ≡ all (some_byte patterns.now) 0 (pattern_rows patterns.now) }
 {
     let n = pattern_rows(patterns);
-    let mut p = 0;
-    while p < n {
-        if !some_byte(patterns, p) {
-            return false;
-        }
-        p = p + 1;
-    }
-    true
+    (0..n).all(|p| some_byte(patterns, p))
 }
 
 // All questions and all patterns.
@@ -85,9 +77,9 @@ fn same_name(a: &[u8], b: &[u8]) -> bool
     ensures { result ≡ same a.now b.now }
 {
     match compare_names(a, b) {
-        Side::Same => true,
-        Side::Below => false,
-        Side::Above => false,
+        Ordering::Equal => true,
+        Ordering::Less => false,
+        Ordering::Greater => false,
     }
 }
 
@@ -98,12 +90,10 @@ fn last_named(s: &[u8], questions: &[u64], q: u64) -> bool
 {
     let n = question_rows(questions);
     let name = name_of(s, questions, q);
-    let mut j = q + 1;
-    while j < n {
+    for j in q + 1..n {
         if same_name(name_of(s, questions, j), name) {
             return false;
         }
-        j = j + 1;
     }
     true
 }
@@ -121,14 +111,7 @@ fn none_asks(records: &[u64], q: u64) -> bool
     ensures { result ≡ all (asks_other records.now q) 0 (record_rows records.now) }
 {
     let n = record_rows(records);
-    let mut i = 0;
-    while i < n {
-        if asks(records, q, i) {
-            return false;
-        }
-        i = i + 1;
-    }
-    true
+    (0..n).all(|i| !asks(records, q, i))
 }
 
 // Question q: nothing asks it, if a later one has its name.
@@ -147,12 +130,5 @@ pub fn none_hidden(s: &[u8], questions: &[u64], records: &[u64]) -> bool
     ensures { result ≡ none_hidden s.now questions.now records.now }
 {
     let n = question_rows(questions);
-    let mut q = 0;
-    while q < n {
-        if !not_hidden(s, questions, records, q) {
-            return false;
-        }
-        q = q + 1;
-    }
-    true
+    (0..n).all(|q| not_hidden(s, questions, records, q))
 }

@@ -44,14 +44,7 @@ fn questions_in(s: &[u8], questions: &[u64], patterns: &[u64]) -> bool
     ensures { result ≡ all (question_in s.now questions.now patterns.now) 0 (question_rows questions.now) }
 {
     let n = question_rows(questions);
-    let mut q = 0;
-    while q < n {
-        if !question_in(s, questions, patterns, q) {
-            return false;
-        }
-        q = q + 1;
-    }
-    true
+    (0..n).all(|q| question_in(s, questions, patterns, q))
 }
 
 // Pattern p: its bytes in the data.
@@ -68,14 +61,7 @@ fn patterns_in(s: &[u8], patterns: &[u64]) -> bool
     ensures { result ≡ all (pattern_in s.now patterns.now) 0 (pattern_rows patterns.now) }
 {
     let n = pattern_rows(patterns);
-    let mut p = 0;
-    while p < n {
-        if !pattern_in(s, patterns, p) {
-            return false;
-        }
-        p = p + 1;
-    }
-    true
+    (0..n).all(|p| pattern_in(s, patterns, p))
 }
 
 // Record i, in a tree or not: the question that it asks.
@@ -93,14 +79,7 @@ fn all_ask_in(questions: &[u64], records: &[u64]) -> bool
     ensures { result ≡ all (asks_in questions.now records.now) 0 (record_rows records.now) }
 {
     let n = record_rows(records);
-    let mut i = 0;
-    while i < n {
-        if !asks_in(questions, records, i) {
-            return false;
-        }
-        i = i + 1;
-    }
-    true
+    (0..n).all(|i| asks_in(questions, records, i))
 }
 
 // Record k of a tree whose first stands in row `first`: in the table, and so where it goes.
@@ -128,28 +107,14 @@ fn tree_in(trees: &[u64], records: &[u64], t: u64) -> bool
 {
     let first = tree_first(trees, t);
     let n = tree_records(trees, t);
-    let mut k = 0;
-    while k < n {
-        if !goes_in(records, first, k) {
-            return false;
-        }
-        k = k + 1;
-    }
-    true
+    (0..n).all(|k| goes_in(records, first, k))
 }
 
 fn trees_in(trees: &[u64], records: &[u64]) -> bool
     ensures { result ≡ all (tree_in trees.now records.now) 0 (tree_rows trees.now) }
 {
     let n = tree_rows(trees);
-    let mut t = 0;
-    while t < n {
-        if !tree_in(trees, records, t) {
-            return false;
-        }
-        t = t + 1;
-    }
-    true
+    (0..n).all(|t| tree_in(trees, records, t))
 }
 
 // All rows of all tables.

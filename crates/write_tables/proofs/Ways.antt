@@ -13,11 +13,10 @@ use Rattle.write_rows.specs.Tests.{rows_in}
 use Rattle.write_bytes.specs.Tests.{bytes_fit}
 use Rattle.write_links.specs.Tests.{links_fit}
 use Rattle.write_text.specs.Text.{text_of}
-use Rattle.write_tables.specs.declared.Judged.{Judged}
-use Rattle.write_tables.specs.declared.Judged.TheVariants as judged
-use Rattle.write_tables.specs.declared.Answer.{Answer}
-use Rattle.write_tables.specs.declared.Answer.TheVariants as answer
 use Rattle.write_tables.specs.Answers.{judged_by, judged_of, bytes_of, measured_by, measure_of, answer_of, buffer_of, Answered}
+use Rattle.write_tables.specs.declared.WriteFault.{WriteFault}
+use Rattle.write_tables.specs.declared.WriteFault.TheVariants as fault
+use Rattle.std.specs.Prelude.{Err, Ok, Result, ⊤}
 
 module _ (d Q P T R : List ℕ) where
   -- what the tests that were made say, and those that weren't
@@ -25,18 +24,18 @@ module _ (d Q P T R : List ℕ) where
   unfolding judged_of
   judged_so u v w = sym (λ i. judged_by (u i) (v i) (w i))
 
-  pub is_outside : rows_in d Q P T R ≡ false → judged.Outside ≡ judged_of d Q P T R
+  pub is_outside : rows_in d Q P T R ≡ false → Err fault.Outside ≡ judged_of d Q P T R
   is_outside u = judged_so u refl refl
 
   module _ (u : rows_in d Q P T R ≡ true) where
-    pub is_odd : bytes_fit d Q P ≡ false → judged.OddByte ≡ judged_of d Q P T R
+    pub is_odd : bytes_fit d Q P ≡ false → Err fault.OddByte ≡ judged_of d Q P T R
     is_odd v = judged_so u v refl
 
     module _ (v : bytes_fit d Q P ≡ true) where
-      pub is_unread : links_fit d Q P T R ≡ false → judged.Unread ≡ judged_of d Q P T R
+      pub is_unread : links_fit d Q P T R ≡ false → Err fault.Unread ≡ judged_of d Q P T R
       is_unread w = judged_so u v w
 
-      pub is_fit : links_fit d Q P T R ≡ true → judged.Fits ≡ judged_of d Q P T R
+      pub is_fit : links_fit d Q P T R ≡ true → Ok tt ≡ judged_of d Q P T R
       is_fit w = judged_so u v w
 
   -- the place behind a text put anywhere is its length
@@ -46,36 +45,30 @@ module _ (d Q P T R : List ℕ) where
 
   -- ---- how long it is
 
-  pub measured : (j : Judged) {r : Answer} → j ≡ judged_of d Q P T R → r ≡ measured_by (bytes_of d Q P T R) j → r ≡ measure_of d Q P T R
+  pub measured : (j : Result ⊤ WriteFault) {r : Result ℕ WriteFault} → j ≡ judged_of d Q P T R → r ≡ measured_by (bytes_of d Q P T R) j → r ≡ measure_of d Q P T R
   unfolding measure_of
   measured j q e = e ∙ ap (measured_by (bytes_of d Q P T R)) q
 
   -- ---- the writer
 
   module _ (b : List ℕ) where
-    answered : (j : Judged) → j ≡ judged_of d Q P T R → {r : Answer} {e : List ℕ} → r ≡ answer_of (length b) (bytes_of d Q P T R) j → e ≡ buffer_of b (bytes_of d Q P T R) j → Answered b d Q P T R r e
+    answered : (j : Result ⊤ WriteFault) → j ≡ judged_of d Q P T R → {r : Result ℕ WriteFault} {e : List ℕ} → r ≡ answer_of (length b) (bytes_of d Q P T R) j → e ≡ buffer_of b (bytes_of d Q P T R) j → Answered b d Q P T R r e
     answered j q u v = record { answer_is = u ∙ ap (answer_of (length b) (bytes_of d Q P T R)) q; buffer_is = v ∙ ap (buffer_of b (bytes_of d Q P T R)) q }
 
-    pub way_outside : judged.Outside ≡ judged_of d Q P T R → Answered b d Q P T R answer.Outside b
-    way_outside q = answered judged.Outside q refl refl
+    pub way_refused : {z : WriteFault} → Err z ≡ judged_of d Q P T R → Answered b d Q P T R (Err z) b
+    way_refused {z} q = answered (Err z) q refl refl
 
-    pub way_odd : judged.OddByte ≡ judged_of d Q P T R → Answered b d Q P T R answer.OddByte b
-    way_odd q = answered judged.OddByte q refl refl
-
-    pub way_unread : judged.Unread ≡ judged_of d Q P T R → Answered b d Q P T R answer.Unread b
-    way_unread q = answered judged.Unread q refl refl
-
-    module _ (q : judged.Fits ≡ judged_of d Q P T R) {n : ℕ} (l : n ≡ min (length (bytes_of d Q P T R)) 18446744073709551615) where
-      pub way_room : length b ≤ 18446744073709551615 → length b < n → Answered b d Q P T R answer.Room b
+    module _ (q : Ok tt ≡ judged_of d Q P T R) {n : ℕ} (l : n ≡ min (length (bytes_of d Q P T R)) 18446744073709551615) where
+      pub way_room : length b ≤ 18446744073709551615 → length b < n → Answered b d Q P T R (Err fault.Room) b
       way_room s h =
           let c = lt-leb (length (bytes_of d Q P T R)) (length b) (omega arith) in
-          answered judged.Fits q (sym (ap (λ (x : Bool). cond x (answer.Done (length (bytes_of d Q P T R))) answer.Room) c))
+          answered (Ok tt) q (sym (ap (λ (x : Bool). cond x (Ok (length (bytes_of d Q P T R))) (Err fault.Room)) c))
           (sym (ap (λ (x : Bool). cond x (sets b 0 (bytes_of d Q P T R)) b) c))
 
-      pub way_done : length b < 18446744073709551615 → n ≤ length b → {r : ℕ} {e : List ℕ} → Put b 0 (spelled (text_of d Q P T R)) r e → Answered b d Q P T R (answer.Done r) e
+      pub way_done : length b < 18446744073709551615 → n ≤ length b → {r : ℕ} {e : List ℕ} → Put b 0 (spelled (text_of d Q P T R)) r e → Answered b d Q P T R (Ok r) e
       unfolding bytes_of
       way_done s h {r} {e} p =
           let c = le-leb (length (bytes_of d Q P T R)) (length b) (omega (arith, p.short)) in
           let k : r ≡ length (bytes_of d Q P T R) = omega (arith, p.next, p.short) in
-          answered judged.Fits q (ap answer.Done k ∙ sym (ap (λ (x : Bool). cond x (answer.Done (length (bytes_of d Q P T R))) answer.Room) c))
+          answered (Ok tt) q (ap Ok k ∙ sym (ap (λ (x : Bool). cond x (Ok (length (bytes_of d Q P T R))) (Err fault.Room)) c))
           (p.bytes_of ∙ sym (ap (λ (x : Bool). cond x (sets b 0 (bytes_of d Q P T R)) b) c))

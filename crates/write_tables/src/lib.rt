@@ -10,42 +10,39 @@ use write_links::links_fit;
 use write_rows::rows_in;
 use write_text::put_text;
 
+// Why no text is written.
 #[derive(Clone, Copy)]
-pub enum Judged {
-    Fits,
+pub enum WriteFault {
     // 24: a row points outside its table or the data
     Outside,
     // 22: a byte that no name or pattern has
     OddByte,
     // 17: rows that no text reads back to
     Unread,
-}
-
-#[derive(Clone, Copy)]
-pub enum Answer {
-    // how many bytes the text has
-    Done(usize),
-    Outside,
-    OddByte,
-    Unread,
     // 20: the buffer is shorter than the text
     Room,
 }
 
 // Whether the rows can be written; each test over all rows before the next.
-fn judge(s: &[u8], questions: &[u64], patterns: &[u64], trees: &[u64], records: &[u64]) -> Judged
+fn judge(
+    s: &[u8],
+    questions: &[u64],
+    patterns: &[u64],
+    trees: &[u64],
+    records: &[u64],
+) -> Result<(), WriteFault>
     ensures { result ≡ judged_of s.now questions.now patterns.now trees.now records.now }
 {
     if !rows_in(s, questions, patterns, trees, records) {
-        return Judged::Outside;
+        return Err(WriteFault::Outside);
     }
     if !bytes_fit(s, questions, patterns) {
-        return Judged::OddByte;
+        return Err(WriteFault::OddByte);
     }
     if !links_fit(s, questions, patterns, trees, records) {
-        return Judged::Unread;
+        return Err(WriteFault::Unread);
     }
-    Judged::Fits
+    Ok(())
 }
 
 // The text's length, or 2^64 - 1 where that is no number: the text put where no buffer is.
@@ -63,18 +60,11 @@ pub fn measure(
     patterns: &[u64],
     trees: &[u64],
     records: &[u64],
-) -> Answer
+) -> Result<usize, WriteFault>
     ensures { result ≡ measure_of s.now questions.now patterns.now trees.now records.now }
 {
-    match judge(s, questions, patterns, trees, records) {
-        Judged::Fits => {
-            let n = text_len(s, questions, patterns, trees, records);
-            Answer::Done(n)
-        }
-        Judged::Outside => Answer::Outside,
-        Judged::OddByte => Answer::OddByte,
-        Judged::Unread => Answer::Unread,
-    }
+    judge(s, questions, patterns, trees, records)?;
+    Ok(text_len(s, questions, patterns, trees, records))
 }
 
 // Writes the text to the front of the buffer.
@@ -85,20 +75,14 @@ pub fn write_tables(
     patterns: &[u64],
     trees: &[u64],
     records: &[u64],
-) -> Answer
+) -> Result<usize, WriteFault>
     ensures { Answered b.old s.now questions.now patterns.now trees.now records.now result b.new }
 {
-    match judge(s, questions, patterns, trees, records) {
-        Judged::Fits => {
-            let n = text_len(s, questions, patterns, trees, records);
-            if b.len() < n {
-                return Answer::Room;
-            }
-            let end = put_text(b, s, questions, patterns, trees, records);
-            Answer::Done(end)
-        }
-        Judged::Outside => Answer::Outside,
-        Judged::OddByte => Answer::OddByte,
-        Judged::Unread => Answer::Unread,
+    judge(s, questions, patterns, trees, records)?;
+    let n = text_len(s, questions, patterns, trees, records);
+    if b.len() < n {
+        return Err(WriteFault::Room);
     }
+    let end = put_text(b, s, questions, patterns, trees, records);
+    Ok(end)
 }

@@ -6,21 +6,15 @@ use Prim.Native.Nat.{ℕ, zero, suc, ◌+◌, ◌-◌, ◌≤◌, ◌<◌}
 use native.Mathlib.Omega.{arith}
 use borrow.Author.Tests.{lt-ltb, le-ltb, eq-eqb, ne_eqb}
 use lib.Dec.{ltb, eqb}
-use lib.ListN.{length}
 use Rattle.written.specs.Bytes.{newline, quote, comma, bracket, unbracket, brace, unbrace}
 use Rattle.written.specs.Said.{pdf, lone, braces}
 use Rattle.written.specs.TreeText.{QS, star}
 use Rattle.written.specs.Writing.{figures, spelled_ref, spelled_line, spelled_patterns, spelled_question, spelled_body, spelled_tree}
 use Rattle.link_order.specs.Keys.{name_at}
 use Rattle.table_rows.specs.Rows.{question_first, question_patterns, tree_state, tree_first, tree_records, tree_lines, record_pdf}
-use Rattle.write_put.proofs.Puts.{put_as, Leads}
 use Rattle.write_parts.proofs.Laws.{each_more, each_done}
 use Rattle.write_parts.specs.Parts.{each, pattern_of, quoted, question_of, line_of, body_of, tree_of}
 use Rattle.write_records.specs.Records.{of_record}
-
--- a loop begins: what is left is the whole, by another name
-pub leads_begin : (b : List ℕ) (at : ℕ) {w v : List ℕ} → w ≡ v → length b ≤ 18446744073709551615 → at ≤ 18446744073709551615 → Leads b at w b at v
-leads_begin b at q h l = record { short = h; place = l; long = refl; on = λ r e p. put_as (sym q) p }
 
 -- ---- things by their number
 
@@ -33,10 +27,6 @@ module _ {A : Type 0} (g : ℕ → A) (k n : ℕ) where
     pub flat_done : n ≤ k → flatten (map w (each g k (n - k))) ≡ []
     unfolding flatten
     flat_done h = ap (λ (l : List A). flatten (map w l)) (each_done g k n h)
-
--- all of them
-pub all_flat : {A : Type 0} (g : ℕ → A) (w : A → List ℕ) {m n : ℕ} → n ≡ m → flatten (map w (each g 0 m)) ≡ flatten (map w (each g 0 (n - 0)))
-all_flat {A} g w {m} {n} q = let e : m ≡ n - 0 = omega arith in ap (λ (j : ℕ). flatten (map w (each g 0 j))) e
 
 -- ---- patterns
 

@@ -23,11 +23,9 @@ fn put_patterns(b: &mut [u8], at: usize, s: &[u8], patterns: &[u64], first: u64,
     ensures { Put b.old at (spelled_patterns (each (pattern_of s.now patterns.now first) 0 n)) result b.new }
 {
     let mut i = at;
-    let mut k = 0;
-    while k < n {
+    for k in 0..n {
         let more = k + 1 < n;
         i = put_quoted(b, i, s, patterns, first, k, more);
-        k = k + 1;
     }
     i
 }
@@ -58,10 +56,8 @@ fn put_questions(b: &mut [u8], at: usize, s: &[u8], questions: &[u64], patterns:
 {
     let n = question_rows(questions);
     let mut i = at;
-    let mut q = 0;
-    while q < n {
+    for q in 0..n {
         i = put_question(b, i, s, questions, patterns, q);
-        q = q + 1;
     }
     i
 }
@@ -79,10 +75,8 @@ fn put_lines(
     ensures { Put b.old at (flatten (map spelled_line (each (line_of s.now questions.now records.now first lines) 0 lines))) result b.new }
 {
     let mut i = at;
-    let mut k = 0;
-    while k < lines {
+    for k in 0..lines {
         i = put_line(b, i, s, questions, records, first, lines, k);
-        k = k + 1;
     }
     i
 }
@@ -147,10 +141,8 @@ fn put_trees(
 {
     let n = tree_rows(trees);
     let mut i = at;
-    let mut t = 0;
-    while t < n {
+    for t in 0..n {
         i = put_tree(b, i, s, questions, trees, records, t);
-        t = t + 1;
     }
     i
 }

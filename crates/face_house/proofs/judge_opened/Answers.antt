@@ -11,14 +11,14 @@ put_bounds-requires c = c.requires.1
 pub ruled-requires : goal.ruled-requires
 ruled-requires c =
     let a = c.args in
-    (c.requires.0, few_types (side_of a.top) a.file.now a.words.now a.held.now (held_of a.other) (lent a.questions.now a.patterns.now a.trees.now a.records.now a.values.now a.work.now) c.judge_voice.ensures.1 (sym c.in-Judged.is ∙ c.judge_voice.ensures.0))
+    (c.requires.0, few_types (side_of a.top) a.file.now a.words.now a.held.now (held_of a.other) (lent a.questions.now a.patterns.now a.trees.now a.records.now a.values.now a.work.now) c.judge_voice.ensures.1 (sym c.in-Ok.is ∙ c.judge_voice.ensures.0))
 
-pub returns-in-Refused : goal.returns-in-Refused
-returns-in-Refused c =
+pub returns-in-Err : goal.returns-in-Err
+returns-in-Err c =
     let a = c.args in
-    opened_refused (side_of a.top) a.file.now a.words.now a.held.now (held_of a.other) (lent a.questions.now a.patterns.now a.trees.now a.records.now a.values.now a.work.now) c.judge_voice.ensures.1 (sym c.in-Refused.is ∙ c.judge_voice.ensures.0) c.refused_as.ensures
+    opened_refused (side_of a.top) a.file.now a.words.now a.held.now (held_of a.other) (lent a.questions.now a.patterns.now a.trees.now a.records.now a.values.now a.work.now) c.judge_voice.ensures.1 (sym c.in-Err.is ∙ c.judge_voice.ensures.0) c.refused_as.ensures
 
-pub returns-in-Judged : goal.returns-in-Judged
-returns-in-Judged c =
+pub returns-in-Ok : goal.returns-in-Ok
+returns-in-Ok c =
     let a = c.args in
-    opened-judged (side_of a.top) a.file.now a.words.now a.held.now (held_of a.other) (lent a.questions.now a.patterns.now a.trees.now a.records.now a.values.now a.work.now) c.judge_voice.ensures.1 (sym c.in-Judged.is ∙ c.judge_voice.ensures.0) c.put_bounds.ensures c.ruled.ensures
+    opened-judged (side_of a.top) a.file.now a.words.now a.held.now (held_of a.other) (lent a.questions.now a.patterns.now a.trees.now a.records.now a.values.now a.work.now) c.judge_voice.ensures.1 (sym c.in-Ok.is ∙ c.judge_voice.ensures.0) c.put_bounds.ensures c.ruled.ensures

@@ -10,13 +10,13 @@ pub needs-requires : goal.needs-requires
 needs-requires c = judged_room _ (sym c.if-number-eq0.true ∙ c.judged-number.ensures)
 
 pub needed_for-requires : goal.needed_for-requires
-needed_for-requires c = values_small c.args.file.now _ _ _ (sym c.in-Model.is ∙ c.needs.ensures) (omega (arith, c.well_formed))
+needed_for-requires c = values_small c.args.file.now _ _ _ (sym c.in-Ok.is ∙ c.needs.ensures) (omega (arith, c.well_formed))
 
-pub returns-in-Model : goal.returns-in-Model
-returns-in-Model c = needs_model _ _ _ c.judged-number.ensures c.if-number-eq0.true c.which_of.ensures c.needs.ensures c.in-Model.is c.needed_for.ensures
+pub returns-in-Ok : goal.returns-in-Ok
+returns-in-Ok c = needs_model _ _ _ c.judged-number.ensures c.if-number-eq0.true c.which_of.ensures c.needs.ensures c.in-Ok.is c.needed_for.ensures
 
-pub returns-in-Refused : goal.returns-in-Refused
-returns-in-Refused c = needs_refused _ _ _ c.judged-number.ensures c.if-number-eq0.true c.which_of.ensures c.needs.ensures c.in-Refused.is (c.not_needed.ensures ∙ (λ z. not_needed (c.number.ensures z) (c.place.ensures z) (c.line.ensures z)))
+pub returns-in-Err : goal.returns-in-Err
+returns-in-Err c = needs_refused _ _ _ c.judged-number.ensures c.if-number-eq0.true c.which_of.ensures c.needs.ensures c.in-Err.is (c.not_needed.ensures ∙ (λ z. not_needed (c.number.ensures z) (c.place.ensures z) (c.line.ensures z)))
 
 pub returns : goal.returns
 returns c = c.not_needed-2.ensures ∙ needs_unfit _ _ _ c.judged-number.ensures c.if-number-eq0.false

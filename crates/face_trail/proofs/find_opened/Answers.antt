@@ -17,12 +17,12 @@ pub returns-then-not-summed : goal.returns-then-not-summed
 returns-then-not-summed c = c.not_found-then-not-summed.ensures ∙ found-sum c.args.file.now (header_at c.args.words.now) c.data_of.ensures c.if-data_of-lt-LAST.false c.summed.ensures (not-true _ c.if-not-summed.true-raw)
 
 pub find_rows-requires : goal.find_rows-requires
-find_rows-requires c = record { in_bounds = (c.requires, omega (arith, data_short c.args.file.now (header_at c.args.words.now) c.data_of.ensures, c.if-data_of-lt-LAST.false)); n_value = (sym c.in-Trees.is ∙ c.count_trees.ensures) }
+find_rows-requires c = record { in_bounds = (c.requires, omega (arith, data_short c.args.file.now (header_at c.args.words.now) c.data_of.ensures, c.if-data_of-lt-LAST.false)); n_value = (sym c.in-Ok.is ∙ c.count_trees.ensures) }
 
-pub returns-in-Refused : goal.returns-in-Refused
-returns-in-Refused c =
-    c.not_found-in-Refused.ensures ∙ ap₂ (λ n p. found n p 0 0) c.number.ensures c.place.ensures
-    ∙ found_by_lem c.args.file.now (header_at c.args.words.now) c.data_of.ensures c.if-data_of-lt-LAST.false c.summed.ensures (not-false _ c.if-not-summed.false-raw) (sym c.in-Refused.is ∙ c.count_trees.ensures)
+pub returns-in-Err : goal.returns-in-Err
+returns-in-Err c =
+    c.not_found-in-Err.ensures ∙ ap₂ (λ n p. found n p 0 0) c.number.ensures c.place.ensures
+    ∙ found_by_lem c.args.file.now (header_at c.args.words.now) c.data_of.ensures c.if-data_of-lt-LAST.false c.summed.ensures (not-false _ c.if-not-summed.false-raw) (sym c.in-Err.is ∙ c.count_trees.ensures)
 
-pub returns-in-Trees : goal.returns-in-Trees
-returns-in-Trees c = c.find_rows.ensures ∙ found_by_lem c.args.file.now (header_at c.args.words.now) c.data_of.ensures c.if-data_of-lt-LAST.false c.summed.ensures (not-false _ c.if-not-summed.false-raw) (sym c.in-Trees.is ∙ c.count_trees.ensures)
+pub returns-in-Ok : goal.returns-in-Ok
+returns-in-Ok c = c.find_rows.ensures ∙ found_by_lem c.args.file.now (header_at c.args.words.now) c.data_of.ensures c.if-data_of-lt-LAST.false c.summed.ensures (not-false _ c.if-not-summed.false-raw) (sym c.in-Ok.is ∙ c.count_trees.ensures)

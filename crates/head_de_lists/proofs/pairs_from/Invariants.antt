@@ -10,8 +10,8 @@ use Rattle.head_de_lists.specs.Lists.{ranges_of}
 use mathlib.Core.Path.{◌≡◌}
 use Rattle.head_de_lists.proofs.pairs_from.Given as goal
 
-abbrev pub invariant-loop-refusal : goal.invariant-loop-refusal
-invariant-loop-refusal l = (items : List Range) × (l.list ≡ ranges_of items) × Going (λ i. of_pair (pair_at (delimiters_of l.inner) l.s i)) (delimiters_of l.outer) l.s l.initial.at.at l.at.at items
+abbrev pub invariant-loop-item : goal.invariant-loop-item
+invariant-loop-item l = (items : List Range) × (l.list ≡ ranges_of items) × Going (λ i. of_pair (pair_at (delimiters_of l.inner) l.s i)) (delimiters_of l.outer) l.s l.initial.at.at l.at.at items
 
-abbrev pub decreases-loop-refusal : goal.decreases-loop-refusal
-decreases-loop-refusal l = length l.s - l.at.at
+abbrev pub decreases-loop-item : goal.decreases-loop-item
+decreases-loop-item l = length l.s - l.at.at

@@ -1,13 +1,8 @@
 -- `head_de_lists::strings` meets its contract.
-use Rattle.head_de_lists.specs.declared.StringList.{StringList}
-use Rattle.head_de_lists.specs.declared.Outcome.{Outcome}
-use Rattle.head_de_lists.specs.declared.Spans.{Spans}
+use Rattle.head_de.specs.Values.{got}
 use Rattle.head_de_lists.specs.Lists.{list_at}
 use mathlib.Core.Path.{sym, ap, ◌∙◌}
 use Rattle.head_de_lists.proofs.strings.Goals as goal
-
-abbrev made : Outcome → Spans → StringList
-made o x = record { outcome = o; list = x }
 
 pub returns-in-Passed : goal.returns-in-Passed
 unfolding list_at
@@ -15,7 +10,7 @@ returns-in-Passed c = rw (sym c.delimiter.ensures ∙ c.in-Passed.is) c.strings_
 
 pub returns-in-Closed : goal.returns-in-Closed
 unfolding list_at
-returns-in-Closed c = rw (sym c.delimiter.ensures ∙ c.in-Closed.is) (ap (made _) c.none.ensures)
+returns-in-Closed c = rw (sym c.delimiter.ensures ∙ c.in-Closed.is) (ap (λ l. got l c.args.c.at) c.none.ensures)
 
 pub returns-in-Missing : goal.returns-in-Missing
 unfolding list_at

@@ -1,10 +1,10 @@
 -- `head_de_lists::strings_from` meets its contract. The invariant: what is left gives the answer.
-use Rattle.head_de_lists.specs.declared.StringList.{StringList}
-use Rattle.head_de_lists.specs.declared.Outcome.{Outcome}
 use Rattle.written.specs.Bytes.{Span}
+use Rattle.text_parts.specs.declared.Span as part
 use mathlib.Core.List.{[], ◌∷◌, ◌++◌}
-use Prim.Native.Nat.{ℕ, ◌-◌, ◌<◌}
+use Prim.Native.Nat.{◌-◌, ◌<◌}
 use lib.ListN.{length}
+use Rattle.std.proofs.lemmas.Result.{err_from_is_err_and}
 use Rattle.head_de_lists.specs.declared.Spans.{Spans}
 use Rattle.head_de.proofs.Moves.{read_moves, text_moves}
 use Rattle.head_de.specs.Readings.{read, of_text}
@@ -13,47 +13,46 @@ use Rattle.head_de_lists.proofs.Going.{Going, going_first, item_refused, item_la
 use Rattle.head_de_lists.specs.Lists.{spans_of, spans_with, strings_in}
 use native.Mathlib.Omega.{arith}
 use mathlib.Core.Path.{◌≡◌, sym, ap, ◌∙◌}
-use Rattle.head_de_lists.proofs.strings_from.Goals.{After-push-list, In-Passed, In-Read}
+use Rattle.head_de_lists.proofs.strings_from.Goals.{After-push-list, In-Passed, In_ok-item}
 use Rattle.head_de_lists.proofs.strings_from.Goals as goal
 
-abbrev made : Outcome → Spans → StringList
-made o x = record { outcome = o; list = x }
+-- an item as the text says it
+abbrev said : part.Span → Span
+said x = record { start = x.start; len = x.len }
 
--- the item that was read
-abbrev item : ℕ → ℕ → Span
-item i j = record { start = i; len = j }
-
-was_read : (c : In-Read) → of_text (text_at (delimiters_of c.args.inner) c.args.s.now c.loop-refusal.at.at) ≡ read (item c.in-Read.start c.in-Read.len) c.in-Read.next.at
-was_read c = ap of_text (sym c.string.ensures ∙ c.in-Read.is)
+was_read : (c : In_ok-item) → of_text (text_at (delimiters_of c.args.inner) c.args.s.now c.loop-item.at.at) ≡ read (said c.in_ok-item.item.value) c.in_ok-item.item.next.at
+was_read c = ap of_text (sym c.string.ensures ∙ c.in_ok-item.was)
 
 -- the list with it
-pushed : (c : After-push-list) → c.push-list.result ≡ spans_of (c.loop-refusal.invariant.0 ++ (item c.in-Read.start c.in-Read.len ∷ []))
-pushed c = c.push-list.ensures ∙ ap (λ (x : Spans). spans_with x c.in-Read.start c.in-Read.len) c.loop-refusal.invariant.1 ∙ spans_with_lem _ (item c.in-Read.start c.in-Read.len)
+pushed : (c : After-push-list) → c.push-list.result ≡ spans_of (c.loop-item.invariant.0 ++ (said c.in_ok-item.item.value ∷ []))
+pushed c = c.push-list.ensures ∙ ap (λ (x : Spans). spans_with x c.in_ok-item.item.value) c.loop-item.invariant.1 ∙ spans_with_lem _ (said c.in_ok-item.item.value)
 
-passed : (c : In-Passed) → of_text (text_at (delimiters_of c.args.inner) c.args.s.now c.loop-refusal.at.at) ≡ read (item c.in-Read.start c.in-Read.len) c.in-Read.next.at → (Going (λ i. of_text (text_at (delimiters_of c.args.inner) c.args.s.now i)) (delimiters_of c.args.outer) c.args.s.now c.args.c.at c.in-Passed.after.at (c.loop-refusal.invariant.0 ++ (item c.in-Read.start c.in-Read.len ∷ []))) × (length c.args.s.now - c.in-Passed.after.at < length c.args.s.now - c.loop-refusal.at.at)
-passed c r = item_passed _ _ _ _ c.loop-refusal.invariant.2 r (read_moves (text_moves _ _ _) r) (sym c.delimiter.ensures ∙ c.in-Passed.is)
+passed : (c : In-Passed) → of_text (text_at (delimiters_of c.args.inner) c.args.s.now c.loop-item.at.at) ≡ read (said c.in_ok-item.item.value) c.in_ok-item.item.next.at → (Going (λ i. of_text (text_at (delimiters_of c.args.inner) c.args.s.now i)) (delimiters_of c.args.outer) c.args.s.now c.args.c.at c.in-Passed.after.at (c.loop-item.invariant.0 ++ (said c.in_ok-item.item.value ∷ []))) × (length c.args.s.now - c.in-Passed.after.at < length c.args.s.now - c.loop-item.at.at)
+passed c r = item_passed _ _ _ _ c.loop-item.invariant.2 r (read_moves (text_moves _ _ _) r) (sym c.delimiter.ensures ∙ c.in-Passed.is)
 
-pub loop-refusal-init : goal.loop-refusal-init
-loop-refusal-init c = ([], c.none-list.ensures, going_first _ _ _ _)
+pub loop-item-init : goal.loop-item-init
+loop-item-init c = ([], c.none-list.ensures, going_first _ _ _ _)
 
-pub returns-in-Refused : goal.returns-in-Refused
-returns-in-Refused c = ap (made _) c.none.ensures ∙ ap strings_in (sym (item_refused _ _ _ _ c.loop-refusal.invariant.2 (ap of_text (sym c.string.ensures ∙ c.in-Refused.is))))
+pub returns-in_err-item : goal.returns-in_err-item
+returns-in_err-item c =
+    let p = err_from_is_err_and c.from_residual.result c.from_residual.ensures.1 in
+    rw (p.1, p.2) (ap strings_in (sym (item_refused _ _ _ _ c.loop-item.invariant.2 (ap of_text (sym c.string.ensures ∙ c.in_err-item.was)))))
 
 pub push-list-requires : goal.push-list-requires
 unfolding spans_of
 push-list-requires c =
-    let i = c.loop-refusal.invariant in
-    let e : c.loop-refusal.list.count ≡ length i.0 = ap (λ (x : Spans). x.count) i.1 in
+    let i = c.loop-item.invariant in
+    let e : c.loop-item.list.count ≡ length i.0 = ap (λ (x : Spans). x.count) i.1 in
     omega (arith, e, i.2.fits, c.well_formed)
 
-pub loop-refusal-smaller : goal.loop-refusal-smaller
-loop-refusal-smaller c = (passed (goal.at.loop-refusal-smaller c).In-Passed (was_read (goal.at.loop-refusal-smaller c).In-Read)).1
+pub loop-item-smaller : goal.loop-item-smaller
+loop-item-smaller c = (passed (goal.at.loop-item-smaller c).In-Passed (was_read (goal.at.loop-item-smaller c).In_ok-item)).1
 
-pub loop-refusal-preserved : goal.loop-refusal-preserved
-loop-refusal-preserved c = (_, pushed (goal.at.loop-refusal-preserved c).After-push-list, (passed (goal.at.loop-refusal-preserved c).In-Passed (was_read (goal.at.loop-refusal-preserved c).In-Read)).0)
+pub loop-item-preserved : goal.loop-item-preserved
+loop-item-preserved c = (_, pushed (goal.at.loop-item-preserved c).After-push-list, (passed (goal.at.loop-item-preserved c).In-Passed (was_read (goal.at.loop-item-preserved c).In_ok-item)).0)
 
 pub returns-in-Closed : goal.returns-in-Closed
-returns-in-Closed c = ap (made _) (pushed (goal.at.returns-in-Closed c).After-push-list) ∙ ap strings_in (sym (item_last _ _ _ _ c.loop-refusal.invariant.2 (was_read (goal.at.returns-in-Closed c).In-Read) (sym c.delimiter.ensures ∙ c.in-Closed.is)))
+returns-in-Closed c = rw (pushed (goal.at.returns-in-Closed c).After-push-list) (ap strings_in (sym (item_last _ _ _ _ c.loop-item.invariant.2 (was_read (goal.at.returns-in-Closed c).In_ok-item) (sym c.delimiter.ensures ∙ c.in-Closed.is))))
 
 pub returns-in-Missing : goal.returns-in-Missing
-returns-in-Missing c = ap (made _) c.none-in-Missing.ensures ∙ ap strings_in (sym (item_unsplit _ _ _ _ c.loop-refusal.invariant.2 (was_read (goal.at.returns-in-Missing c).In-Read) (sym c.delimiter.ensures ∙ c.in-Missing.is)))
+returns-in-Missing c = ap strings_in (sym (item_unsplit _ _ _ _ c.loop-item.invariant.2 (was_read (goal.at.returns-in-Missing c).In_ok-item) (sym c.delimiter.ensures ∙ c.in-Missing.is)))

@@ -1,31 +1,45 @@
 -- `head_de_values::read_pairs` meets its contract.
 use Prim.Native.Nat.{ℕ}
-use Rattle.written.specs.Bytes.{comma}
 use mathlib.Core.List.{List, ◌∷◌}
+use Rattle.std.specs.Prelude.{Result, Ok, Err}
+use Rattle.std.proofs.lemmas.Result.{err_from_is_err_and}
+use Rattle.error.specs.declared.Refusal.{Refusal}
+use Rattle.written.specs.Bytes.{comma}
+use Rattle.written.specs.HeaderText.{ranges, pairs}
+use Rattle.written.specs.HeaderText.{Range}
+use Rattle.head_de.specs.declared.Read.{Read}
 use Rattle.head_de_values.specs.declared.Value.{Value}
-use Rattle.written.specs.HeaderText.{Range, ranges}
-use Rattle.head_de_lists.specs.declared.PairList.{PairList}
+use Rattle.head_de_lists.specs.declared.Ranges.{Ranges}
 use Rattle.head_de_lists.specs.Lists.{list_at, pairs_in}
 use Rattle.head_de.specs.Readings.{Reading, read, refused, mapped, of_pair}
 use Rattle.head_de.specs.Values.{pair_at}
-use Rattle.head_de_values.specs.Values.{read_at, value_of, blank_of, value_in, around_of}
-use mathlib.Core.Path.{◌≡◌, refl, ap, ap₂, ◌∙◌}
+use Rattle.head_de_values.specs.Values.{read_at, value_of, blank_value, value_in, around_of}
+use mathlib.Core.Path.{◌≡◌, refl, sym, ap, ap₂, ◌∙◌}
+use Rattle.head_de_values.proofs.read_pairs.Goals.{After-pairs}
 use Rattle.head_de_values.proofs.read_pairs.Goals as goal
 
 -- the value that a list makes
-abbrev with_list : PairList → Value
-with_list x = record { outcome = (blank_of x.outcome).outcome; number = (blank_of x.outcome).number; flag = (blank_of x.outcome).flag; span = (blank_of x.outcome).span; range = (blank_of x.outcome).range; spans = (blank_of x.outcome).spans; ranges = x.list }
+abbrev with_list : Result (Read Ranges) Refusal → Result (Read Value) Refusal
+with_list (Ok x) = Ok (record { value = record { number = blank_value.number; flag = blank_value.flag; span = blank_value.span; range = blank_value.range; spans = blank_value.spans; ranges = x.value }; next = x.next })
+with_list (Err r) = Err r
 
 stands : (x : Reading (List Range)) → with_list (pairs_in x) ≡ value_in (mapped ranges x)
-unfolding blank_of value_of
+unfolding blank_value value_of
 stands (read l j) = refl
 stands (refused r) = refl
 
-pub returns : goal.returns
-unfolding read_at blank_of
-returns c =
-    rw c.blank-v.ensures
-    (ap with_list
-    (c.pairs-found.ensures
+found : (c : After-pairs) → with_list c.pairs.result ≡ value_in (read_at (around_of c.args.around) c.args.s.now c.args.c.at pairs)
+unfolding read_at
+found c =
+    ap with_list
+    (c.pairs.ensures
     ∙ ap₂ (λ (D E : List ℕ). pairs_in (list_at (λ i. of_pair (pair_at D c.args.s.now i)) E c.args.s.now c.args.c.at)) c.inner.ensures c.outer.ensures)
-    ∙ stands (list_at (λ i. of_pair (pair_at (comma ∷ around_of c.args.around) c.args.s.now i)) (around_of c.args.around) c.args.s.now c.args.c.at))
+    ∙ stands (list_at (λ i. of_pair (pair_at (comma ∷ around_of c.args.around) c.args.s.now i)) (around_of c.args.around) c.args.s.now c.args.c.at)
+
+pub returns-in_err-found : goal.returns-in_err-found
+returns-in_err-found c =
+    let p = err_from_is_err_and c.from_residual.result c.from_residual.ensures.1 in
+    rw (p.1, p.2) (sym (ap with_list c.in_err-found.was) ∙ found (goal.at.returns-in_err-found c).After-pairs)
+
+pub returns : goal.returns
+returns c = rw c.blank-value.ensures (sym (ap with_list c.in_ok-found.was) ∙ found (goal.at.returns c).After-pairs)

@@ -6,6 +6,3 @@ use Rattle.head_fields.proofs.missing.Given as goal
 
 abbrev pub invariant-loop-k : goal.invariant-loop-k
 invariant-loop-k l = (any_missing l.seen l.n ≡ any_missing l.seen l.k) × (l.k ≤ l.n)
-
-abbrev pub decreases-loop-k : goal.decreases-loop-k
-decreases-loop-k l = l.k

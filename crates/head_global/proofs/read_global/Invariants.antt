@@ -14,9 +14,9 @@ use Rattle.head_lines.proofs.Going.{Going}
 use Rattle.head_global.specs.Global.{with_line}
 use Rattle.head_global.proofs.read_global.Given as goal
 
-abbrev pub invariant-loop-next : goal.invariant-loop-next
-invariant-loop-next l =
+abbrev pub invariant-loop-line : goal.invariant-loop-line
+invariant-loop-line l =
     (xs : List Entry) × (l.words ≡ sets l.initial.words 0 (global_words (kept with_line empty_global xs))) × Going global_fields l.s l.start l.at.at l.seen xs
 
-abbrev pub decreases-loop-next : goal.decreases-loop-next
-decreases-loop-next l = length l.s - l.at.at
+abbrev pub decreases-loop-line : goal.decreases-loop-line
+decreases-loop-line l = length l.s - l.at.at

@@ -6,6 +6,3 @@ use Rattle.head_group_words.proofs.judge.Given as goal
 
 abbrev pub invariant-loop-k : goal.invariant-loop-k
 invariant-loop-k l = (l.k ≤ 8) × (many_at l.words l.at l.width l.limit 8 ≡ many_at l.words l.at l.width l.limit l.k)
-
-abbrev pub decreases-loop-k : goal.decreases-loop-k
-decreases-loop-k l = l.k

@@ -8,6 +8,3 @@ use Rattle.head_group_words.proofs.known.Given as goal
 
 abbrev pub invariant-loop-k : goal.invariant-loop-k
 invariant-loop-k l = known_in l.s (names_at l.words l.at l.width) l.n (bytes_of l.s l.x) ≡ known_from (l.n - l.k) l.s (names_at l.words l.at l.width) l.k (bytes_of l.s l.x)
-
-abbrev pub decreases-loop-k : goal.decreases-loop-k
-decreases-loop-k l = l.n - l.k

@@ -10,13 +10,13 @@ use Rattle.head_open.proofs.check_utf8.Goals as goal
 pub overflow_add-result : goal.overflow_add-result
 overflow_add-result c =
     let a = c.args in
-    let f = (bad _ _).0 (ap check_of (sym c.part_of.ensures) ∙ sym c.check.ensures ∙ c.in-Bad.is) in
+    let f = (bad _ _).0 (ap check_of (sym c.part_of.ensures) ∙ sym c.check.ensures ∙ c.in-Err.is) in
     omega (arith, f.inside, length-take a.x.len (drop a.x.start a.file.now), c.requires, c.well_formed)
 
-pub returns-in-Valid : goal.returns-in-Valid
+pub returns-in-Ok : goal.returns-in-Ok
 unfolding utf8_of
-returns-in-Valid c = rw (ap check_of (sym c.part_of.ensures) ∙ sym c.check.ensures ∙ c.in-Valid.is)
+returns-in-Ok c = rw (ap check_of (sym c.part_of.ensures) ∙ sym c.check.ensures ∙ c.in-Ok.is)
 
-pub returns-in-Bad : goal.returns-in-Bad
+pub returns-in-Err : goal.returns-in-Err
 unfolding utf8_of
-returns-in-Bad c = rw (ap check_of (sym c.part_of.ensures) ∙ sym c.check.ensures ∙ c.in-Bad.is)
+returns-in-Err c = rw (ap check_of (sym c.part_of.ensures) ∙ sym c.check.ensures ∙ c.in-Err.is)

@@ -11,12 +11,12 @@ unfolding open_of open_left refused_with
 returns-then-file-gt-FILE_LIMIT c = rw (lt-ltb _ _ c.if-file-gt-FILE_LIMIT.true) (refl, refl)
 
 pub open_parts-requires : goal.open_parts-requires
-open_parts-requires c = (split_inside _ _ (sym c.split_sections.ensures ∙ c.in-Split.is), c.requires)
+open_parts-requires c = (split_inside _ _ (sym c.split_sections.ensures ∙ c.in-Some.is), c.requires)
 
-pub returns-in-Unsplit : goal.returns-in-Unsplit
+pub returns-in-None : goal.returns-in-None
 unfolding open_of open_left refused_with
-returns-in-Unsplit c = rw (le-ltb _ _ c.if-file-gt-FILE_LIMIT.false, sym c.split_sections.ensures ∙ c.in-Unsplit.is) (refl, refl)
+returns-in-None c = rw (le-ltb _ _ c.if-file-gt-FILE_LIMIT.false, sym c.split_sections.ensures ∙ c.in-None.is) (refl, refl)
 
-pub returns-in-Split : goal.returns-in-Split
+pub returns-in-Some : goal.returns-in-Some
 unfolding open_of open_left
-returns-in-Split c = rw (le-ltb _ _ c.if-file-gt-FILE_LIMIT.false, sym c.split_sections.ensures ∙ c.in-Split.is) c.open_parts.ensures
+returns-in-Some c = rw (le-ltb _ _ c.if-file-gt-FILE_LIMIT.false, sym c.split_sections.ensures ∙ c.in-Some.is) c.open_parts.ensures

@@ -3,6 +3,7 @@ use mathlib.Core.Path.{◌≡◌, refl, sym, ap, ◌∙◌}
 use Prim.Native.Nat.{◌≤◌}
 use native.Mathlib.Omega.{arith}
 use lib.ListN.{length}
+use Rattle.std.proofs.lemmas.Result.{err_from_is_err_and}
 use Rattle.head_record.specs.Empty.{empty_position}
 use Rattle.head_words.specs.Words.{flat, position_words}
 use Rattle.head_words.proofs.Lengths.{length_position}
@@ -11,7 +12,7 @@ use Rattle.head_brackets.specs.Rows.{row_at}
 use Rattle.head_brackets.specs.declared.RowAt.TheVariants as found
 use Rattle.head_brackets.proofs.Through.{row_less, line_less}
 use Rattle.head_position.specs.Group.{group_in, judged}
-use Rattle.head_position.proofs.Reading.{reached_none, reached_other, reached_taken, reached_no_line, broken, reached_line, ended}
+use Rattle.head_position.proofs.Reading.{reached_none, reached_other, reached_taken, broken, reached_line, ended}
 use Rattle.head_position.proofs.read_group.Goals.{In-Found}
 use Rattle.head_position.proofs.read_group.Goals as goal
 
@@ -30,25 +31,19 @@ loop-row-init c = reached_none _ _ _ _ (c.put_span.ensures ∙ rw c.requires ref
 pub store-requires : goal.store-requires
 store-requires c = ap length c.loop-row.invariant.words ∙ length_position _
 
-pub loop-row-smaller-in-Read : goal.loop-row-smaller-in-Read
-loop-row-smaller-in-Read c = row_less _ _ _ _ c.loop-row.invariant.through (row (goal.at.loop-row-smaller-in-Read c).In-Found)
+pub loop-row-smaller-then-same_part : goal.loop-row-smaller-then-same_part
+loop-row-smaller-then-same_part c = row_less _ _ _ _ c.loop-row.invariant.through (row (goal.at.loop-row-smaller-then-same_part c).In-Found)
 
-pub loop-row-preserved-in-Read : goal.loop-row-preserved-in-Read
-loop-row-preserved-in-Read c =
-    reached_taken _ _ _ c.loop-row.invariant (row (goal.at.loop-row-preserved-in-Read c).In-Found) (sym c.same_part.ensures ∙ c.if-same_part.true) _ c.row_line-l.ensures c.in-Read.is _ c.mark-with_field.ensures _
+pub loop-row-preserved-then-same_part : goal.loop-row-preserved-then-same_part
+loop-row-preserved-then-same_part c =
+    reached_taken _ _ _ c.loop-row.invariant (row (goal.at.loop-row-preserved-then-same_part c).In-Found) (sym c.same_part.ensures ∙ c.if-same_part.true) c.row_line.ensures c.in_ok-line-in-Found.was _ c.mark-with_field.ensures _
     c.store.ensures
 
-pub loop-row-smaller-in-End-step : goal.loop-row-smaller-in-End-step
-loop-row-smaller-in-End-step c = row_less _ _ _ _ c.loop-row.invariant.through (row (goal.at.loop-row-smaller-in-End-step c).In-Found)
-
-pub loop-row-preserved-in-End-step : goal.loop-row-preserved-in-End-step
-loop-row-preserved-in-End-step c = reached_no_line _ _ _ c.loop-row.invariant (row (goal.at.loop-row-preserved-in-End-step c).In-Found) (sym c.same_part.ensures ∙ c.if-same_part.true) _ c.row_line-l.ensures c.in-End-step.is
-
-pub shape_of-item-in-Refused : goal.shape_of-item-in-Refused
-shape_of-item-in-Refused c = ap length c.loop-row.invariant.words ∙ length_position _ ∙ sym (ap length c.requires)
-
-pub returns-in-Refused : goal.returns-in-Refused
-returns-in-Refused c = let a = broken _ _ _ c.loop-row.invariant (row (goal.at.returns-in-Refused c).In-Found) (sym c.same_part.ensures ∙ c.if-same_part.true) _ c.row_line-l.ensures c.in-Refused.is in (sym (ap (λ x. (group_in x).verdict) a.answer), a.words)
+pub returns-in_err-line-in-Found : goal.returns-in_err-line-in-Found
+returns-in_err-line-in-Found c =
+    let a = broken _ _ _ c.loop-row.invariant (row (goal.at.returns-in_err-line-in-Found c).In-Found) (sym c.same_part.ensures ∙ c.if-same_part.true) c.row_line.ensures c.in_err-line-in-Found.was in
+    let p = err_from_is_err_and c.from_residual.result c.from_residual.ensures.1 in
+    rw (p.1, p.2) (sym (ap (λ x. (group_in x).verdict) a.answer), a.words)
 
 pub loop-row-smaller-else-same_part : goal.loop-row-smaller-else-same_part
 loop-row-smaller-else-same_part c = row_less _ _ _ _ c.loop-row.invariant.through (row (goal.at.loop-row-smaller-else-same_part c).In-Found)

@@ -1,22 +1,15 @@
--- `head_put::put_all`: what is left to copy gives the whole.
+-- `head_put::put_all`: a part of the words that is copied over is those words stored.
+use mathlib.Core.Path.{ap, ◌∙◌}
 use native.Mathlib.Omega.{arith}
-use Rattle.head_put.proofs.Laid.{copying_none, copying_more, copying_done}
+use Prim.Native.Nat.{◌+◌, ◌-◌}
+use lib.ListN.{length}
+use lib.Seq.{sets}
+use Rattle.laws.proofs.Tables.{part_put}
 use Rattle.head_put.proofs.put_all.Goals as goal
 
-pub loop-k-init : goal.loop-k-init
-loop-k-init c = copying_none _ _ _
-
-pub bounds-words-at : goal.bounds-words-at
-bounds-words-at c = omega (arith, c.loop-k.invariant.long, c.loop-k-test.true, c.requires)
-
-pub loop-k-smaller : goal.loop-k-smaller
-loop-k-smaller c = omega (arith, c.loop-k-test.true)
-
-pub loop-k-preserved : goal.loop-k-preserved
-loop-k-preserved c = copying_more _ _ _ _ _ c.loop-k.invariant c.loop-k-test.true
-
-pub shape_of-words : goal.shape_of-words
-shape_of-words c = c.loop-k.invariant.long
-
 pub returns : goal.returns
-returns c = copying_done _ _ _ _ _ c.loop-k.invariant c.loop-k-test.false
+returns c =
+    let a = c.args.at in
+    let n = length c.args.from.now in
+    let e = c.copy_from_slice.ensures.after in
+    part_put c.args.words.now a (a + n - a) c.copy_from_slice.new.self (omega (arith, ap length e)) (omega (arith, c.requires)) ∙ ap (sets c.args.words.now a) e

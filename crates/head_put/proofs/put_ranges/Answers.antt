@@ -10,9 +10,6 @@ loop-k-init c = laying_none _ _ _ _ _
 pub put2-requires : goal.put2-requires
 put2-requires c = omega (arith, c.loop-k.invariant.long, c.loop-k-test.true, c.requires)
 
-pub loop-k-smaller : goal.loop-k-smaller
-loop-k-smaller c = omega (arith, c.loop-k-test.true)
-
 pub loop-k-preserved : goal.loop-k-preserved
 loop-k-preserved c = laying_more _ _ _ _ _ _ _ c.loop-k.invariant _ c.put2.ensures refl c.loop-k-test.true
 

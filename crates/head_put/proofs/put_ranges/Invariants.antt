@@ -1,5 +1,4 @@
 -- `head_put::put_ranges`: what is left to write gives the whole.
-use Prim.Native.Nat.{◌-◌}
 use lib.ListN.{get_or}
 use Rattle.head_record.specs.Empty.{no_range}
 use Rattle.head_words.specs.Words.{range_words}
@@ -8,6 +7,3 @@ use Rattle.head_put.proofs.put_ranges.Given as goal
 
 abbrev pub invariant-loop-k : goal.invariant-loop-k
 invariant-loop-k l = Laying (λ j. range_words (get_or l.items j no_range)) 2 8 l.at l.initial.words l.words l.k
-
-abbrev pub decreases-loop-k : goal.decreases-loop-k
-decreases-loop-k l = 8 - l.k

@@ -1,5 +1,4 @@
 -- `head_put::put_spans`: what is left to write gives the whole.
-use Prim.Native.Nat.{◌-◌}
 use lib.ListN.{get_or}
 use Rattle.head_record.specs.Empty.{no_span}
 use Rattle.head_words.specs.Words.{span_words}
@@ -8,6 +7,3 @@ use Rattle.head_put.proofs.put_spans.Given as goal
 
 abbrev pub invariant-loop-k : goal.invariant-loop-k
 invariant-loop-k l = Laying (λ j. span_words (get_or l.items j no_span)) 2 l.n l.at l.initial.words l.words l.k
-
-abbrev pub decreases-loop-k : goal.decreases-loop-k
-decreases-loop-k l = l.n - l.k

@@ -4,6 +4,7 @@ use mathlib.Core.List.{[], ◌∷◌}
 use native.Mathlib.Omega.{arith}
 use borrow.Author.Tests.{not-true, not-false}
 use lib.ListN.{length}
+use Rattle.std.proofs.lemmas.Result.{err_from_is_err_and}
 use Rattle.head_words.proofs.Items.{laid_long}
 use Rattle.head_words.proofs.Lengths.{length_stream}
 use Rattle.head_brackets.specs.Rows.{row_at}
@@ -43,19 +44,19 @@ pub loop-row-smaller-then-n-lt8 : goal.loop-row-smaller-then-n-lt8
 loop-row-smaller-then-n-lt8 c = row_less _ _ _ _ c.loop-row.invariant.through (row (goal.at.loop-row-smaller-then-n-lt8 c).In-Found)
 
 pub loop-row-preserved-then-n-lt8 : goal.loop-row-preserved-then-n-lt8
-loop-row-preserved-then-n-lt8 c = reached_more _ _ _ c.loop-row.invariant (row (goal.at.loop-row-preserved-then-n-lt8 c).In-Found) (sym c.known.ensures ∙ not-true _ c.if-not-known.true-raw) c.read_group.ensures.0 c.in-Accepted.is c.if-n-lt8.true c.put_all.ensures c.read_group.ensures.1
+loop-row-preserved-then-n-lt8 c = reached_more _ _ _ c.loop-row.invariant (row (goal.at.loop-row-preserved-then-n-lt8 c).In-Found) (sym c.known.ensures ∙ not-true _ c.if-not-known.true-raw) c.read_group.ensures.0 c.in_ok-read_group-in-Found.was c.if-n-lt8.true c.put_all.ensures c.read_group.ensures.1
 
 pub loop-row-smaller-else-n-lt8 : goal.loop-row-smaller-else-n-lt8
 loop-row-smaller-else-n-lt8 c = row_less _ _ _ _ c.loop-row.invariant.through (row (goal.at.loop-row-smaller-else-n-lt8 c).In-Found)
 
 pub loop-row-preserved-else-n-lt8 : goal.loop-row-preserved-else-n-lt8
-loop-row-preserved-else-n-lt8 c = reached_ninth _ _ _ c.loop-row.invariant (row (goal.at.loop-row-preserved-else-n-lt8 c).In-Found) (sym c.known.ensures ∙ not-true _ c.if-not-known.true-raw) c.read_group.ensures.0 c.in-Accepted.is c.if-n-lt8.false
+loop-row-preserved-else-n-lt8 c = reached_ninth _ _ _ c.loop-row.invariant (row (goal.at.loop-row-preserved-else-n-lt8 c).In-Found) (sym c.known.ensures ∙ not-true _ c.if-not-known.true-raw) c.read_group.ensures.0 c.in_ok-read_group-in-Found.was c.if-n-lt8.false
 
-pub shape_of-words-in-Refused : goal.shape_of-words-in-Refused
-shape_of-words-in-Refused c = (kept_long streams c.loop-row.invariant.kept)
-
-pub returns-in-Refused : goal.returns-in-Refused
-returns-in-Refused c = let a = refused_group _ _ _ c.loop-row.invariant (row (goal.at.returns-in-Refused c).In-Found) (sym c.known.ensures ∙ not-true _ c.if-not-known.true-raw) c.read_group.ensures.0 c.in-Refused.is in (a.answer, a.words)
+pub returns-in_err-read_group-in-Found : goal.returns-in_err-read_group-in-Found
+returns-in_err-read_group-in-Found c =
+    let a = refused_group _ _ _ c.loop-row.invariant (row (goal.at.returns-in_err-read_group-in-Found c).In-Found) (sym c.known.ensures ∙ not-true _ c.if-not-known.true-raw) c.read_group.ensures.0 c.in_err-read_group-in-Found.was in
+    let p = err_from_is_err_and c.from_residual.result c.from_residual.ensures.1 in
+    rw (p.1, p.2) (a.answer, a.words)
 
 pub loop-row-smaller-else-not-known : goal.loop-row-smaller-else-not-known
 loop-row-smaller-else-not-known c = row_less _ _ _ _ c.loop-row.invariant.through (row (goal.at.loop-row-smaller-else-not-known c).In-Found)

@@ -1,7 +1,8 @@
 -- `head_ungrouped::check_lines` meets its contract. The invariant: what is left gives the answer.
 use native.Mathlib.Omega.{arith}
 use borrow.Author.Tests.{le-ltb}
-use Rattle.head_lines.specs.declared.Line.{Line}
+use Rattle.std.specs.Prelude.{Ok}
+use Rattle.std.proofs.lemmas.Result.{err_from_is_err_and}
 use Rattle.head_ungrouped.specs.Ungrouped.{verdict_in}
 use Rattle.head_lines.proofs.Going.{going_first, end_of, wrong_of, lines_end, lines_wrong, Turned, turned}
 use Rattle.head_lines.specs.Lines.{unseen, marked}
@@ -11,32 +12,34 @@ use mathlib.Core.List.{List, []}
 use lib.ListN.{length}
 use Prim.Native.Nat.{ℕ}
 use mathlib.Core.Path.{◌≡◌, sym, ap, ◌∙◌}
-use Rattle.head_ungrouped.proofs.check_lines.Goals.{In-Read}
+use Rattle.head_ungrouped.proofs.check_lines.Goals.{In-Some}
 use Rattle.head_ungrouped.proofs.check_lines.Goals as goal
 
 -- a line was read
-read_line : (c : In-Read) → Turned stream_fields c.args.s.now c.args.start c.loop-next.at.at unseen c.loop-next.invariant.0 c.next_line-l.result c.in-Read.next
+read_line : (c : In-Some) → Turned stream_fields c.args.s.now c.args.start c.loop-line.at.at unseen c.loop-line.invariant.0 c.in-Some.line
 unfolding unseen
-read_line c = turned stream_fields _ _ c.loop-next.invariant.1 c.next_line-l.ensures c.in-Read.is
+read_line c = turned stream_fields _ _ c.loop-line.invariant.1 c.next_line.ensures (c.in_ok-line.was ∙ ap Ok c.in-Some.is)
 
 -- there is no field to mark
 unmarked : (m : List Bool) (k : ℕ) → marked (length stream_fields) m k ≡ m
 unfolding marked stream_fields
 unmarked m k = rw (le-ltb k 0 (omega arith))
 
-pub loop-next-init : goal.loop-next-init
-loop-next-init c = ([], going_first stream_fields _ _)
+pub loop-line-init : goal.loop-line-init
+loop-line-init c = ([], going_first stream_fields _ _)
 
-pub loop-next-smaller : goal.loop-next-smaller
-loop-next-smaller c = (read_line c).less
+pub loop-line-smaller : goal.loop-line-smaller
+loop-line-smaller c = (read_line (goal.at.loop-line-smaller c).In-Some).less
 
-pub loop-next-preserved : goal.loop-next-preserved
-loop-next-preserved c = (_, rw (unmarked unseen c.next_line-l.result.field) at (read_line c).going)
+pub loop-line-preserved : goal.loop-line-preserved
+loop-line-preserved c = let a = (goal.at.loop-line-preserved c).In-Some in (_, rw (unmarked unseen c.in-Some.line.field) at (read_line a).going)
 
-pub returns-in-End : goal.returns-in-End
+pub returns-in_err-line : goal.returns-in_err-line
 unfolding unseen
-returns-in-End c = ap verdict_in (sym (lines_end stream_fields _ _ c.loop-next.invariant.1 (end_of stream_fields _ (ap (λ (l : Line). l.step) (sym c.next_line-l.ensures) ∙ c.in-End.is))))
+returns-in_err-line c =
+    let p = err_from_is_err_and c.from_residual.result c.from_residual.ensures.1 in
+    rw (p.1, p.2) (ap verdict_in (sym (lines_wrong stream_fields _ _ c.loop-line.invariant.1 (wrong_of stream_fields _ (sym c.next_line.ensures ∙ c.in_err-line.was)))))
 
-pub returns-in-Refused : goal.returns-in-Refused
+pub returns : goal.returns
 unfolding unseen
-returns-in-Refused c = ap verdict_in (sym (lines_wrong stream_fields _ _ c.loop-next.invariant.1 (wrong_of stream_fields _ (ap (λ (l : Line). l.step) (sym c.next_line-l.ensures) ∙ c.in-Refused.is))))
+returns c = ap verdict_in (sym (lines_end stream_fields _ _ c.loop-line.invariant.1 (end_of stream_fields _ (sym c.next_line.ensures ∙ c.in_ok-line.was ∙ ap Ok c.in_default.is))))

@@ -8,8 +8,8 @@ use lib.ListN.{length}
 use Prim.Native.Nat.{◌-◌}
 use Rattle.head_ungrouped.proofs.check_lines.Given as goal
 
-abbrev pub invariant-loop-next : goal.invariant-loop-next
-invariant-loop-next l = (xs : List Entry) × Going stream_fields l.s l.start l.at.at unseen xs
+abbrev pub invariant-loop-line : goal.invariant-loop-line
+invariant-loop-line l = (xs : List Entry) × Going stream_fields l.s l.start l.at.at unseen xs
 
-abbrev pub decreases-loop-next : goal.decreases-loop-next
-decreases-loop-next l = length l.s - l.at.at
+abbrev pub decreases-loop-line : goal.decreases-loop-line
+decreases-loop-line l = length l.s - l.at.at

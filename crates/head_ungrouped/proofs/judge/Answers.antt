@@ -5,7 +5,7 @@ use Rattle.head_ungrouped.proofs.judge.Goals as goal
 
 pub returns-then-missing : goal.returns-then-missing
 unfolding judged
-returns-then-missing c = c.refused.ensures ∙ rw (sym c.missing.ensures ∙ c.if-missing.true)
+returns-then-missing c = rw (sym c.missing.ensures ∙ c.if-missing.true)
 
 pub returns : goal.returns
 unfolding judged

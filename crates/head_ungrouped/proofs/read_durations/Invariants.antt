@@ -10,8 +10,8 @@ use Prim.Native.Nat.{◌-◌}
 use mathlib.Core.Path.{◌≡◌}
 use Rattle.head_ungrouped.proofs.read_durations.Given as goal
 
-abbrev pub invariant-loop-next : goal.invariant-loop-next
-invariant-loop-next l = (xs : List Entry) × (l.durations ≡ kept with_line no_durations xs) × Going position_fields l.s l.start l.at.at l.seen xs
+abbrev pub invariant-loop-line : goal.invariant-loop-line
+invariant-loop-line l = (xs : List Entry) × (l.durations ≡ kept with_line no_durations xs) × Going position_fields l.s l.start l.at.at l.seen xs
 
-abbrev pub decreases-loop-next : goal.decreases-loop-next
-decreases-loop-next l = length l.s - l.at.at
+abbrev pub decreases-loop-line : goal.decreases-loop-line
+decreases-loop-line l = length l.s - l.at.at

@@ -1,6 +1,5 @@
 -- `head_words::flags_fit`: the groups up to i have flags.
 use mathlib.Core.Path.{sym, ◌∙◌}
-use native.Mathlib.Omega.{arith}
 use borrow.Author.Tests.{not-true, not-false}
 use Rattle.laws.proofs.Every.{not_first, then_second, passing_none, passing_on, passing_off, passing_end}
 use Rattle.head_words.specs.Words.{group_flags, flags_fit}
@@ -18,9 +17,6 @@ unfolding flags_fit
 returns-then-not-group_flags c =
     then_second (sym c.is_flag.ensures ∙ not-false _ c.if-not-is_flag.false-raw)
     (passing_off _ _ _ c.loop-i.invariant c.loop-i-test.true (sym c.group_flags.ensures ∙ not-true _ c.if-not-group_flags.true-raw))
-
-pub loop-i-smaller : goal.loop-i-smaller
-loop-i-smaller c = omega (arith, c.loop-i-test.true)
 
 pub loop-i-preserved : goal.loop-i-preserved
 loop-i-preserved c = passing_on _ _ _ c.loop-i.invariant c.loop-i-test.true (sym c.group_flags.ensures ∙ not-false _ c.if-not-group_flags.false-raw)

@@ -8,11 +8,11 @@ use Rattle.head_record_fits.proofs.Fits.{position_none_fits}
 use Rattle.head_words_fit.proofs.Runs.{run_off, run_on}
 use Rattle.head_words_fit.proofs.positions_fit.Goals as goal
 
-pub returns-then-k-gt8 : goal.returns-then-k-gt8
-returns-then-k-gt8 c = sym (counted_over _ _ _ _ c.if-k-gt8.true)
+pub returns-then-count-gt8 : goal.returns-then-count-gt8
+returns-then-count-gt8 c = sym (counted_over _ _ _ _ c.if-count-gt8.true)
 
 pub loop-k-init : goal.loop-k-init
-loop-k-init c = left_all _ _ _ _ c.if-k-gt8.false
+loop-k-init c = left_all _ _ _ _ c.if-count-gt8.false
 
 pub returns-then-not-position_fits : goal.returns-then-not-position_fits
 returns-then-not-position_fits c = sym (run_off _ c.loop-k.invariant _ (position_none_fits _) c.loop-k-test.true (sym c.position_fits.ensures ∙ not-true _ c.if-not-position_fits.true-raw))

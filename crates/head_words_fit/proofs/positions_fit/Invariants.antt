@@ -6,6 +6,3 @@ use Rattle.head_words_fit.proofs.positions_fit.Given as goal
 
 abbrev pub invariant-loop-k : goal.invariant-loop-k
 invariant-loop-k l = Left 8 (position_fits l.n) (word_at l.words 644) (positions_at l.words 412) l.k
-
-abbrev pub decreases-loop-k : goal.decreases-loop-k
-decreases-loop-k l = l.k

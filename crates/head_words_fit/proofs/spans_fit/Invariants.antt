@@ -6,6 +6,3 @@ use Rattle.head_words_fit.proofs.spans_fit.Given as goal
 
 abbrev pub invariant-loop-k : goal.invariant-loop-k
 invariant-loop-k l = Left l.limit (span_fits l.n) l.count (spans_at l.limit l.words l.at) l.k
-
-abbrev pub decreases-loop-k : goal.decreases-loop-k
-decreases-loop-k l = l.k

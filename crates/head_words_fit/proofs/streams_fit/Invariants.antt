@@ -6,6 +6,3 @@ use Rattle.head_words_fit.proofs.streams_fit.Given as goal
 
 abbrev pub invariant-loop-k : goal.invariant-loop-k
 invariant-loop-k l = Left 8 (stream_fits l.n) (word_at l.words 407) (streams_at l.words 95) l.k
-
-abbrev pub decreases-loop-k : goal.decreases-loop-k
-decreases-loop-k l = l.k

@@ -1,23 +1,14 @@
--- `house_names::all_last` meets its contract.
-use mathlib.Core.Path.{sym, ◌∙◌}
-use borrow.Author.Tests.{not-true, not-false}
-use Rattle.laws.proofs.Every.{passing_none, passing_on, passing_off, passing_end}
+-- `house_names::all_last`: what the library's `all` says of the range.
 use Rattle.house_names.specs.Names.{is_last, all_last}
+use Rattle.laws.proofs.Ranged.{all_ranged}
+use Rattle.std.proofs.Common.{rules}
+use borrow.Author.Tests.{tests}
+use lib.ListN.{length}
+use native.Mathlib.Omega.{arith}
 use Rattle.house_names.proofs.all_last.Goals as goal
-
-pub loop-k-init : goal.loop-k-init
-loop-k-init c = passing_none _ _
-
-pub is_last-requires : goal.is_last-requires
-is_last-requires c = c.requires
-
-pub returns-then-not-is_last : goal.returns-then-not-is_last
-unfolding all_last
-returns-then-not-is_last c = passing_off _ _ _ c.loop-k.invariant c.loop-k-test.true (sym c.is_last.ensures ∙ not-true _ c.if-not-is_last.true-raw)
-
-pub loop-k-preserved : goal.loop-k-preserved
-loop-k-preserved c = passing_on _ _ _ c.loop-k.invariant c.loop-k-test.true (sym c.is_last.ensures ∙ not-false _ c.if-not-is_last.false-raw)
 
 pub returns : goal.returns
 unfolding all_last
-returns c = passing_end _ _ _ c.loop-k.invariant c.loop-k-test.false
+returns c =
+    let a = c.args in
+    all_ranged (is_last a.s.now a.questions.now (length a.index.now)) 0 (length a.index.now) (length a.index.now) (omega arith) _ _ _ c.all.ensures.ran (λ x y q k. search (rules, tests))

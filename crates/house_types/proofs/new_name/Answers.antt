@@ -1,15 +1,7 @@
 -- `house_types::new_name`: no name below k has the bytes of the i-th.
 use mathlib.Core.Path.{refl}
-use native.Mathlib.Omega.{arith}
-use Rattle.laws.proofs.Every.{passing_none}
 use Rattle.house_types.proofs.Laws.{name_on, name_twice, name_new}
 use Rattle.house_types.proofs.new_name.Goals as goal
-
-pub loop-k-init : goal.loop-k-init
-loop-k-init c = passing_none _ _
-
-pub type_at-requires : goal.type_at-requires
-type_at-requires c = (c.requires.0, omega (arith, c.requires.1, c.loop-k-test.true))
 
 pub returns-then-same_part : goal.returns-then-same_part
 returns-then-same_part c = name_twice _ _ c.requires.1 c.loop-k-test.true c.type_at.ensures c.type_at-name.ensures c.same_part.ensures c.if-same_part.true refl c.loop-k.invariant

@@ -1,11 +1,7 @@
 -- `house_types::new_name`: no name below k has the bytes of the i-th.
-use Prim.Native.Nat.{◌-◌}
 use Rattle.laws.proofs.Every.{Passing}
 use Rattle.house_types.proofs.Laws.{other}
 use Rattle.house_types.proofs.new_name.Given as goal
 
 abbrev pub invariant-loop-k : goal.invariant-loop-k
 invariant-loop-k l = Passing (other l.file l.words l.i) l.i l.k
-
-abbrev pub decreases-loop-k : goal.decreases-loop-k
-decreases-loop-k l = l.i - l.k

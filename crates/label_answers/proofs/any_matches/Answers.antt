@@ -1,13 +1,9 @@
 -- `label_answers::any_matches`: no pattern up to k matches.
 use mathlib.Core.Path.{sym, ◌∙◌}
 use native.Mathlib.Omega.{arith}
-use Rattle.laws.proofs.Every.{seeking_none, seeking_on, seeking_here, seeking_end}
-use Rattle.label_answers.specs.Answering.{pattern_matches}
+use Rattle.laws.proofs.Every.{seeking_here, seeking_end}
 use Rattle.label_answers.proofs.Laws.{in_table, row_each, row_matches_lem}
 use Rattle.label_answers.proofs.any_matches.Goals as goal
-
-pub loop-k-init : goal.loop-k-init
-loop-k-init c = seeking_none _ _
 
 pub overflow_add-first : goal.overflow_add-first
 overflow_add-first c =
@@ -21,12 +17,6 @@ pub returns-then-pattern_matches : goal.returns-then-pattern_matches
 returns-then-pattern_matches c =
     row_matches_lem _ _ _ _ _ c.question_first-first.ensures c.question_patterns-count.ensures
     (seeking_here _ _ _ c.loop-k.invariant c.loop-k-test.true (sym c.pattern_matches.ensures ∙ c.if-pattern_matches.true))
-
-pub loop-k-smaller : goal.loop-k-smaller
-loop-k-smaller c = omega arith
-
-pub loop-k-preserved : goal.loop-k-preserved
-loop-k-preserved c = seeking_on _ _ _ c.loop-k.invariant c.loop-k-test.true (sym c.pattern_matches.ensures ∙ c.if-pattern_matches.false)
 
 pub returns : goal.returns
 returns c = row_matches_lem _ _ _ _ _ c.question_first-first.ensures c.question_patterns-count.ensures (seeking_end _ _ _ c.loop-k.invariant c.loop-k-test.false)

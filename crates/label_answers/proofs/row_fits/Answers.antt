@@ -1,25 +1,15 @@
--- `label_answers::row_fits`: all patterns up to k fit.
-use mathlib.Core.Path.{sym, ◌∙◌}
-use native.Mathlib.Omega.{arith}
-use borrow.Author.Tests.{not-true, not-false}
-use Rattle.laws.proofs.Every.{passing_none, passing_on, passing_off, passing_end}
-use Rattle.label_answers.specs.Answering.{pattern_fits}
+-- `label_answers::row_fits`: what the library's `all` says of the range.
+use Prim.Native.Nat.{◌+◌}
 use Rattle.label_answers.proofs.Laws.{row_fits_lem}
+use Rattle.label_answers.specs.Answering.{pattern_fits}
+use Rattle.laws.proofs.Ranged.{all_ranged}
+use Rattle.std.proofs.Common.{rules}
+use borrow.Author.Tests.{tests}
+use native.Mathlib.Omega.{arith}
 use Rattle.label_answers.proofs.row_fits.Goals as goal
 
-pub loop-k-init : goal.loop-k-init
-loop-k-init c = passing_none _ _
-
-pub returns-then-not-pattern_fits : goal.returns-then-not-pattern_fits
-returns-then-not-pattern_fits c =
-    row_fits_lem _ _ _ _ c.question_first-first.ensures c.question_patterns-count.ensures
-    (passing_off _ _ _ c.loop-k.invariant c.loop-k-test.true (sym c.pattern_fits.ensures ∙ not-true _ c.if-not-pattern_fits.true-raw))
-
-pub loop-k-smaller : goal.loop-k-smaller
-loop-k-smaller c = omega arith
-
-pub loop-k-preserved : goal.loop-k-preserved
-loop-k-preserved c = passing_on _ _ _ c.loop-k.invariant c.loop-k-test.true (sym c.pattern_fits.ensures ∙ not-false _ c.if-not-pattern_fits.false-raw)
-
 pub returns : goal.returns
-returns c = row_fits_lem _ _ _ _ c.question_first-first.ensures c.question_patterns-count.ensures (passing_end _ _ _ c.loop-k.invariant c.loop-k-test.false)
+returns c =
+    let a = c.args in
+    row_fits_lem _ _ _ _ c.question_first-first.ensures c.question_patterns-count.ensures
+    (all_ranged (λ j. pattern_fits a.patterns.now a.«data».now (c.question_first-first.result + j)) 0 c.question_patterns-count.result c.question_patterns-count.result (omega arith) _ _ _ c.all.ensures.ran (λ x y q k. search (rules, tests)))

@@ -40,17 +40,17 @@ pub overflow_sub-i : goal.overflow_sub-i
 overflow_sub-i c = c.part_end-end.ensures.order
 
 pub overflow_add-i : goal.overflow_add-i
-overflow_add-i c = let h = behind_more _ _ _ _ _ _ c.loop-from.invariant c.part_end-end.ensures (omega (arith, c.part_end-end.ensures.inside, c.if-end-pattern.false)) c.find.ensures c.in-At.is in omega (arith, h.in_label)
+overflow_add-i c = let h = behind_more _ _ _ _ _ _ c.loop-from.invariant c.part_end-end.ensures (omega (arith, c.part_end-end.ensures.inside, c.if-end-pattern.false)) c.find.ensures c.in-Some.is in omega (arith, h.in_label)
 
 pub overflow_add-j : goal.overflow_add-j
-overflow_add-j c = let h = behind_more _ _ _ _ _ _ c.loop-from.invariant c.part_end-end.ensures (omega (arith, c.part_end-end.ensures.inside, c.if-end-pattern.false)) c.find.ensures c.in-At.is in omega (arith, h.in_a_pattern)
+overflow_add-j c = let h = behind_more _ _ _ _ _ _ c.loop-from.invariant c.part_end-end.ensures (omega (arith, c.part_end-end.ensures.inside, c.if-end-pattern.false)) c.find.ensures c.in-Some.is in omega (arith, h.in_a_pattern)
 
 pub loop-from-smaller : goal.loop-from-smaller
 loop-from-smaller c = omega (arith, c.part_end-end.ensures.inside, c.if-end-pattern.false, c.part_end-end.ensures.order)
 
 pub loop-from-preserved : goal.loop-from-preserved
-loop-from-preserved c = behind_more _ _ _ _ _ _ c.loop-from.invariant c.part_end-end.ensures (omega (arith, c.part_end-end.ensures.inside, c.if-end-pattern.false)) c.find.ensures c.in-At.is
+loop-from-preserved c = behind_more _ _ _ _ _ _ c.loop-from.invariant c.part_end-end.ensures (omega (arith, c.part_end-end.ensures.inside, c.if-end-pattern.false)) c.find.ensures c.in-Some.is
 
-pub returns-in-Nowhere : goal.returns-in-Nowhere
-returns-in-Nowhere c =
-    behind_nowhere _ _ _ _ _ _ c.loop-from.invariant c.part_end-end.ensures (omega (arith, c.part_end-end.ensures.inside, c.if-end-pattern.false)) c.find.ensures c.in-Nowhere.is
+pub returns-in-None : goal.returns-in-None
+returns-in-None c =
+    behind_nowhere _ _ _ _ _ _ c.loop-from.invariant c.part_end-end.ensures (omega (arith, c.part_end-end.ensures.inside, c.if-end-pattern.false)) c.find.ensures c.in-None.is

@@ -1,10 +1,6 @@
 -- `label_match::find`: the part stands at no place before i.
-use Prim.Native.Nat.{suc, ◌-◌}
 use Rattle.label_match.proofs.Laws.{Seeking}
 use Rattle.label_match.proofs.find.Given as goal
 
 abbrev pub invariant-loop-i : goal.invariant-loop-i
 invariant-loop-i l = Seeking l.part l.label l.at l.i
-
-abbrev pub decreases-loop-i : goal.decreases-loop-i
-decreases-loop-i l = suc l.last - l.i

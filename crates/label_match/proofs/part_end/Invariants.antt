@@ -1,11 +1,6 @@
 -- `label_match::part_end`: no star up to `end`.
-use Prim.Native.Nat.{◌-◌}
-use lib.ListN.{length}
 use Rattle.label_match.proofs.Laws.{Starless}
 use Rattle.label_match.proofs.part_end.Given as goal
 
 abbrev pub invariant-loop-end : goal.invariant-loop-end
 invariant-loop-end l = Starless l.pattern l.from l.end
-
-abbrev pub decreases-loop-end : goal.decreases-loop-end
-decreases-loop-end l = length l.pattern - l.end

@@ -18,10 +18,10 @@ pub loop-line-smaller : goal.loop-line-smaller
 loop-line-smaller c = omega (arith, next_in _ _ (sym c.in-Next.is ∙ c.next_line.ensures))
 
 pub loop-line-preserved : goal.loop-line-preserved
-loop-line-preserved c = judged_on _ _ _ _ c.loop-line.invariant (sym c.in-Next.is ∙ c.next_line.ensures) c.judge_line.ensures (sym c.in-Told.is) c.both-fits.ensures (omega (arith, next_in _ _ (sym c.in-Next.is ∙ c.next_line.ensures)))
+loop-line-preserved c = judged_on _ _ _ _ c.loop-line.invariant (sym c.in-Next.is ∙ c.next_line.ensures) c.judge_line.ensures (sym c.in-Ok.is) c.both-fits.ensures (omega (arith, next_in _ _ (sym c.in-Next.is ∙ c.next_line.ensures)))
 
-pub returns-in-Refused : goal.returns-in-Refused
-returns-in-Refused c = judged_refused _ _ _ _ c.loop-line.invariant (sym c.in-Next.is ∙ c.next_line.ensures) c.judge_line.ensures (sym c.in-Refused.is)
+pub returns-in-Err : goal.returns-in-Err
+returns-in-Err c = judged_refused _ _ _ _ c.loop-line.invariant (sym c.in-Next.is ∙ c.next_line.ensures) c.judge_line.ensures (sym c.in-Err.is)
 
 pub judge_line-requires-in-Last : goal.judge_line-requires-in-Last
 judge_line-requires-in-Last c = c.requires

@@ -2,13 +2,13 @@
 use mathlib.Core.Path.{◌≡◌}
 use Prim.Native.Nat.{◌-◌, ◌≤◌}
 use lib.ListN.{length}
+use Rattle.std.specs.Prelude.{None}
 use Rattle.tree_line.specs.Lines.{lines_at}
 use Rattle.link_find.specs.Find.{last_from, bears}
-use Rattle.link_search.specs.declared.Found.TheVariants.{Nothing}
 use Rattle.link_find.proofs.last_line.Given as goal
 
 abbrev pub invariant-loop-line : goal.invariant-loop-line
-invariant-loop-line l = (last_from (bears l.key) l.number l.last (lines_at l.s l.i).items ≡ last_from (bears l.key) 0 Nothing (lines_at l.s l.first).items) × (l.number ≤ l.i)
+invariant-loop-line l = (last_from (bears l.key) l.number l.last (lines_at l.s l.i).items ≡ last_from (bears l.key) 0 None (lines_at l.s l.first).items) × (l.number ≤ l.i)
 
 abbrev pub decreases-loop-line : goal.decreases-loop-line
 decreases-loop-line l = length l.s - l.i

@@ -6,9 +6,6 @@ use Rattle.link_rows.proofs.spread_leaves.Goals as goal
 pub loop-k-init : goal.loop-k-init
 loop-k-init c = spread_none _ _ _
 
-pub overflow_sub-k : goal.overflow_sub-k
-overflow_sub-k c = omega arith
-
 pub overflow_add-number : goal.overflow_add-number
 overflow_add-number c = omega arith
 

@@ -4,6 +4,3 @@ use Rattle.link_rows.proofs.spread_leaves.Given as goal
 
 abbrev pub invariant-loop-k : goal.invariant-loop-k
 invariant-loop-k l = Spreading l.initial.rows l.first l.leaves l.rows l.k
-
-abbrev pub decreases-loop-k : goal.decreases-loop-k
-decreases-loop-k l = l.k

@@ -1,26 +1,14 @@
--- `link_search::after_id`: the test holds below lo and fails from hi on.
-use mathlib.Core.Path.{sym, ap, ◌∙◌}
-use borrow.Author.Tests.{le-leb, lt-leb}
+-- `link_search::after_id`: where the library's search parts the lines.
 use lib.Dec.{leb}
-use Rattle.link_search.proofs.Halves.{between_none, between_up, between_down, between_done}
-use Rattle.laws.proofs.Signed.{back}
+use Rattle.std.proofs.Common.{ℕ, rules}
+use Rattle.std.proofs.lemmas.List.Sorted.{IsPartitionPoint-from_clause}
 use Rattle.link_order.specs.Keys.{id_key, id_at}
+use Rattle.link_search.proofs.Halves.{falls_parts, parted_at}
 use Rattle.link_search.proofs.after_id.Goals as goal
 
-pub loop-lo-init : goal.loop-lo-init
-loop-lo-init c =
-    let a = c.args in
-    between_none (λ e. leb (id_key (id_at a.work.now e)) a.key) a.index.now
-
-pub loop-lo-preserved-then-id_key-key : goal.loop-lo-preserved-then-id_key-key
-loop-lo-preserved-then-id_key-key c =
-    let a = c.args in
-    between_up (λ e. leb (id_key (id_at a.work.now e)) a.key) a.index.now c.requires _ _ c.loop-lo.invariant c.loop-lo-test.true (ap (λ k. leb k a.key) (sym (c.id_key.ensures ∙ ap id_key (back _ c.id_of.type_inv ∙ c.id_of.ensures))) ∙ le-leb _ _ c.if-id_key-key.true)
-
-pub loop-lo-preserved : goal.loop-lo-preserved
-loop-lo-preserved c =
-    let a = c.args in
-    between_down (λ e. leb (id_key (id_at a.work.now e)) a.key) a.index.now c.requires _ _ c.loop-lo.invariant c.loop-lo-test.true (ap (λ k. leb k a.key) (sym (c.id_key.ensures ∙ ap id_key (back _ c.id_of.type_inv ∙ c.id_of.ensures))) ∙ lt-leb _ _ c.if-id_key-key.false)
-
 pub returns : goal.returns
-returns c = between_done _ _ _ _ c.loop-lo.invariant c.loop-lo-test.false
+returns c =
+    let a = c.args in
+    let p = λ (e : ℕ). leb (id_key (id_at a.work.now e)) a.key in
+    let found = c.partition_point.ensures in
+    parted_at p a.index.now _ found.bound (IsPartitionPoint-from_clause p a.index.now _ found.partitioned (falls_parts p a.index.now c.requires) (λ x b f' k. search rules))

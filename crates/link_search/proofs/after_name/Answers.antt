@@ -1,24 +1,14 @@
--- `link_search::after_name`: the test holds below lo and fails from hi on.
-use mathlib.Core.Path.{sym, ap, ◌∙◌}
+-- `link_search::after_name`: where the library's search parts the questions.
 use lib.Dec.{leb}
-use Rattle.link_search.proofs.Halves.{between_none, between_up, between_down, between_done}
+use Rattle.std.proofs.Common.{ℕ, rules}
+use Rattle.std.proofs.lemmas.List.Sorted.{IsPartitionPoint-from_clause}
 use Rattle.link_order.specs.Keys.{name_key, name_at}
+use Rattle.link_search.proofs.Halves.{falls_parts, parted_at}
 use Rattle.link_search.proofs.after_name.Goals as goal
 
-pub loop-lo-init : goal.loop-lo-init
-loop-lo-init c =
-    let a = c.args in
-    between_none (λ e. leb (name_key (name_at a.s.now a.questions.now e)) (name_key a.name.now)) a.index.now
-
-pub loop-lo-preserved-then-not_above : goal.loop-lo-preserved-then-not_above
-loop-lo-preserved-then-not_above c =
-    let a = c.args in
-    between_up (λ e. leb (name_key (name_at a.s.now a.questions.now e)) (name_key a.name.now)) a.index.now c.requires _ _ c.loop-lo.invariant c.loop-lo-test.true (sym (sym c.if-not_above.true ∙ c.not_above.ensures ∙ ap (λ n. leb (name_key n) (name_key a.name.now)) c.name_of.ensures))
-
-pub loop-lo-preserved : goal.loop-lo-preserved
-loop-lo-preserved c =
-    let a = c.args in
-    between_down (λ e. leb (name_key (name_at a.s.now a.questions.now e)) (name_key a.name.now)) a.index.now c.requires _ _ c.loop-lo.invariant c.loop-lo-test.true (sym (sym c.if-not_above.false ∙ c.not_above.ensures ∙ ap (λ n. leb (name_key n) (name_key a.name.now)) c.name_of.ensures))
-
 pub returns : goal.returns
-returns c = between_done _ _ _ _ c.loop-lo.invariant c.loop-lo-test.false
+returns c =
+    let a = c.args in
+    let p = λ (e : ℕ). leb (name_key (name_at a.s.now a.questions.now e)) (name_key a.name.now) in
+    let found = c.partition_point.ensures in
+    parted_at p a.index.now _ found.bound (IsPartitionPoint-from_clause p a.index.now _ found.partitioned (falls_parts p a.index.now c.requires) (λ x b f' k. search rules))

@@ -1,23 +1,13 @@
--- `link_search::before_leaf`: the test holds below lo and fails from hi on.
-use borrow.Author.Tests.{lt-ltb, le-ltb}
+-- `link_search::before_leaf`: where the library's search parts the leaves.
 use lib.Dec.{ltb}
-use Rattle.link_search.proofs.Halves.{between_none, between_up, between_down, between_done}
+use Rattle.std.proofs.Common.{ℕ, rules}
+use Rattle.std.proofs.lemmas.List.Sorted.{IsPartitionPoint-from_clause}
+use Rattle.link_search.proofs.Halves.{falls_parts, parted_at}
 use Rattle.link_search.proofs.before_leaf.Goals as goal
 
-pub loop-lo-init : goal.loop-lo-init
-loop-lo-init c =
-    let a = c.args in
-    between_none (λ e. ltb e a.number) a.leaves.now
-
-pub loop-lo-preserved-then-leaves-mid : goal.loop-lo-preserved-then-leaves-mid
-loop-lo-preserved-then-leaves-mid c =
-    let a = c.args in
-    between_up (λ e. ltb e a.number) a.leaves.now c.requires _ _ c.loop-lo.invariant c.loop-lo-test.true (lt-ltb _ _ c.if-leaves-mid.true)
-
-pub loop-lo-preserved : goal.loop-lo-preserved
-loop-lo-preserved c =
-    let a = c.args in
-    between_down (λ e. ltb e a.number) a.leaves.now c.requires _ _ c.loop-lo.invariant c.loop-lo-test.true (le-ltb _ _ c.if-leaves-mid.false)
-
 pub returns : goal.returns
-returns c = between_done _ _ _ _ c.loop-lo.invariant c.loop-lo-test.false
+returns c =
+    let a = c.args in
+    let p = λ (e : ℕ). ltb e a.number in
+    let found = c.partition_point.ensures in
+    parted_at p a.leaves.now _ found.bound (IsPartitionPoint-from_clause p a.leaves.now _ found.partitioned (falls_parts p a.leaves.now c.requires) (λ x b f' k. search rules))

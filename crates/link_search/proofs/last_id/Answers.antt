@@ -3,15 +3,15 @@ use mathlib.Core.Path.{◌≡◌, sym, ap, ◌∙◌}
 use Prim.Native.Nat.{ℕ}
 use native.Mathlib.Omega.{arith}
 use lib.Dec.{eqb}
+use Rattle.std.specs.declared.option.Option.{Option}
 use Rattle.laws.proofs.Signed.{back}
 use Rattle.link_order.specs.Keys.{id_key, id_at}
 use Rattle.link_search.specs.Found.{last_below}
 use Rattle.link_search.proofs.Last.{index_falls, index_empty, index_found, index_other}
-use Rattle.link_search.specs.declared.Found.{Found}
 use Rattle.link_search.proofs.last_id.Goals as goal
 
 -- the answer for the key of an id
-to : (f : ℕ → ℕ) (n : ℕ) {r : Found} {k : ℕ} {x : ℕ} → last_below (λ e. eqb (f e) k) n ≡ r → k ≡ x → r ≡ last_below (λ e. eqb (f e) x) n
+to : (f : ℕ → ℕ) (n : ℕ) {r : Option ℕ} {k : ℕ} {x : ℕ} → last_below (λ e. eqb (f e) k) n ≡ r → k ≡ x → r ≡ last_below (λ e. eqb (f e) x) n
 to f n e q = sym e ∙ ap (λ (y : ℕ). last_below (λ e. eqb (f e) y) n) q
 
 pub after_id-after-requires : goal.after_id-after-requires

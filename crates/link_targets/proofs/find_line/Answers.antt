@@ -4,15 +4,15 @@ use Prim.Native.Nat.{ℕ}
 use borrow.Author.Tests.{not-true, not-false}
 use lib.Dec.{eqb}
 use lib.Seq.{length-take-le}
+use Rattle.std.specs.declared.option.Option.{Option}
 use Rattle.laws.proofs.Signed.{back}
 use Rattle.link_order.specs.Keys.{id_key, id_at}
 use Rattle.link_search.specs.Found.{last_below}
-use Rattle.link_search.specs.declared.Found.{Found}
 use Rattle.link_targets.proofs.Find.{ready_index, order_above, order_found, order_past}
 use Rattle.link_targets.proofs.find_line.Goals as goal
 
 -- the answer for the key of the id
-to : (f : ℕ → ℕ) (n : ℕ) {r : Found} {k x : ℕ} → last_below (λ e. eqb (f e) k) n ≡ r → k ≡ x → r ≡ last_below (λ e. eqb (f e) x) n
+to : (f : ℕ → ℕ) (n : ℕ) {r : Option ℕ} {k x : ℕ} → last_below (λ e. eqb (f e) k) n ≡ r → k ≡ x → r ≡ last_below (λ e. eqb (f e) x) n
 to f n e q = sym e ∙ ap (λ (y : ℕ). last_below (λ e. eqb (f e) y) n) q
 
 pub slice_bounds-last_id-end : goal.slice_bounds-last_id-end

@@ -3,11 +3,8 @@ use mathlib.Core.Path.{sym, ap, ◌∙◌}
 use native.Mathlib.Omega.{arith}
 use Rattle.laws.proofs.Signed.{back}
 use Rattle.link_order.specs.Keys.{id_key}
-use Rattle.link_targets.proofs.Refs.{order_on, order_off, order_end, order_start}
+use Rattle.link_targets.proofs.Refs.{order_on, order_off, order_end}
 use Rattle.link_targets.proofs.in_order.Goals as goal
-
-pub loop-line-init : goal.loop-line-init
-loop-line-init c = (omega arith, order_start _ _)
 
 pub returns-then-key-gt9223372036854775808 : goal.returns-then-key-gt9223372036854775808
 returns-then-key-gt9223372036854775808 c = let k = (c.id_key-key.ensures ∙ ap id_key (back _ c.id_of.type_inv ∙ c.id_of.ensures)) in sym (sym c.loop-line.invariant.1 ∙ order_off _ _ _ c.loop-line-test.true (λ q. omega (arith, k, c.if-key-gt9223372036854775808.true)))

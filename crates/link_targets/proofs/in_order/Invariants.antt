@@ -6,6 +6,3 @@ use Rattle.link_targets.proofs.in_order.Given as goal
 
 abbrev pub invariant-loop-line : goal.invariant-loop-line
 invariant-loop-line l = (l.line ≤ l.n) × (order_from l.work l.line (l.n - l.line) ≡ order_from l.work 0 l.n)
-
-abbrev pub decreases-loop-line : goal.decreases-loop-line
-decreases-loop-line l = l.n - l.line

@@ -1,10 +1,6 @@
 -- `link_targets::number_lines`: what is left to number, stored, gives the rows with all of them.
-use Prim.Native.Nat.{◌-◌}
 use Rattle.link_targets.proofs.Refs.{Numbering}
 use Rattle.link_targets.proofs.number_lines.Given as goal
 
 abbrev pub invariant-loop-line : goal.invariant-loop-line
 invariant-loop-line l = Numbering l.n l.initial.rows l.rows l.line
-
-abbrev pub decreases-loop-line : goal.decreases-loop-line
-decreases-loop-line l = l.n - l.line

@@ -33,20 +33,20 @@ first_leaf-requires c =
 pub overflow_add-result : goal.overflow_add-result
 overflow_add-result c =
     let a = c.args in
-    omega (arith, first_inside _ _ _ _ (sym c.first_leaf.ensures ∙ c.in-At.is), length-take (4 * a.n + a.leaves - 4 * a.n) (drop (4 * a.n) a.rows.now), c.requires.1.room)
+    omega (arith, first_inside _ _ _ _ (sym c.first_leaf.ensures ∙ c.in_ok-leaf.was), length-take (4 * a.n + a.leaves - 4 * a.n) (drop (4 * a.n) a.rows.now), c.requires.1.room)
 
-pub returns-in-At : goal.returns-in-At
-returns-in-At c =
+pub returns : goal.returns
+returns c =
     let a = c.args in
     let v = get_or a.work.now (a.kind + 1) (pos 0) in
     target_leaf _ _ _ (is_pdf (get_or a.work.now a.kind (pos 0)) v (λ q. c.if-natural-eq0.false ((c.natural.ensures ∙ ap nat_of (back (get_or a.work.now a.kind (pos 0)) c.k-1.given)) ∙ q)))
     (c.first_leaf.ensures ∙ ap (λ y. first_from (λ e. eqb e y) 0 (take (4 * a.n + a.leaves - 4 * a.n) (drop (4 * a.n) a.rows.now))) (c.natural-2.ensures ∙ ap nat_of (back v c.v-1.given)) ∙ ap (first_from _ 0) (let e : 4 * a.n + a.leaves - 4 * a.n ≡ a.leaves = omega arith in ap (λ (m : ℕ). take m (drop (4 * a.n) a.rows.now)) e))
-    (ap (moved _) (sym c.in-At.is))
+    (ap (moved _) (sym c.in_ok-leaf.was))
 
-pub returns-in-Nothing : goal.returns-in-Nothing
-returns-in-Nothing c =
+pub returns-in_err-leaf : goal.returns-in_err-leaf
+returns-in_err-leaf c =
     let a = c.args in
     let v = get_or a.work.now (a.kind + 1) (pos 0) in
     target_leaf _ _ _ (is_pdf (get_or a.work.now a.kind (pos 0)) v (λ q. c.if-natural-eq0.false ((c.natural.ensures ∙ ap nat_of (back (get_or a.work.now a.kind (pos 0)) c.k-1.given)) ∙ q)))
     (c.first_leaf.ensures ∙ ap (λ y. first_from (λ e. eqb e y) 0 (take (4 * a.n + a.leaves - 4 * a.n) (drop (4 * a.n) a.rows.now))) (c.natural-2.ensures ∙ ap nat_of (back v c.v-1.given)) ∙ ap (first_from _ 0) (let e : 4 * a.n + a.leaves - 4 * a.n ≡ a.leaves = omega arith in ap (λ (m : ℕ). take m (drop (4 * a.n) a.rows.now)) e))
-    (ap (moved _) (sym c.in-Nothing.is))
+    (c.from_residual.ensures ∙ ap (moved _) (sym c.in_err-leaf.was))

@@ -6,8 +6,8 @@ use Rattle.link_window.proofs.read_window.Goals as goal
 pub look_up-requires : goal.look_up-requires
 look_up-requires c = (taken_few c.fill-filled.ensures.taken c.taken.ensures, omega (arith, taken_few c.fill-filled.ensures.taken c.taken.ensures, c.fill-filled.ensures.long))
 
-pub returns-in-At : goal.returns-in-At
-returns-in-At c = window_missing _ _ _ _ c.fill-filled.ensures.taken c.taken.ensures c.look_up.ensures c.in-At.is
+pub returns-in-Some : goal.returns-in-Some
+returns-in-Some c = window_missing _ _ _ _ c.fill-filled.ensures.taken c.taken.ensures c.look_up.ensures c.in-Some.is
 
-pub returns-in-Nothing : goal.returns-in-Nothing
-returns-in-Nothing c = window_clear _ _ _ _ c.fill-filled.ensures.taken c.taken.ensures c.look_up.ensures c.in-Nothing.is c.behind.ensures
+pub returns-in-None : goal.returns-in-None
+returns-in-None c = window_clear _ _ _ _ c.fill-filled.ensures.taken c.taken.ensures c.look_up.ensures c.in-None.is c.behind.ensures

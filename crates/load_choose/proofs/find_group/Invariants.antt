@@ -8,6 +8,3 @@ use Rattle.load_choose.proofs.find_group.Given as goal
 
 abbrev pub invariant-loop-k : goal.invariant-loop-k
 invariant-loop-k l = Down (λ j. same (bytes_of l.file (span_at l.words (l.at + l.step * j))) (bytes_of l.file l.x)) l.n l.k
-
-abbrev pub decreases-loop-k : goal.decreases-loop-k
-decreases-loop-k l = l.k

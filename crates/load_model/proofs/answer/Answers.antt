@@ -3,8 +3,8 @@ use mathlib.Core.Path.{sym, ap}
 use Rattle.load_model.specs.Load.{answer_for}
 use Rattle.load_model.proofs.answer.Goals as goal
 
-pub returns-in-Done : goal.returns-in-Done
-returns-in-Done c = sym (ap (answer_for c.args.p) c.in-Done.is)
+pub returns-in-Ok : goal.returns-in-Ok
+returns-in-Ok c = sym (ap (answer_for c.args.p) c.in-Ok.is)
 
-pub returns-in-Refused : goal.returns-in-Refused
-returns-in-Refused c = sym (ap (answer_for c.args.p) c.in-Refused.is)
+pub returns-in-Err : goal.returns-in-Err
+returns-in-Err c = sym (ap (answer_for c.args.p) c.in-Err.is)

@@ -1,11 +1,15 @@
 -- `load_plan::needs`: the model that is chosen, in the record's data.
-use mathlib.Core.Path.{sym, ◌∙◌}
-use Rattle.head_words.specs.Words.{header_at}
-use Rattle.load_plan.proofs.Laws.{needs_refused, needs_model}
+use mathlib.Core.Path.{refl, sym}
+use Rattle.std.proofs.lemmas.Result.{err_from_is_err_and}
+use Rattle.load_plan.specs.Plans.{planned}
 use Rattle.load_plan.proofs.needs.Goals as goal
 
-pub returns-in-Refused : goal.returns-in-Refused
-returns-in-Refused c = let a = c.args in needs_refused a.file.now (header_at a.words.now) a.which (sym c.in-Refused.is ∙ c.choose.ensures)
+pub returns-in_err-chosen : goal.returns-in_err-chosen
+unfolding planned
+returns-in_err-chosen c =
+    let p = err_from_is_err_and c.from_residual.result c.from_residual.ensures.1 in
+    rw (p.1, p.2, sym c.choose.ensures, c.in_err-chosen.was) refl
 
-pub returns-in-Model : goal.returns-in-Model
-returns-in-Model c = let a = c.args in needs_model a.file.now (header_at a.words.now) a.which (sym c.in-Model.is ∙ c.choose.ensures) c.data_of.ensures c.plan_model.ensures
+pub returns : goal.returns
+unfolding planned
+returns c = rw (sym c.choose.ensures, c.in_ok-chosen.was, sym c.data_of.ensures) c.plan_model.ensures

@@ -1,13 +1,16 @@
 -- `load_plan::plan_block`: the block in its range, or what is refused.
-use mathlib.Core.Path.{sym, ◌∙◌}
-use Rattle.load_plan.proofs.Laws.{block_refused, block_outside, block_inside}
+use mathlib.Core.Path.{refl, sym}
+use Rattle.std.proofs.lemmas.Result.{err_from_is_err_and}
+use Rattle.load_range.proofs.Asked.{there, missing}
 use Rattle.load_plan.proofs.plan_block.Goals as goal
 
-pub returns-in-Refused : goal.returns-in-Refused
-returns-in-Refused c = let a = c.args in block_refused a.d.now a.at a.end a.pdf_from a.pdf_to a.width c.in-Refused.is
+pub returns-in_err-block : goal.returns-in_err-block
+returns-in_err-block c =
+    let p = err_from_is_err_and c.from_residual.result c.from_residual.ensures.1 in
+    let o = missing _ _ c.ok_or.ensures.value c.in_err-block.was in
+    rw (p.1, p.2, sym c.within.ensures, o.0, o.1) refl
 
-pub returns-in-Outside : goal.returns-in-Outside
-returns-in-Outside c = let a = c.args in block_outside a.d.now a.at a.end a.pdf_from a.pdf_to a.width _ _ _ _ _ _ c.in-Read.is (sym c.in-Outside.is ∙ c.within.ensures)
-
-pub returns-in-Inside : goal.returns-in-Inside
-returns-in-Inside c = let a = c.args in block_inside a.d.now a.at a.end a.pdf_from a.pdf_to a.width _ _ _ _ _ _ c.in-Read.is (sym c.in-Inside.is ∙ c.within.ensures) c.up_to.ensures c.plan_entries.ensures
+pub returns : goal.returns
+returns c =
+    let o = there _ _ c.ok_or.ensures.value c.in_ok-block.was in
+    rw (sym c.within.ensures, o, sym c.up_to.ensures, sym c.plan_for-plan.ensures) c.plan_entries.ensures

@@ -1,10 +1,26 @@
 -- `load_plan::plan_model`: the text in its range, and its block.
-use mathlib.Core.Path.{sym, ◌∙◌}
-use Rattle.load_plan.proofs.Laws.{plan_outside, plan_inside}
+use mathlib.Core.Path.{refl, sym}
+use Rattle.std.proofs.lemmas.Result.{err_from_is_err_and}
+use Rattle.load_range.proofs.Asked.{there, missing}
+use Rattle.load_plan.specs.Plans.{plan_of}
 use Rattle.load_plan.proofs.plan_model.Goals as goal
 
-pub returns-in-Outside : goal.returns-in-Outside
-returns-in-Outside c = let a = c.args in plan_outside a.d.now a.tree_from a.tree_to a.pdf_from a.pdf_to a.width (sym c.in-Outside.is ∙ c.within.ensures)
+pub returns-in_err-range : goal.returns-in_err-range
+unfolding plan_of
+returns-in_err-range c =
+    let p = err_from_is_err_and c.from_residual.result c.from_residual.ensures.1 in
+    let o = missing _ _ c.ok_or.ensures.value c.in_err-range.was in
+    rw (p.1, p.2, sym c.within.ensures, o.0, o.1) refl
 
-pub returns-in-Inside : goal.returns-in-Inside
-returns-in-Inside c = let a = c.args in plan_inside a.d.now a.tree_from a.tree_to a.pdf_from a.pdf_to a.width (sym c.in-Inside.is ∙ c.within.ensures) c.up_to.ensures c.read_text.ensures c.plan_block.ensures
+pub returns-in_err-text : goal.returns-in_err-text
+unfolding plan_of
+returns-in_err-text c =
+    let p = err_from_is_err_and c.from_residual-in_err-text.result c.from_residual-in_err-text.ensures.1 in
+    let o = there _ _ c.ok_or.ensures.value c.in_ok-range.was in
+    rw (p.1, p.2, sym c.within.ensures, o, sym c.up_to.ensures, sym c.read_text.ensures, c.in_err-text.was) refl
+
+pub returns : goal.returns
+unfolding plan_of
+returns c =
+    let o = there _ _ c.ok_or.ensures.value c.in_ok-range.was in
+    rw (sym c.within.ensures, o, sym c.up_to.ensures, sym c.read_text.ensures, c.in_ok-text.was) c.plan_block.ensures

@@ -6,8 +6,8 @@ use Rattle.load_questions.specs.Words.{Done}
 use Rattle.load_questions.proofs.Patterns.{Listing}
 use Rattle.load_questions.proofs.fill_patterns_from.Given as goal
 
-abbrev pub invariant-loop-first : goal.invariant-loop-first
-invariant-loop-first l = (Listing l.s l.at l.initial.patterns l.patterns l.i l.word) × Done (questions_from_here l.s l.i)
+abbrev pub invariant-loop-head : goal.invariant-loop-head
+invariant-loop-head l = (Listing l.s l.at l.initial.patterns l.patterns l.i l.word) × Done (questions_from_here l.s l.i)
 
-abbrev pub decreases-loop-first : goal.decreases-loop-first
-decreases-loop-first l = length l.s - l.i
+abbrev pub decreases-loop-head : goal.decreases-loop-head
+decreases-loop-head l = length l.s - l.i

@@ -1,5 +1,6 @@
 -- `load_shared::load`: refused before the tables are looked at, or as its plan is loaded.
 use mathlib.Core.Path.{sym, ◌∙◌, subst}
+use Rattle.std.proofs.lemmas.Result.{err_from_is_err_and}
 use Rattle.head_words.specs.Words.{header_at}
 use Rattle.load_plan.specs.Plans.{Sound}
 use Rattle.load_plan.proofs.Laws.{needs_sound}
@@ -11,14 +12,16 @@ use Rattle.load_shared.proofs.load.Goals as goal
 pub load_planned-requires : goal.load_planned-requires
 load_planned-requires c =
     let a = c.args in
-    subst (λ d. Sound d c.in-Model.p) (sym c.data_of.ensures) (needs_sound a.file.now (header_at a.words.now) a.which _ (sym c.in-Model.is ∙ c.needs.ensures))
+    subst (λ d. Sound d c.in_ok-p.p) (sym c.data_of.ensures) (needs_sound a.file.now (header_at a.words.now) a.which _ (sym c.in_ok-p.was ∙ c.needs.ensures))
 
-pub returns-in-Refused : goal.returns-in-Refused
-returns-in-Refused c =
+pub returns-in_err-p : goal.returns-in_err-p
+returns-in_err-p c =
     let a = c.args in
-    load_refused (side_of a.top) a.file.now (header_at a.words.now) a.which (held_of a.other) (lent a.questions.now a.patterns.now a.trees.now a.records.now a.values.now a.work.now) (sym c.in-Refused.is ∙ c.needs.ensures)
+    let e = err_from_is_err_and c.from_residual.result c.from_residual.ensures.1 in
+    rw (e.1, e.2)
+    (load_refused (side_of a.top) a.file.now (header_at a.words.now) a.which (held_of a.other) (lent a.questions.now a.patterns.now a.trees.now a.records.now a.values.now a.work.now) (sym c.in_err-p.was ∙ c.needs.ensures))
 
-pub returns-in-Model : goal.returns-in-Model
-returns-in-Model c =
+pub returns : goal.returns
+returns c =
     let a = c.args in
-    load_model (side_of a.top) a.file.now (header_at a.words.now) a.which (held_of a.other) (lent a.questions.now a.patterns.now a.trees.now a.records.now a.values.now a.work.now) _ (sym c.in-Model.is ∙ c.needs.ensures) c.data_of.ensures c.load_planned.ensures
+    load_model (side_of a.top) a.file.now (header_at a.words.now) a.which (held_of a.other) (lent a.questions.now a.patterns.now a.trees.now a.records.now a.values.now a.work.now) _ (sym c.in_ok-p.was ∙ c.needs.ensures) c.data_of.ensures c.load_planned.ensures

@@ -3,5 +3,5 @@ use mathlib.Core.Path.{sym, ap}
 use Rattle.load_trees.specs.Trees.{ended_at}
 use Rattle.load_trees.proofs.ended.Goals as goal
 
-pub returns-in-Refused : goal.returns-in-Refused
-returns-in-Refused c = sym (ap (ended_at c.args.row) c.in-Refused.is)
+pub returns-in-Err : goal.returns-in-Err
+returns-in-Err c = sym (ap (ended_at c.args.row) c.in-Err.is)

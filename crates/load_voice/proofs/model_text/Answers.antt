@@ -1,11 +1,15 @@
 -- `load_voice::model_text` meets its contract.
-use Rattle.load_voice.proofs.Laws.{model_refused, model_in}
-use Rattle.head_words.specs.Words.{header_at}
-use mathlib.Core.Path.{sym, ◌∙◌}
+use mathlib.Core.Path.{refl, sym}
+use Rattle.std.proofs.lemmas.Result.{err_from_is_err_and}
+use Rattle.load_voice.specs.Voice.{voice_text}
 use Rattle.load_voice.proofs.model_text.Goals as goal
 
-pub returns-in-Refused : goal.returns-in-Refused
-returns-in-Refused c = let a = c.args in model_refused a.file.now (header_at a.words.now) a.which (sym c.in-Refused.is ∙ c.choose_text.ensures)
+pub returns-in_err-chosen : goal.returns-in_err-chosen
+unfolding voice_text
+returns-in_err-chosen c =
+    let p = err_from_is_err_and c.from_residual.result c.from_residual.ensures.1 in
+    rw (p.1, p.2, sym c.choose_text.ensures, c.in_err-chosen.was) refl
 
-pub returns-in-Model : goal.returns-in-Model
-returns-in-Model c = let a = c.args in model_in a.file.now (header_at a.words.now) a.which (sym c.in-Model.is ∙ c.choose_text.ensures) c.data_of.ensures c.text_in.ensures
+pub returns : goal.returns
+unfolding voice_text
+returns c = rw (sym c.choose_text.ensures, c.in_ok-chosen.was, sym c.data_of.ensures) c.text_in.ensures

@@ -9,21 +9,21 @@ use native.Mathlib.Decide.{ℕ_discrete}
 use borrow.Author.Tests.{eq-eqb, ne_eqb}
 use lib.Dec.{eqb}
 use lib.ListN.{length}
+use Rattle.std.specs.declared.option.Option.{Option}
+use Rattle.std.specs.Prelude.{Some, None}
 use Rattle.pdf_blocks.specs.Values.{block_at}
-use Rattle.pdf_blocks.specs.declared.Block.{Block}
-use Rattle.pdf_blocks.specs.declared.Block.TheVariants.{Fits, Wrong}
 use Rattle.pdf_blocks.proofs.Counts.{total_none, block_short, block_other, block_fits, flat-fits, flat_left, flat-counts, not_whole, not_many, just_fits}
 use Rattle.pdf_blocks.proofs.check_block.Goals as goal
 
 -- no bytes at all
-none : (t w : ℕ) (s : List ℕ) (i : ℕ) → length s < i → {r : Block} → r ≡ cond (eqb t 0) (Fits 0) Wrong → r ≡ block_at t w s i
+none : (t w : ℕ) (s : List ℕ) (i : ℕ) → length s < i → {r : Option ℕ} → r ≡ cond (eqb t 0) (Some 0) None → r ≡ block_at t w s i
 none t w s i h e = e ∙ go (ℕ_discrete t 0)
   where
-    go : Dec (t ≡ 0) → cond (eqb t 0) (Fits 0) Wrong ≡ block_at t w s i
+    go : Dec (t ≡ 0) → cond (eqb t 0) (Some 0) None ≡ block_at t w s i
     go (yes z) =
         let n = total_none s i t (omega arith) in
         let m = ap (λ (x : ℕ). x * w) n in
-        rw (eq-eqb t 0 z) (ap Fits (sym n) ∙ block_fits t w s i (omega arith) (omega (arith, m, zero-mul w)) (λ x. n))
+        rw (eq-eqb t 0 z) (ap Some (sym n) ∙ block_fits t w s i (omega arith) (omega (arith, m, zero-mul w)) (λ x. n))
     go (no d) = rw (ne_eqb t 0 d) (block_short t w s i (omega (arith, d)))
 
 pub returns-then-s-at : goal.returns-then-s-at

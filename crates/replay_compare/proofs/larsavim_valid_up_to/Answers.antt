@@ -4,8 +4,8 @@ use lib.ListN.{length}
 use Rattle.replay_compare.specs.Valid.{valid_up_to}
 use Rattle.replay_compare.proofs.larsavim_valid_up_to.Goals as goal
 
-pub returns-in-Valid : goal.returns-in-Valid
-returns-in-Valid c = ap (valid_up_to (length c.args.s.now)) (sym c.in-Valid.is ∙ c.check.ensures)
+pub returns-in-Ok : goal.returns-in-Ok
+returns-in-Ok c = ap (valid_up_to (length c.args.s.now)) (sym c.in-Ok.is ∙ c.check.ensures)
 
-pub returns-in-Bad : goal.returns-in-Bad
-returns-in-Bad c = ap (valid_up_to (length c.args.s.now)) (sym c.in-Bad.is ∙ c.check.ensures)
+pub returns-in-Err : goal.returns-in-Err
+returns-in-Err c = ap (valid_up_to (length c.args.s.now)) (sym c.in-Err.is ∙ c.check.ensures)

@@ -5,31 +5,30 @@ use Prim.Native.Nat.{ℕ, ◌^◌}
 use borrow.Author.Tests.{le-leb, lt-leb}
 use lib.Dec.{leb}
 use lib.IntN.{ℤ, pos, neg_ℤ}
+use Rattle.text_numbers.specs.declared.NumberError.{NumberError}
+use Rattle.std.specs.declared.result.Result.{Result}
+use Rattle.text_parts.specs.declared.Read.{Read}
+use Rattle.text_parts.specs.Parts.{read_to}
+use Rattle.std.specs.declared.option.Option.{Option}
+use Rattle.std.specs.Prelude.{Some, None, Ok}
 use Rattle.laws.proofs.Signed.{back}
 use Rattle.text_numbers.specs.Answers.{signed_of}
-use Rattle.text_numbers.specs.declared.Signed.{Signed}
-use Rattle.text_numbers.specs.declared.Signed.TheVariants.{Number, NoNumber}
-use Rattle.text_numbers.specs.declared.Unsigned.{Unsigned}
-use Rattle.text_numbers.specs.declared.Unsigned.TheVariants as unsigned
 use Rattle.text_numbers.proofs.negative.Goals as goal
 
-abbrev answer : Unsigned → Signed
+abbrev answer : Result (Read ℕ) NumberError → Option (Read ℤ)
 answer = signed_of (λ n. leb n (2 ^ 63)) (λ n. neg_ℤ (pos n))
 
-fits : {u : Unsigned} (n e : ℕ) {x : ℤ} → u ≡ unsigned.Number n e → leb n (2 ^ 63) ≡ true → x ≡ neg_ℤ (pos n) → Number x e ≡ answer u
-fits n e p q r = ap₂ Number r refl ∙ sym (ap answer p ∙ ap (λ (b : Bool). cond b (Number (neg_ℤ (pos n)) e) NoNumber) q)
+fits : {u : Result (Read ℕ) NumberError} (n e : ℕ) {x : ℤ} → u ≡ Ok (read_to n e) → leb n (2 ^ 63) ≡ true → x ≡ neg_ℤ (pos n) → Some (read_to x e) ≡ answer u
+fits n e p q r = ap₂ (λ v k. Some (read_to v k)) r refl ∙ sym (ap answer p ∙ ap (λ (b : Bool). cond b (Some (read_to (neg_ℤ (pos n)) e)) None) q)
 
-large : {u : Unsigned} (n e : ℕ) → u ≡ unsigned.Number n e → leb n (2 ^ 63) ≡ false → NoNumber ≡ answer u
-large n e p q = sym (ap answer p ∙ ap (λ (b : Bool). cond b (Number (neg_ℤ (pos n)) e) NoNumber) q)
+large : {u : Result (Read ℕ) NumberError} (n e : ℕ) → u ≡ Ok (read_to n e) → leb n (2 ^ 63) ≡ false → None ≡ answer u
+large n e p q = sym (ap answer p ∙ ap (λ (b : Bool). cond b (Some (read_to (neg_ℤ (pos n)) e)) None) q)
 
 pub returns-then-value-le9223372036854775808 : goal.returns-then-value-le9223372036854775808
-returns-then-value-le9223372036854775808 c = fits _ _ c.in-Number.is (le-leb _ _ c.if-value-le9223372036854775808.true) (back _ c.minus.type_inv ∙ c.minus.ensures)
+returns-then-value-le9223372036854775808 c = fits _ _ c.in-Ok.is (le-leb _ _ c.if-value-le9223372036854775808.true) (back _ c.minus.type_inv ∙ c.minus.ensures)
 
 pub returns-else-value-le9223372036854775808 : goal.returns-else-value-le9223372036854775808
-returns-else-value-le9223372036854775808 c = large _ _ c.in-Number.is (lt-leb _ _ c.if-value-le9223372036854775808.false)
+returns-else-value-le9223372036854775808 c = large _ _ c.in-Ok.is (lt-leb _ _ c.if-value-le9223372036854775808.false)
 
-pub returns-in-TooLarge : goal.returns-in-TooLarge
-returns-in-TooLarge c = ap answer (sym c.in-TooLarge.is)
-
-pub returns-in-NoDigit : goal.returns-in-NoDigit
-returns-in-NoDigit c = ap answer (sym c.in-NoDigit.is)
+pub returns-in-Err : goal.returns-in-Err
+returns-in-Err c = ap answer (sym c.in-Err.is)

@@ -4,11 +4,11 @@ use mathlib.Core.List.{List}
 use Prim.Native.Nat.{ℕ, ◌+◌}
 use native.Mathlib.Omega.{arith}
 use borrow.Author.Tests.{eq-eqb, ne_eqb}
+use Rattle.std.specs.Prelude.{None}
 use Rattle.written.specs.Bytes.{byte_at, in_pattern}
 use Rattle.laws.specs.Runs.{stop}
 use Rattle.laws.proofs.Runs.{read_in}
 use Rattle.text_numbers.specs.Answers.{pattern_of, pattern_at}
-use Rattle.text_numbers.specs.declared.Pattern.TheVariants.{NoPattern}
 use Rattle.text_numbers.proofs.parse_pattern.Goals as goal
 
 module _ (s : List ℕ) (i : ℕ) {b e : ℕ} (first : b ≡ byte_at s i) where
@@ -16,7 +16,7 @@ module _ (s : List ℕ) (i : ℕ) {b e : ℕ} (first : b ≡ byte_at s i) where
   unfolding pattern_at
   closed q r t u = rw (eq-eqb _ _ (sym first ∙ q), ← r, eq-eqb _ _ (sym t ∙ u))
 
-  unclosed : {d : ℕ} → b ≡ 34 → e ≡ stop in_pattern s (i + 1) → d ≡ byte_at s e → (d ≡ 34 → ⊥) → NoPattern ≡ pattern_at s i
+  unclosed : {d : ℕ} → b ≡ 34 → e ≡ stop in_pattern s (i + 1) → d ≡ byte_at s e → (d ≡ 34 → ⊥) → None ≡ pattern_at s i
   unfolding pattern_at
   unclosed q r t u = rw (eq-eqb _ _ (sym first ∙ q), ← r, ne_eqb _ _ (λ h. u (t ∙ h)))
 

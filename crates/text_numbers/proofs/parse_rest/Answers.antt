@@ -12,7 +12,7 @@ use Rattle.text_numbers.proofs.parse_rest.Goals.{Else-not-is_digit}
 use Rattle.text_numbers.proofs.parse_rest.Goals as goal
 
 pub loop-i-init : goal.loop-i-init
-loop-i-init c = (refl, omega arith)
+loop-i-init c = (refl, omega arith, omega arith)
 
 pub returns-then-not-is_digit : goal.returns-then-not-is_digit
 returns-then-not-is_digit c =
@@ -51,7 +51,9 @@ pub overflow_add-value : goal.overflow_add-value
 overflow_add-value c = omega (arith, digit-range _ (is_a_digit (goal.at.overflow_add-value c).Else-not-is_digit))
 
 pub loop-i-preserved : goal.loop-i-preserved
-loop-i-preserved c = (on (goal.at.loop-i-preserved c).Else-not-is_digit, omega (arith, digit-range _ (is_a_digit (goal.at.loop-i-preserved c).Else-not-is_digit)))
+loop-i-preserved c = (on (goal.at.loop-i-preserved c).Else-not-is_digit, omega (arith, digit-range _ (is_a_digit (goal.at.loop-i-preserved c).Else-not-is_digit)), omega arith)
 
 pub returns : goal.returns
-returns c = sym (c.loop-i.invariant.0 ∙ from_end _ _ _ c.loop-i-test.false c.loop-i.invariant.1)
+returns c =
+    let e : c.max.result ≡ c.loop-i.i = omega (arith, c.max.ensures, c.loop-i.invariant.2) in
+    rw e (sym (c.loop-i.invariant.0 ∙ from_end _ _ _ c.loop-i-test.false c.loop-i.invariant.1))

@@ -6,14 +6,16 @@ use native.Mathlib.Omega.{arith}
 use borrow.Author.Tests.{eq-eqb, ne_eqb, eqb-true, eqb-false}
 use lib.Dec.{leb, ltb}
 use lib.IntN.{pos, neg_ℤ}
+use Rattle.text_numbers.specs.declared.NumberError.{NumberError}
+use Rattle.text_parts.specs.declared.Read.{Read}
+use Rattle.std.specs.declared.result.Result.{Result}
 use Rattle.written.specs.Bytes.{byte_at}
 use Rattle.laws.proofs.Runs.{read_in}
 use Rattle.text_numbers.specs.Answers.{unsigned_at, signed_of, signed_at}
-use Rattle.text_numbers.specs.declared.Unsigned.{Unsigned}
 use Rattle.text_numbers.proofs.parse_signed.Goals.{then-minus, else-minus}
 use Rattle.text_numbers.proofs.parse_signed.Goals as goal
 
-module _ (s : List ℕ) (i : ℕ) {b : ℕ} (first : b ≡ byte_at s i) {u : Unsigned} where
+module _ (s : List ℕ) (i : ℕ) {b : ℕ} (first : b ≡ byte_at s i) {u : Result (Read ℕ) NumberError} where
   dashed : b ≡ 45 → u ≡ unsigned_at s (i + 1) → signed_of (λ n. leb n (2 ^ 63)) (λ n. neg_ℤ (pos n)) u ≡ signed_at s i
   unfolding signed_at
   dashed q r = rw (eq-eqb _ _ (sym first ∙ q), ← r)

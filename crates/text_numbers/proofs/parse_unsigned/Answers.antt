@@ -73,4 +73,6 @@ loop-i-preserved c =
     }
 
 pub returns : goal.returns
-returns c = c.parse_rest.ensures ∙ sym c.loop-i.invariant.answer
+returns c =
+    let e : c.if-s-at-le19.most ≡ c.loop-i.i = omega (arith, c.loop-i.invariant.from) in
+    c.parse_rest.ensures ∙ rw e (sym c.loop-i.invariant.answer)

@@ -5,21 +5,21 @@ use mathlib.Core.List.{List}
 use native.Mathlib.Omega.{arith}
 use lib.ListN.{length, get_or}
 use borrow.Author.Tests.{eq-eqb, ne_eqb}
+use Rattle.std.specs.Prelude.{Some, None}
 use Rattle.laws.proofs.Runs.{byte_is, byte_out}
 use Rattle.text_spaces.specs.Spaces.{past_byte}
-use Rattle.text_spaces.specs.declared.Place.TheVariants.{At, Nowhere}
 use Rattle.text_spaces.proofs.past_byte.Goals as goal
 
 module _ (b : ℕ) (s : List ℕ) (i : ℕ) where
-  none : length s ≤ i → b < 256 → Nowhere ≡ past_byte b s i
+  none : length s ≤ i → b < 256 → None ≡ past_byte b s i
   unfolding past_byte
   none h f = rw (byte_out s i h, ne_eqb 256 b (λ e. omega arith))
 
-  here : i < length s → get_or s i 0 ≡ b → At (i + 1) ≡ past_byte b s i
+  here : i < length s → get_or s i 0 ≡ b → Some (i + 1) ≡ past_byte b s i
   unfolding past_byte
   here h e = rw (byte_is s i h, eq-eqb _ _ e)
 
-  other : i < length s → (get_or s i 0 ≡ b → ⊥) → Nowhere ≡ past_byte b s i
+  other : i < length s → (get_or s i 0 ≡ b → ⊥) → None ≡ past_byte b s i
   unfolding past_byte
   other h n = rw (byte_is s i h, ne_eqb _ _ n)
 

@@ -8,62 +8,62 @@ use Rattle.trail_plan.proofs.plan_entries.Goals as goal
 pub entries_before-before-requires : goal.entries_before-before-requires
 entries_before-before-requires c =
     let a = c.args in
-    let z = block_size a.n a.plan.width a.s.now a.plan.block a.k _ c.requires (sym c.in-Fits.is ∙ c.check_block.ensures) in
+    let z = block_size a.n a.plan.width a.s.now a.plan.block a.k _ c.requires (sym c.in-Some.is ∙ c.check_block.ensures) in
     (omega (arith, z.counts, c.requires), omega (arith, z.few, c.well_formed))
 
 pub overflow_mul-k : goal.overflow_mul-k
 overflow_mul-k c =
     let a = c.args in
-    let z = block_size a.n a.plan.width a.s.now a.plan.block a.k _ c.requires (sym c.in-Fits.is ∙ c.check_block.ensures) in
+    let z = block_size a.n a.plan.width a.s.now a.plan.block a.k _ c.requires (sym c.in-Some.is ∙ c.check_block.ensures) in
     omega (arith, z.counts, c.requires, c.well_formed)
 
 pub overflow_add-plan : goal.overflow_add-plan
 overflow_add-plan c =
     let a = c.args in
-    let z = block_size a.n a.plan.width a.s.now a.plan.block a.k _ c.requires (sym c.in-Fits.is ∙ c.check_block.ensures) in
+    let z = block_size a.n a.plan.width a.s.now a.plan.block a.k _ c.requires (sym c.in-Some.is ∙ c.check_block.ensures) in
     omega (arith, z.counts, c.requires, c.well_formed)
 
 pub word-entries-requires : goal.word-entries-requires
 word-entries-requires c =
     let a = c.args in
-    let z = block_size a.n a.plan.width a.s.now a.plan.block a.k _ c.requires (sym c.in-Fits.is ∙ c.check_block.ensures) in
+    let z = block_size a.n a.plan.width a.s.now a.plan.block a.k _ c.requires (sym c.in-Some.is ∙ c.check_block.ensures) in
     omega (arith, z.counts, c.requires, c.well_formed)
 
-pub overflow_mul-whole : goal.overflow_mul-whole
-overflow_mul-whole c =
+pub overflow_mul-result : goal.overflow_mul-result
+overflow_mul-result c =
     let a = c.args in
-    let z = block_size a.n a.plan.width a.s.now a.plan.block a.k _ c.requires (sym c.in-Fits.is ∙ c.check_block.ensures) in
+    let z = block_size a.n a.plan.width a.s.now a.plan.block a.k _ c.requires (sym c.in-Some.is ∙ c.check_block.ensures) in
     omega (arith, z.counts, c.well_formed)
 
-pub overflow_add-whole : goal.overflow_add-whole
-overflow_add-whole c =
+pub overflow_add-result : goal.overflow_add-result
+overflow_add-result c =
     let a = c.args in
-    let z = block_size a.n a.plan.width a.s.now a.plan.block a.k _ c.requires (sym c.in-Fits.is ∙ c.check_block.ensures) in
+    let z = block_size a.n a.plan.width a.s.now a.plan.block a.k _ c.requires (sym c.in-Some.is ∙ c.check_block.ensures) in
     omega (arith, z.counts, c.well_formed)
 
-pub overflow_mul-whole-in-Fits : goal.overflow_mul-whole-in-Fits
-overflow_mul-whole-in-Fits c =
+pub overflow_mul-result-in-Some : goal.overflow_mul-result-in-Some
+overflow_mul-result-in-Some c =
     let a = c.args in
-    let z = block_size a.n a.plan.width a.s.now a.plan.block a.k _ c.requires (sym c.in-Fits.is ∙ c.check_block.ensures) in
+    let z = block_size a.n a.plan.width a.s.now a.plan.block a.k _ c.requires (sym c.in-Some.is ∙ c.check_block.ensures) in
     let m = ap (λ (b : ℕ). b * a.plan.width) c.entries_before-before.ensures in
     omega (arith, z.values, m, c.well_formed)
 
-pub overflow_mul-whole-in-Fits-2 : goal.overflow_mul-whole-in-Fits-2
-overflow_mul-whole-in-Fits-2 c =
+pub overflow_mul-result-in-Some-2 : goal.overflow_mul-result-in-Some-2
+overflow_mul-result-in-Some-2 c =
     let a = c.args in
-    let z = block_size a.n a.plan.width a.s.now a.plan.block a.k _ c.requires (sym c.in-Fits.is ∙ c.check_block.ensures) in
+    let z = block_size a.n a.plan.width a.s.now a.plan.block a.k _ c.requires (sym c.in-Some.is ∙ c.check_block.ensures) in
     let m = ap (λ (b : ℕ). b * a.plan.width) c.entries_before-before.ensures in
     omega (arith, z.values, m, c.well_formed)
 
-pub overflow_add-whole-in-Fits : goal.overflow_add-whole-in-Fits
-overflow_add-whole-in-Fits c =
+pub overflow_add-result-in-Some : goal.overflow_add-result-in-Some
+overflow_add-result-in-Some c =
     let a = c.args in
-    let z = block_size a.n a.plan.width a.s.now a.plan.block a.k _ c.requires (sym c.in-Fits.is ∙ c.check_block.ensures) in
+    let z = block_size a.n a.plan.width a.s.now a.plan.block a.k _ c.requires (sym c.in-Some.is ∙ c.check_block.ensures) in
     let m = ap (λ (b : ℕ). b * a.plan.width) c.entries_before-before.ensures in
     omega (arith, z.values, m, c.well_formed)
 
-pub returns-in-Fits : goal.returns-in-Fits
-returns-in-Fits c = entries_fit _ _ _ _ (sym c.in-Fits.is ∙ c.check_block.ensures) c.entries_before-before.ensures c.word-entries.ensures
+pub returns-in-Some : goal.returns-in-Some
+returns-in-Some c = entries_fit _ _ _ _ (sym c.in-Some.is ∙ c.check_block.ensures) c.entries_before-before.ensures c.word-entries.ensures
 
-pub returns-in-Wrong : goal.returns-in-Wrong
-returns-in-Wrong c = entries_wrong _ _ _ _ (sym c.in-Wrong.is ∙ c.check_block.ensures)
+pub returns-in-None : goal.returns-in-None
+returns-in-None c = entries_wrong _ _ _ _ (sym c.in-None.is ∙ c.check_block.ensures)

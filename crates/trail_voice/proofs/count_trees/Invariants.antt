@@ -5,8 +5,8 @@ use Rattle.trail_voice.specs.Voice.{which_number}
 use Rattle.trail_voice.proofs.Laws.{Counting}
 use Rattle.trail_voice.proofs.count_trees.Given as goal
 
-abbrev pub invariant-loop-refusal : goal.invariant-loop-refusal
-invariant-loop-refusal l = Counting l.file (header_at l.words) l.which l.n
+abbrev pub invariant-loop-text : goal.invariant-loop-text
+invariant-loop-text l = Counting l.file (header_at l.words) l.which l.n
 
-abbrev pub decreases-loop-refusal : goal.decreases-loop-refusal
-decreases-loop-refusal l = 17 - which_number l.which
+abbrev pub decreases-loop-text : goal.decreases-loop-text
+decreases-loop-text l = 17 - which_number l.which

@@ -19,14 +19,14 @@ next_model-requires c = record { in_bounds = (c.requires.in_bounds, c.loop-next.
 pub loop-next-smaller : goal.loop-next-smaller
 loop-next-smaller c =
     let l = c.loop-next in
-    let z = next_at c.args.file.now (header_at c.args.words.now) c.requires.words_value l.invariant.at (sym c.in-Model.is ∙ c.next_model.ensures) in
+    let z = next_at c.args.file.now (header_at c.args.words.now) c.requires.words_value l.invariant.at (sym c.in-Some.is ∙ c.next_model.ensures) in
     omega (arith, z.1, z.2)
 
 pub loop-next-preserved : goal.loop-next-preserved
-loop-next-preserved c = storing_more c.args.file.now (header_at c.args.words.now) c.requires.words_value c.loop-next.invariant c.put_model-k.ensures.0 c.put_model-k.ensures.1 (sym c.in-Model.is ∙ c.next_model.ensures)
+loop-next-preserved c = storing_more c.args.file.now (header_at c.args.words.now) c.requires.words_value c.loop-next.invariant c.put_model-k.ensures.0 c.put_model-k.ensures.1 (sym c.in-Some.is ∙ c.next_model.ensures)
 
-pub shape_of-t-in-End : goal.shape_of-t-in-End
-shape_of-t-in-End c = stored_long c.args.file.now (header_at c.args.words.now) c.requires.words_value c.loop-next.invariant c.put_model-k.ensures.0 c.put_model-k.ensures.1
+pub shape_of-t-in-None : goal.shape_of-t-in-None
+shape_of-t-in-None c = stored_long c.args.file.now (header_at c.args.words.now) c.requires.words_value c.loop-next.invariant c.put_model-k.ensures.0 c.put_model-k.ensures.1
 
-pub returns-in-End : goal.returns-in-End
-returns-in-End c = stored_all c.args.file.now (header_at c.args.words.now) c.requires.words_value c.loop-next.invariant c.put_model-k.ensures.0 c.put_model-k.ensures.1 (sym c.in-End.is ∙ c.next_model.ensures)
+pub returns-in-None : goal.returns-in-None
+returns-in-None c = stored_all c.args.file.now (header_at c.args.words.now) c.requires.words_value c.loop-next.invariant c.put_model-k.ensures.0 c.put_model-k.ensures.1 (sym c.in-None.is ∙ c.next_model.ensures)

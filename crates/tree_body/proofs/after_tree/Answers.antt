@@ -4,10 +4,10 @@ use mathlib.Core.List.{List}
 use Prim.Native.Nat.{ℕ, ◌≤◌, ◌<◌}
 use borrow.Author.Tests.{eq-eqb, ne_eqb, lt-ltb, le-ltb}
 use lib.ListN.{length}
+use Rattle.std.specs.Prelude.{Some, None}
 use Rattle.written.specs.Bytes.{blank}
 use Rattle.laws.specs.Runs.{stop}
 use Rattle.text_spaces.specs.Spaces.{parting_at}
-use Rattle.text_spaces.specs.declared.Place.TheVariants.{At, Nowhere}
 use Rattle.tree_body.specs.Trees.{tree_parted, after_tree}
 use Rattle.tree_body.specs.declared.TreeStep.TheVariants.{Next, End, Broken}
 use Rattle.tree_body.proofs.after_tree.Goals as goal
@@ -22,23 +22,23 @@ module _ (s : List ℕ) (e : ℕ) {p : ℕ} (blanks : p ≡ stop blank s e) wher
     unfolding after_tree
     on = rw (← blanks, ne_eqb _ _ n)
 
-    further : (i : ℕ) → At i ≡ parting_at s e → i < length s → Next i ≡ after_tree s e
+    further : (i : ℕ) → Some i ≡ parting_at s e → i < length s → Next i ≡ after_tree s e
     further i q h = rw (lt-ltb i (length s) h) at (ap (tree_parted s p) q ∙ on)
 
-    nothing : (i : ℕ) → At i ≡ parting_at s e → length s ≤ i → Broken p ≡ after_tree s e
+    nothing : (i : ℕ) → Some i ≡ parting_at s e → length s ≤ i → Broken p ≡ after_tree s e
     nothing i q h = rw (le-ltb i (length s) h) at (ap (tree_parted s p) q ∙ on)
 
-    unparted : Nowhere ≡ parting_at s e → Broken p ≡ after_tree s e
+    unparted : None ≡ parting_at s e → Broken p ≡ after_tree s e
     unparted q = ap (tree_parted s p) q ∙ on
 
 pub returns-then-end-s : goal.returns-then-end-s
 returns-then-end-s c = ended _ _ c.blank_end-end.ensures c.if-end-s.true
 
 pub returns-then-next-s : goal.returns-then-next-s
-returns-then-next-s c = further _ _ c.blank_end-end.ensures c.if-end-s.false _ (sym c.in-At.is ∙ c.past_parting.ensures) c.if-next-s.true
+returns-then-next-s c = further _ _ c.blank_end-end.ensures c.if-end-s.false _ (sym c.in-Some.is ∙ c.past_parting.ensures) c.if-next-s.true
 
 pub returns-else-next-s : goal.returns-else-next-s
-returns-else-next-s c = nothing _ _ c.blank_end-end.ensures c.if-end-s.false _ (sym c.in-At.is ∙ c.past_parting.ensures) c.if-next-s.false
+returns-else-next-s c = nothing _ _ c.blank_end-end.ensures c.if-end-s.false _ (sym c.in-Some.is ∙ c.past_parting.ensures) c.if-next-s.false
 
-pub returns-in-Nowhere : goal.returns-in-Nowhere
-returns-in-Nowhere c = unparted _ _ c.blank_end-end.ensures c.if-end-s.false (sym c.in-Nowhere.is ∙ c.past_parting.ensures)
+pub returns-in-None : goal.returns-in-None
+returns-in-None c = unparted _ _ c.blank_end-end.ensures c.if-end-s.false (sym c.in-None.is ∙ c.past_parting.ensures)

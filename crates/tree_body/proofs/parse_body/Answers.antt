@@ -11,29 +11,29 @@ use Rattle.tree_body.proofs.parse_body.Goals as goal
 alone : {x z : ℤ} {r : TreeIndex} {e : ℕ} → x ≡ z → Lone x r e ≡ Lone z r e
 alone {r} {e} p = ap (λ x. Lone x r e) p
 
-pub returns-in-At-past_brace : goal.returns-in-At-past_brace
+pub returns-in-Some-past_brace : goal.returns-in-Some-past_brace
 unfolding body_at
-returns-in-At-past_brace c =
+returns-in-Some-past_brace c =
     ap₂ Empty (back _ c.ranges.state.sfits) refl
-    ∙ ap (braces_read _ _ _) (sym c.in-At-past_brace.is ∙ c.past_brace.ensures)
-    ∙ ap (body_read _ _ _) (sym c.in-At.is ∙ c.past_byte.ensures)
+    ∙ ap (braces_read _ _ _) (sym c.in-Some-past_brace.is ∙ c.past_brace.ensures)
+    ∙ ap (body_read _ _ _) (sym c.in-Some.is ∙ c.past_byte.ensures)
 
-pub returns-in-Nowhere-past_brace : goal.returns-in-Nowhere-past_brace
+pub returns-in-None-past_brace : goal.returns-in-None-past_brace
 unfolding body_at
-returns-in-Nowhere-past_brace c =
+returns-in-None-past_brace c =
     ap₂ Lines (back _ c.ranges.state.sfits) c.blank_end.ensures
-    ∙ ap (braces_read _ _ _) (sym c.in-Nowhere-past_brace.is ∙ c.past_brace.ensures)
-    ∙ ap (body_read _ _ _) (sym c.in-At.is ∙ c.past_byte.ensures)
+    ∙ ap (braces_read _ _ _) (sym c.in-None-past_brace.is ∙ c.past_brace.ensures)
+    ∙ ap (body_read _ _ _) (sym c.in-Some.is ∙ c.past_byte.ensures)
 
-pub returns-in-Found : goal.returns-in-Found
+pub returns-in-Some-parse_tree_index : goal.returns-in-Some-parse_tree_index
 unfolding body_at
-returns-in-Found c =
+returns-in-Some-parse_tree_index c =
     alone (back _ c.ranges.state.sfits)
-    ∙ ap (lone_read _) (sym c.in-Found.is ∙ c.parse_tree_index.ensures)
-    ∙ ap (body_read _ _ _) (sym c.in-Nowhere.is ∙ c.past_byte.ensures)
+    ∙ ap (lone_read _) (sym c.in-Some-parse_tree_index.is ∙ c.parse_tree_index.ensures)
+    ∙ ap (body_read _ _ _) (sym c.in-None.is ∙ c.past_byte.ensures)
 
-pub returns-in-NoReference : goal.returns-in-NoReference
+pub returns-in-None-parse_tree_index : goal.returns-in-None-parse_tree_index
 unfolding body_at
-returns-in-NoReference c =
-    ap (lone_read _) (sym c.in-NoReference.is ∙ c.parse_tree_index.ensures)
-    ∙ ap (body_read _ _ _) (sym c.in-Nowhere.is ∙ c.past_byte.ensures)
+returns-in-None-parse_tree_index c =
+    ap (lone_read _) (sym c.in-None-parse_tree_index.is ∙ c.parse_tree_index.ensures)
+    ∙ ap (body_read _ _ _) (sym c.in-None.is ∙ c.past_byte.ensures)

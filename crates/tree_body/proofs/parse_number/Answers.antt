@@ -1,24 +1,26 @@
 -- `tree_body::parse_number`: each way out is an arm of `numberRead` or of `numberClosed`.
 use mathlib.Core.Path.{sym, ap, ap₂, ◌∙◌}
+use Rattle.text_parts.specs.Parts.{read_to}
+use Rattle.std.specs.Prelude.{Some}
 use Rattle.laws.proofs.Signed.{back}
-use Rattle.text_numbers.specs.declared.Signed.TheVariants.{Number}
 use Rattle.tree_body.specs.Trees.{number_closed, number_read, number_at}
 use borrow.Author.Rules.{rules}
 use Rattle.tree_body.proofs.parse_number.Goals as goal
 
-pub returns-in-At : goal.returns-in-At
+pub returns : goal.returns
 unfolding number_at
-returns-in-At c =
-    ap₂ Number (back _ (search rules)) c.blank_end.ensures
-    ∙ ap (number_closed _ _) (sym c.in-At.is ∙ c.past_byte.ensures)
-    ∙ ap (number_read _) (sym c.in-Number.is ∙ c.parse_signed.ensures)
+returns c =
+    ap₂ (λ v k. Some (read_to v k)) (back _ (search rules)) c.blank_end.ensures
+    ∙ ap (number_closed _ _) (sym c.in_ok-past.was ∙ c.past_byte.ensures)
+    ∙ ap (number_read _) (sym c.in_ok-number.was ∙ c.parse_signed.ensures)
 
-pub returns-in-Nowhere : goal.returns-in-Nowhere
+pub returns-in_err-past : goal.returns-in_err-past
 unfolding number_at
-returns-in-Nowhere c =
-    ap (number_closed _ _) (sym c.in-Nowhere.is ∙ c.past_byte.ensures)
-    ∙ ap (number_read _) (sym c.in-Number.is ∙ c.parse_signed.ensures)
+returns-in_err-past c =
+    c.from_residual-in_err-past.ensures
+    ∙ ap (number_closed _ _) (sym c.in_err-past.was ∙ c.past_byte.ensures)
+    ∙ ap (number_read _) (sym c.in_ok-number.was ∙ c.parse_signed.ensures)
 
-pub returns-in-NoNumber : goal.returns-in-NoNumber
+pub returns-in_err-number : goal.returns-in_err-number
 unfolding number_at
-returns-in-NoNumber c = ap (number_read _) (sym c.in-NoNumber.is ∙ c.parse_signed.ensures)
+returns-in_err-number c = c.from_residual.ensures ∙ ap (number_read _) (sym c.in_err-number.was ∙ c.parse_signed.ensures)

@@ -5,19 +5,20 @@ use Rattle.text_spaces.specs.Spaces.{past_byte}
 use Rattle.tree_body.specs.Trees.{state_opened, state_starred, state_at}
 use Rattle.tree_body.proofs.parse_state.Goals as goal
 
-pub returns-in-At-past_byte : goal.returns-in-At-past_byte
+pub returns : goal.returns
 unfolding state_at
-returns-in-At-past_byte c =
+returns c =
     c.parse_number.ensures
-    ∙ ap (state_opened _) ((sym c.in-At-past_byte.is ∙ c.past_byte.ensures) ∙ ap (past_byte bracket _) c.blank_end.ensures)
-    ∙ ap (state_starred _) (sym c.in-At.is ∙ c.past_star.ensures)
+    ∙ ap (state_opened _) ((sym c.in_ok-inside.was ∙ c.past_byte.ensures) ∙ ap (past_byte bracket _) c.blank_end.ensures)
+    ∙ ap (state_starred _) (sym c.in_ok-past.was ∙ c.past_star.ensures)
 
-pub returns-in-Nowhere-past_byte : goal.returns-in-Nowhere-past_byte
+pub returns-in_err-inside : goal.returns-in_err-inside
 unfolding state_at
-returns-in-Nowhere-past_byte c =
-    ap (state_opened _) ((sym c.in-Nowhere-past_byte.is ∙ c.past_byte.ensures) ∙ ap (past_byte bracket _) c.blank_end.ensures)
-    ∙ ap (state_starred _) (sym c.in-At.is ∙ c.past_star.ensures)
+returns-in_err-inside c =
+    c.from_residual-in_err-inside.ensures
+    ∙ ap (state_opened _) ((sym c.in_err-inside.was ∙ c.past_byte.ensures) ∙ ap (past_byte bracket _) c.blank_end.ensures)
+    ∙ ap (state_starred _) (sym c.in_ok-past.was ∙ c.past_star.ensures)
 
-pub returns-in-Nowhere : goal.returns-in-Nowhere
+pub returns-in_err-past : goal.returns-in_err-past
 unfolding state_at
-returns-in-Nowhere c = ap (state_starred _) (sym c.in-Nowhere.is ∙ c.past_star.ensures)
+returns-in_err-past c = c.from_residual.ensures ∙ ap (state_starred _) (sym c.in_err-past.was ∙ c.past_star.ensures)

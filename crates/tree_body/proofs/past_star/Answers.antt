@@ -5,14 +5,16 @@ use Rattle.text_spaces.specs.Spaces.{then_byte}
 use Rattle.tree_body.specs.Trees.{past_star}
 use Rattle.tree_body.proofs.past_star.Goals as goal
 
-pub returns-in-At-past_byte : goal.returns-in-At-past_byte
+pub returns : goal.returns
 unfolding past_star
-returns-in-At-past_byte c = c.past_byte-in-At-past_byte.ensures ∙ ap (then_byte unbrace _) ((sym c.in-At-past_byte.is ∙ c.past_byte-in-At.ensures) ∙ ap (then_byte 42 _) (sym c.in-At.is ∙ c.past_byte.ensures))
+returns c = c.past_byte-3.ensures ∙ ap (then_byte unbrace _) ((sym c.in_ok-third.was ∙ c.past_byte-2.ensures) ∙ ap (then_byte 42 _) (sym c.in_ok-second.was ∙ c.past_byte.ensures))
 
-pub returns-in-Nowhere-past_byte : goal.returns-in-Nowhere-past_byte
+pub returns-in_err-third : goal.returns-in_err-third
 unfolding past_star
-returns-in-Nowhere-past_byte c = ap (then_byte unbrace _) ((sym c.in-Nowhere-past_byte.is ∙ c.past_byte-in-At.ensures) ∙ ap (then_byte 42 _) (sym c.in-At.is ∙ c.past_byte.ensures))
+returns-in_err-third c =
+    c.from_residual-in_err-third.ensures
+    ∙ ap (then_byte unbrace _) ((sym c.in_err-third.was ∙ c.past_byte-2.ensures) ∙ ap (then_byte 42 _) (sym c.in_ok-second.was ∙ c.past_byte.ensures))
 
-pub returns-in-Nowhere : goal.returns-in-Nowhere
+pub returns-in_err-second : goal.returns-in_err-second
 unfolding past_star
-returns-in-Nowhere c = ap (then_byte unbrace _) (ap (then_byte 42 _) (sym c.in-Nowhere.is ∙ c.past_byte.ensures))
+returns-in_err-second c = c.from_residual.ensures ∙ ap (then_byte unbrace _) (ap (then_byte 42 _) (sym c.in_err-second.was ∙ c.past_byte.ensures))

@@ -11,18 +11,18 @@ closing : (c : After-past_byte) → c.past_byte.result ≡ close_at c.args.s.now
 unfolding close_at
 closing c = c.past_byte.ensures ∙ ap (past_byte unbrace _) c.blank_end-past.ensures
 
-pub returns-in-At : goal.returns-in-At
+pub returns-in-Some : goal.returns-in-Some
 unfolding after_line
-returns-in-At c = ap (line_closed _ _ _) (sym c.in-At.is ∙ closing (goal.at.returns-in-At c).After-past_byte)
+returns-in-Some c = ap (line_closed _ _ _) (sym c.in-Some.is ∙ closing (goal.at.returns-in-Some c).After-past_byte)
 
-pub returns-in-At-line_parting : goal.returns-in-At-line_parting
+pub returns-in-Some-line_parting : goal.returns-in-Some-line_parting
 unfolding after_line
-returns-in-At-line_parting c =
-    ap (line_parted _) (sym c.in-At-line_parting.is ∙ c.line_parting.ensures)
-    ∙ ap (line_closed _ _ _) (sym c.in-Nowhere.is ∙ closing (goal.at.returns-in-At-line_parting c).After-past_byte)
+returns-in-Some-line_parting c =
+    ap (line_parted _) (sym c.in-Some-line_parting.is ∙ c.line_parting.ensures)
+    ∙ ap (line_closed _ _ _) (sym c.in-None.is ∙ closing (goal.at.returns-in-Some-line_parting c).After-past_byte)
 
-pub returns-in-Nowhere-line_parting : goal.returns-in-Nowhere-line_parting
+pub returns-in-None-line_parting : goal.returns-in-None-line_parting
 unfolding after_line
-returns-in-Nowhere-line_parting c =
-    ap (line_parted _) (sym c.in-Nowhere-line_parting.is ∙ c.line_parting.ensures)
-    ∙ ap (line_closed _ _ _) (sym c.in-Nowhere.is ∙ closing (goal.at.returns-in-Nowhere-line_parting c).After-past_byte)
+returns-in-None-line_parting c =
+    ap (line_parted _) (sym c.in-None-line_parting.is ∙ c.line_parting.ensures)
+    ∙ ap (line_closed _ _ _) (sym c.in-None.is ∙ closing (goal.at.returns-in-None-line_parting c).After-past_byte)

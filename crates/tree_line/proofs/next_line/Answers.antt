@@ -3,10 +3,10 @@ use mathlib.Core.Path.{sym, ap, ◌∙◌}
 use Rattle.tree_line.specs.Lines.{line_found, line_step_at}
 use Rattle.tree_line.proofs.next_line.Goals as goal
 
-pub returns-in-Found : goal.returns-in-Found
+pub returns-in-Some : goal.returns-in-Some
 unfolding line_step_at
-returns-in-Found c = c.after_line.ensures ∙ ap (line_found _) (sym c.in-Found.is ∙ c.parse_line.ensures)
+returns-in-Some c = c.after_line.ensures ∙ ap (line_found _) (sym c.in-Some.is ∙ c.parse_line.ensures)
 
-pub returns-in-NoLine : goal.returns-in-NoLine
+pub returns-in-None : goal.returns-in-None
 unfolding line_step_at
-returns-in-NoLine c = ap (line_found _) (sym c.in-NoLine.is ∙ c.parse_line.ensures)
+returns-in-None c = ap (line_found _) (sym c.in-None.is ∙ c.parse_line.ensures)

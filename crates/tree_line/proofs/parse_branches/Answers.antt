@@ -3,10 +3,10 @@ use mathlib.Core.Path.{sym, ap, ◌∙◌}
 use Rattle.tree_line.specs.Lines.{no_read, branches_at}
 use Rattle.tree_line.proofs.parse_branches.Goals as goal
 
-pub returns-in-Found : goal.returns-in-Found
+pub returns : goal.returns
 unfolding branches_at
-returns-in-Found c = c.parse_yes.ensures ∙ ap (no_read _) (sym c.in-Found.is ∙ c.parse_tree_index.ensures)
+returns c = c.parse_yes.ensures ∙ ap (no_read _) (sym c.in_ok-no.was ∙ c.parse_tree_index.ensures)
 
-pub returns-in-NoReference : goal.returns-in-NoReference
+pub returns-in_err-no : goal.returns-in_err-no
 unfolding branches_at
-returns-in-NoReference c = ap (no_read _) (sym c.in-NoReference.is ∙ c.parse_tree_index.ensures)
+returns-in_err-no c = c.from_residual.ensures ∙ ap (no_read _) (sym c.in_err-no.was ∙ c.parse_tree_index.ensures)

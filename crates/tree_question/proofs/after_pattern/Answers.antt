@@ -8,18 +8,18 @@ use Rattle.tree_question.proofs.after_pattern.Goals as goal
 further : {b n i j : ℕ} → i ≡ j → Next b n i ≡ Next b n j
 further {b} {n} e = ap (Next b n) e
 
-pub returns-in-At : goal.returns-in-At
+pub returns-in-Some : goal.returns-in-Some
 unfolding after_pattern
-returns-in-At c = further c.blank_end.ensures ∙ ap (pattern_parted _ _ _ _) (sym c.in-At.is ∙ c.past_byte.ensures)
+returns-in-Some c = further c.blank_end.ensures ∙ ap (pattern_parted _ _ _ _) (sym c.in-Some.is ∙ c.past_byte.ensures)
 
-pub returns-in-At-past_brace : goal.returns-in-At-past_brace
+pub returns-in-Some-past_brace : goal.returns-in-Some-past_brace
 unfolding after_pattern
-returns-in-At-past_brace c =
-    ap (pattern_closed _ _) (sym c.in-At-past_brace.is ∙ c.past_brace.ensures)
-    ∙ ap (pattern_parted _ _ _ _) (sym c.in-Nowhere.is ∙ c.past_byte.ensures)
+returns-in-Some-past_brace c =
+    ap (pattern_closed _ _) (sym c.in-Some-past_brace.is ∙ c.past_brace.ensures)
+    ∙ ap (pattern_parted _ _ _ _) (sym c.in-None.is ∙ c.past_byte.ensures)
 
-pub returns-in-Nowhere-past_brace : goal.returns-in-Nowhere-past_brace
+pub returns-in-None-past_brace : goal.returns-in-None-past_brace
 unfolding after_pattern
-returns-in-Nowhere-past_brace c =
-    ap (pattern_closed _ _) (sym c.in-Nowhere-past_brace.is ∙ c.past_brace.ensures)
-    ∙ ap (pattern_parted _ _ _ _) (sym c.in-Nowhere.is ∙ c.past_byte.ensures)
+returns-in-None-past_brace c =
+    ap (pattern_closed _ _) (sym c.in-None-past_brace.is ∙ c.past_brace.ensures)
+    ∙ ap (pattern_parted _ _ _ _) (sym c.in-None.is ∙ c.past_byte.ensures)

@@ -3,10 +3,10 @@ use mathlib.Core.Path.{sym, ap, ◌∙◌}
 use Rattle.tree_question.specs.Questions.{pattern_found, pattern_step_at}
 use Rattle.tree_question.proofs.next_pattern.Goals as goal
 
-pub returns-in-Found : goal.returns-in-Found
+pub returns-in-Some : goal.returns-in-Some
 unfolding pattern_step_at
-returns-in-Found c = c.after_pattern.ensures ∙ ap (pattern_found _) (sym c.in-Found.is ∙ c.parse_pattern.ensures)
+returns-in-Some c = c.after_pattern.ensures ∙ ap (pattern_found _) (sym c.in-Some.is ∙ c.parse_pattern.ensures)
 
-pub returns-in-NoPattern : goal.returns-in-NoPattern
+pub returns-in-None : goal.returns-in-None
 unfolding pattern_step_at
-returns-in-NoPattern c = ap (pattern_found _) (sym c.in-NoPattern.is ∙ c.parse_pattern.ensures)
+returns-in-None c = ap (pattern_found _) (sym c.in-None.is ∙ c.parse_pattern.ensures)

@@ -4,10 +4,10 @@ use Rattle.text_spaces.specs.Spaces.{then_byte}
 use Rattle.tree_question.specs.Questions.{past_qs}
 use Rattle.tree_question.proofs.past_qs.Goals as goal
 
-pub returns-in-At : goal.returns-in-At
+pub returns : goal.returns
 unfolding past_qs
-returns-in-At c = c.past_byte-in-At.ensures ∙ ap (then_byte 83 _) (sym c.in-At.is ∙ c.past_byte.ensures)
+returns c = c.past_byte-2.ensures ∙ ap (then_byte 83 _) (sym c.in_ok-next.was ∙ c.past_byte.ensures)
 
-pub returns-in-Nowhere : goal.returns-in-Nowhere
+pub returns-in_err-next : goal.returns-in_err-next
 unfolding past_qs
-returns-in-Nowhere c = ap (then_byte 83 _) (sym c.in-Nowhere.is ∙ c.past_byte.ensures)
+returns-in_err-next c = c.from_residual.ensures ∙ ap (then_byte 83 _) (sym c.in_err-next.was ∙ c.past_byte.ensures)

@@ -4,10 +4,10 @@ use lib.Dec.{ltb}
 use Rattle.tree_question.specs.Questions.{blank_at, starts_question}
 use Rattle.tree_question.proofs.starts_question.Goals as goal
 
-pub returns-in-At : goal.returns-in-At
+pub returns-in-Some : goal.returns-in-Some
 unfolding starts_question
-returns-in-At c = ap (ltb _) c.blank_end.ensures ∙ ap (blank_at _) (sym c.in-At.is ∙ c.past_qs.ensures)
+returns-in-Some c = ap (ltb _) c.blank_end.ensures ∙ ap (blank_at _) (sym c.in-Some.is ∙ c.past_qs.ensures)
 
-pub returns-in-Nowhere : goal.returns-in-Nowhere
+pub returns-in-None : goal.returns-in-None
 unfolding starts_question
-returns-in-Nowhere c = ap (blank_at _) (sym c.in-Nowhere.is ∙ c.past_qs.ensures)
+returns-in-None c = ap (blank_at _) (sym c.in-None.is ∙ c.past_qs.ensures)

@@ -5,22 +5,22 @@ use Rattle.tree_survey_lines.proofs.Counting.{line_few, room, surveyed_more, sur
 use Rattle.tree_survey_lines.proofs.survey_lines.Goals as goal
 
 pub overflow_add-result : goal.overflow_add-result
-overflow_add-result c = omega (arith, room _ c.args.at c.in-Next.second (sym c.in-Next.is ∙ c.next_line.ensures) (sym c.in-Counted.is ∙ c.count_lines.ensures), c.well_formed)
+overflow_add-result c = omega (arith, room _ c.args.at c.in-Next.second (sym c.in-Next.is ∙ c.next_line.ensures) (sym c.in_ok-count-in-Next.was ∙ c.count_lines.ensures), c.well_formed)
 
-pub overflow_add-result-in-Counted : goal.overflow_add-result-in-Counted
-overflow_add-result-in-Counted c = omega (arith, room _ c.args.at c.in-Next.second (sym c.in-Next.is ∙ c.next_line.ensures) (sym c.in-Counted.is ∙ c.count_lines.ensures), c.well_formed)
+pub overflow_add-result-in-Next : goal.overflow_add-result-in-Next
+overflow_add-result-in-Next c = omega (arith, room _ c.args.at c.in-Next.second (sym c.in-Next.is ∙ c.next_line.ensures) (sym c.in_ok-count-in-Next.was ∙ c.count_lines.ensures), c.well_formed)
 
-pub overflow_add-result-in-Counted-2 : goal.overflow_add-result-in-Counted-2
-overflow_add-result-in-Counted-2 c = omega (arith, c.line_pdfs.ensures, line_few c.in-Next.line, room _ c.args.at c.in-Next.second (sym c.in-Next.is ∙ c.next_line.ensures) (sym c.in-Counted.is ∙ c.count_lines.ensures), c.well_formed)
+pub overflow_add-result-in-Next-2 : goal.overflow_add-result-in-Next-2
+overflow_add-result-in-Next-2 c = omega (arith, c.line_pdfs.ensures, line_few c.in-Next.line, room _ c.args.at c.in-Next.second (sym c.in-Next.is ∙ c.next_line.ensures) (sym c.in_ok-count-in-Next.was ∙ c.count_lines.ensures), c.well_formed)
 
-pub overflow_add-result-in-Counted-3 : goal.overflow_add-result-in-Counted-3
-overflow_add-result-in-Counted-3 c = omega (arith, c.line_pdfs.ensures, line_few c.in-Next.line, room _ c.args.at c.in-Next.second (sym c.in-Next.is ∙ c.next_line.ensures) (sym c.in-Counted.is ∙ c.count_lines.ensures), c.well_formed)
+pub overflow_add-result-in-Next-3 : goal.overflow_add-result-in-Next-3
+overflow_add-result-in-Next-3 c = omega (arith, c.line_pdfs.ensures, line_few c.in-Next.line, room _ c.args.at c.in-Next.second (sym c.in-Next.is ∙ c.next_line.ensures) (sym c.in_ok-count-in-Next.was ∙ c.count_lines.ensures), c.well_formed)
 
-pub returns-in-Counted : goal.returns-in-Counted
-returns-in-Counted c = surveyed_more _ _ _ (sym c.in-Next.is ∙ c.next_line.ensures) (sym c.in-Counted.is ∙ c.count_lines.ensures) c.line_pdfs.ensures
+pub returns-in_ok-count-in-Next : goal.returns-in_ok-count-in-Next
+returns-in_ok-count-in-Next c = surveyed_more _ _ _ (sym c.in-Next.is ∙ c.next_line.ensures) (sym c.in_ok-count-in-Next.was ∙ c.count_lines.ensures) c.line_pdfs.ensures
 
-pub returns-in-Broken-count_lines : goal.returns-in-Broken-count_lines
-returns-in-Broken-count_lines c = surveyed_stopped _ _ _ (sym c.in-Next.is ∙ c.next_line.ensures) (sym c.in-Broken-count_lines.is ∙ c.count_lines.ensures)
+pub returns-in_err-count-in-Next : goal.returns-in_err-count-in-Next
+returns-in_err-count-in-Next c = c.from_residual.ensures ∙ surveyed_stopped _ _ _ (sym c.in-Next.is ∙ c.next_line.ensures) (sym c.in_err-count-in-Next.was ∙ c.count_lines.ensures)
 
 pub returns-in-Last : goal.returns-in-Last
 returns-in-Last c = surveyed_one _ _ (sym c.in-Last.is ∙ c.next_line.ensures) c.line_records.ensures

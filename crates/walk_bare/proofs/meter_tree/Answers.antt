@@ -10,8 +10,8 @@ use Rattle.walk_bare.proofs.meter_tree.Goals as goal
 by_number : {m : Meter} {n f i k : ℕ} → m ≡ refused_by n i k → n ≡ f → m ≡ refused_by f i k
 by_number {i = i} {k = k} e h = e ∙ ap (λ (n : ℕ). refused_by n i k) h
 
-pub returns-in-Whole : goal.returns-in-Whole
-returns-in-Whole c = meter_so c.args.s.now c.args.tree c.args.answers.now c.args.limit c.args.star (sym c.in-Whole.is ∙ c.link_tree.ensures) (c.metered.ensures ∙ ap metered_of c.walk_tree.ensures)
+pub returns-in-Ok : goal.returns-in-Ok
+returns-in-Ok c = meter_so c.args.s.now c.args.tree c.args.answers.now c.args.limit c.args.star (sym c.in-Ok.is ∙ c.link_tree.ensures) (c.metered.ensures ∙ ap metered_of c.walk_tree.ensures)
 
-pub returns-in-Refused : goal.returns-in-Refused
-returns-in-Refused c = meter_so c.args.s.now c.args.tree c.args.answers.now c.args.limit c.args.star (sym c.in-Refused.is ∙ c.link_tree.ensures) (by_number c.refused_by.ensures c.number.ensures)
+pub returns-in-Err : goal.returns-in-Err
+returns-in-Err c = meter_so c.args.s.now c.args.tree c.args.answers.now c.args.limit c.args.star (sym c.in-Err.is ∙ c.link_tree.ensures) (by_number c.refused_by.ensures c.number.ensures)

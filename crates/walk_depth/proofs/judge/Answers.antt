@@ -14,8 +14,8 @@ returns-then-not-reach c = judged_bad c.reach.ensures (not-true _ c.if-not-reach
 pub climb-requires : goal.climb-requires
 climb-requires c = (all_good c.reach.ensures (not-false _ c.if-not-reach.false-raw), omega (arith, c.requires.0, c.work-2-1.given, c.work-1.given), zeroed (length c.reach.new.work) c.zero_work.ensures)
 
-pub returns-in-Found : goal.returns-in-Found
-returns-in-Found c = judged-found (all_good c.reach.ensures (not-false _ c.if-not-reach.false-raw)) c.climb.ensures c.in-Found.is c.said-in-Found.ensures
+pub returns-in-Some : goal.returns-in-Some
+returns-in-Some c = judged-found (all_good c.reach.ensures (not-false _ c.if-not-reach.false-raw)) c.climb.ensures c.in-Some.is c.said-in-Some.ensures
 
-pub returns-in-Round : goal.returns-in-Round
-returns-in-Round c = judged_round (all_good c.reach.ensures (not-false _ c.if-not-reach.false-raw)) c.climb.ensures c.in-Round.is c.said-in-Round.ensures
+pub returns-in-None : goal.returns-in-None
+returns-in-None c = judged_round (all_good c.reach.ensures (not-false _ c.if-not-reach.false-raw)) c.climb.ensures c.in-None.is c.said-in-None.ensures

@@ -1,18 +1,12 @@
--- `walk_leaves::records_fit`: all records up to k fit.
-use mathlib.Core.Path.{sym, ◌∙◌}
-use borrow.Author.Tests.{not-true, not-false}
+-- `walk_leaves::records_fit`: what the library's `all` says of the range.
+use Rattle.laws.proofs.Ranged.{all_ranged}
+use Rattle.std.proofs.Common.{rules}
 use Rattle.walk_leaves.specs.Checks.{record_fits}
-use Rattle.laws.proofs.Every.{passing_none, passing_on, passing_off, passing_end}
+use borrow.Author.Tests.{tests}
+use native.Mathlib.Omega.{arith}
 use Rattle.walk_leaves.proofs.records_fit.Goals as goal
 
-pub loop-k-init : goal.loop-k-init
-loop-k-init c = passing_none _ _
-
-pub returns-then-not-record_fits : goal.returns-then-not-record_fits
-returns-then-not-record_fits c = passing_off _ _ _ c.loop-k.invariant c.loop-k-test.true (sym c.record_fits.ensures ∙ not-true _ c.if-not-record_fits.true-raw)
-
-pub loop-k-preserved : goal.loop-k-preserved
-loop-k-preserved c = passing_on _ _ _ c.loop-k.invariant c.loop-k-test.true (sym c.record_fits.ensures ∙ not-false _ c.if-not-record_fits.false-raw)
-
 pub returns : goal.returns
-returns c = passing_end _ _ _ c.loop-k.invariant c.loop-k-test.false
+returns c =
+    let a = c.args in
+    all_ranged (record_fits a.questions.now a.records.now a.first a.count a.entries) 0 a.count a.count (omega arith) _ _ _ c.all.ensures.ran (λ x y q k. search (rules, tests))

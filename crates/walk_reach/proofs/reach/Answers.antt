@@ -41,13 +41,13 @@ loop-head-smaller c = let h = head_below _ _ c.loop-head.invariant.0 c.loop-head
 pub loop-head-preserved : goal.loop-head-preserved
 loop-head-preserved c =
     let s = c.loop-head.invariant in
-    (reaching_more _ _ s.0 c.loop-head-test.true c.slot-k.ensures c.visit.ensures c.in-Tail.is, c.work-in-loop-head-1.given ∙ s.1)
+    (reaching_more _ _ s.0 c.loop-head-test.true c.slot-k.ensures c.visit.ensures c.in-Some.is, c.work-in-loop-head-1.given ∙ s.1)
 
-pub shape_of-work-in-Outside : goal.shape_of-work-in-Outside
-shape_of-work-in-Outside c = c.work-in-loop-head-1.given ∙ c.loop-head.invariant.1 ∙ c.work-1.given
+pub shape_of-work-in-None : goal.shape_of-work-in-None
+shape_of-work-in-None c = c.work-in-loop-head-1.given ∙ c.loop-head.invariant.1 ∙ c.work-1.given
 
-pub returns-in-Outside : goal.returns-in-Outside
-returns-in-Outside c = reaching_bad _ _ c.loop-head.invariant.0 c.loop-head-test.true c.visit.ensures c.in-Outside.is
+pub returns-in-None : goal.returns-in-None
+returns-in-None c = reaching_bad _ _ c.loop-head.invariant.0 c.loop-head-test.true c.visit.ensures c.in-None.is
 
 pub shape_of-work : goal.shape_of-work
 shape_of-work c = c.loop-head.invariant.1 ∙ c.work-1.given

@@ -1,21 +1,13 @@
--- `write_bytes::part_fits`: the bytes that are left say what all say.
-use Rattle.write_bytes.proofs.Odd.{going_none, going_empty, going_over, going_off, going_on}
-use Rattle.write_bytes.specs.Tests.{fits}
-use borrow.Author.Tests.{not-true, not-false}
-use mathlib.Core.Path.{sym, ◌∙◌}
+-- `write_bytes::part_fits`: what the library's `all` says of the part.
+use Rattle.std.proofs.Common.{rules}
+use Rattle.std.proofs.lemmas.Iterator.{YieldsList-from_slice}
+use Rattle.std.proofs.lemmas.Iterator.Search.{all_from_yields_List}
+use Rattle.write_bytes.proofs.Odd.{every_list}
+use Rattle.write_bytes.specs.Tests.{fits, every}
+use borrow.Author.Tests.{tests}
+use mathlib.Core.Path.{ap, ◌∙◌}
 use Rattle.write_bytes.proofs.part_fits.Goals as goal
 
-pub loop-i-init : goal.loop-i-init
-loop-i-init c = going_none _ _ _ _
-
-pub returns-then-left-eq0 : goal.returns-then-left-eq0
-returns-then-left-eq0 c = going_empty (fits c.args.name) c.args.s.now c.args.a c.args.n c.loop-i.i c.loop-i.left c.loop-i.invariant c.if-left-eq0.true
-
-pub returns-then-not-byte_fits : goal.returns-then-not-byte_fits
-returns-then-not-byte_fits c = going_off (fits c.args.name) c.args.s.now c.args.a c.args.n c.loop-i.i c.loop-i.left c.loop-i.invariant c.loop-i-test.true c.if-left-eq0.false (sym c.byte_fits.ensures ∙ not-true _ c.if-not-byte_fits.true-raw)
-
-pub loop-i-preserved : goal.loop-i-preserved
-loop-i-preserved c = going_on (fits c.args.name) c.args.s.now c.args.a c.args.n c.loop-i.i c.loop-i.left c.loop-i.invariant c.loop-i-test.true c.if-left-eq0.false (sym c.byte_fits.ensures ∙ not-false _ c.if-not-byte_fits.false-raw)
-
 pub returns : goal.returns
-returns c = going_over (fits c.args.name) c.args.s.now c.args.a c.args.n c.loop-i.i c.loop-i.left c.loop-i.invariant c.loop-i-test.false
+returns c =
+    all_from_yields_List (fits c.args.name) _ _ _ c.all.ensures.ran (YieldsList-from_slice c.part_of.result.now cc) (λ x b q k. search (rules, tests)) ∙ every_list (fits c.args.name) c.part_of.result.now ∙ ap (every (fits c.args.name)) c.part_of.ensures

@@ -1,10 +1,7 @@
 -- `write_counts::tally_refs`: references that are left, counted on, are all of them.
-use Rattle.write_counts.proofs.Laws.{tallying_none, small_yes, small_no, tallying_on, tallying_end}
+use Rattle.write_counts.proofs.Laws.{small_yes, small_no, tallying_on, tallying_end}
 use native.Mathlib.Omega.{arith}
 use Rattle.write_counts.proofs.tally_refs.Goals as goal
-
-pub loop-k-init : goal.loop-k-init
-loop-k-init c = tallying_none _ _ _ _ _ c.requires.1
 
 pub add-requires : goal.add-requires
 add-requires c = small_yes c.args.records.now c.args.first c.args.lines c.args.base c.args.tally.now c.loop-k.tally c.loop-k.k c.loop-k.invariant c.loop-k-test.true c.requires.0 (omega (arith, c.well_formed))
@@ -14,9 +11,6 @@ add-requires-in-loop-k c = small_no c.args.records.now c.args.first c.args.lines
 
 pub loop-k-preserved : goal.loop-k-preserved
 loop-k-preserved c = tallying_on c.args.records.now c.args.first c.args.lines c.args.base c.args.tally.now c.loop-k.tally c.loop-k.k c.loop-k.invariant c.loop-k-test.true c.goes_yes.ensures c.goes_no.ensures c.add.ensures c.add-in-loop-k.ensures
-
-pub shape_of-tally : goal.shape_of-tally
-shape_of-tally c = c.loop-k.invariant.long
 
 pub returns : goal.returns
 returns c = tallying_end _ _ _ _ _ _ _ c.loop-k.invariant c.loop-k-test.false

@@ -1,10 +1,6 @@
 -- `write_counts::tally_refs`: references that are left, counted on, are all of them.
-use Prim.Native.Nat.{◌-◌}
 use Rattle.write_counts.proofs.Laws.{Tallying}
 use Rattle.write_counts.proofs.tally_refs.Given as goal
 
 abbrev pub invariant-loop-k : goal.invariant-loop-k
 invariant-loop-k l = Tallying l.records l.first l.lines l.base l.initial.tally l.tally l.k
-
-abbrev pub decreases-loop-k : goal.decreases-loop-k
-decreases-loop-k l = l.lines - l.k

@@ -1,24 +1,8 @@
 -- `write_counts::window_fits`: each count, by what is due.
 use Prim.Native.Nat.{◌+◌}
-use Rattle.write_counts.proofs.Laws.{counted_so, inside_none, inside_on, inside_off, inside_end}
+use Rattle.write_counts.proofs.Laws.{counted_so, inside_on, inside_off, inside_end}
 use borrow.Author.Tests.{eq-eqb, ne_eqb}
-use native.Mathlib.Omega.{arith}
 use Rattle.write_counts.proofs.window_fits.Goals as goal
-
-pub loop-j-init : goal.loop-j-init
-loop-j-init c = inside_none _ _ _
-
-pub offset_bounds-tally-at : goal.offset_bounds-tally-at
-offset_bounds-tally-at c = omega (arith, c.requires.0, c.loop-j-test.true, c.well_formed)
-
-pub bounds-tally-at : goal.bounds-tally-at
-bounds-tally-at c = omega (arith, c.requires.0, c.loop-j-test.true)
-
-pub overflow_add-base : goal.overflow_add-base
-overflow_add-base c = omega (arith, c.requires.1, c.loop-j-test.true, c.ranges)
-
-pub due-requires : goal.due-requires
-due-requires c = omega (arith, c.requires.2)
 
 pub returns-then-tally-at : goal.returns-then-tally-at
 returns-then-tally-at c = inside_off _ _ _ _ c.loop-j.invariant c.loop-j-test.true (counted_so c.args.records.now c.args.first c.args.count c.args.lines (c.args.base + c.loop-j.j) (c.requires.3 c.loop-j.j c.loop-j-test.true) c.due.ensures (ne_eqb _ _ c.if-tally-at.true))

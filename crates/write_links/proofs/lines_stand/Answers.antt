@@ -1,17 +1,12 @@
--- `write_links::lines_stand`: all lines up to k stand.
-use Rattle.laws.proofs.Every.{passing_none, passing_on, passing_off, passing_end}
-use borrow.Author.Tests.{not-true, not-false}
-use mathlib.Core.Path.{sym, ◌∙◌}
+-- `write_links::lines_stand`: what the library's `all` says of the range.
+use Rattle.laws.proofs.Ranged.{all_ranged}
+use Rattle.std.proofs.Common.{rules}
+use Rattle.write_links.specs.Tests.{line_in}
+use borrow.Author.Tests.{tests}
+use native.Mathlib.Omega.{arith}
 use Rattle.write_links.proofs.lines_stand.Goals as goal
 
-pub loop-k-init : goal.loop-k-init
-loop-k-init c = passing_none _ _
-
-pub returns-then-not-line_in : goal.returns-then-not-line_in
-returns-then-not-line_in c = passing_off _ _ _ c.loop-k.invariant c.loop-k-test.true (sym c.line_in.ensures ∙ not-true _ c.if-not-line_in.true-raw)
-
-pub loop-k-preserved : goal.loop-k-preserved
-loop-k-preserved c = passing_on _ _ _ c.loop-k.invariant c.loop-k-test.true (sym c.line_in.ensures ∙ not-false _ c.if-not-line_in.false-raw)
-
 pub returns : goal.returns
-returns c = passing_end _ _ _ c.loop-k.invariant c.loop-k-test.false
+returns c =
+    let a = c.args in
+    all_ranged (line_in a.records.now a.first a.count a.lines) 0 a.lines a.lines (omega arith) _ _ _ c.all.ensures.ran (λ x y q k. search (rules, tests))

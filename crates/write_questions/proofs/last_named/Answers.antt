@@ -1,14 +1,7 @@
 -- `write_questions::last_named`: no question from q + 1 up to j has the name.
-use Rattle.laws.proofs.Every.{going_none, going_on, going_off, going_end}
+use Rattle.laws.proofs.Every.{going_on, going_off, going_end}
 use Rattle.write_questions.proofs.HiddenNames.{named_so, last_so}
-use native.Mathlib.Omega.{arith}
 use Rattle.write_questions.proofs.last_named.Goals as goal
-
-pub overflow_add-j : goal.overflow_add-j
-overflow_add-j c = omega (arith, c.requires, c.question_rows-n.ensures)
-
-pub loop-j-init : goal.loop-j-init
-loop-j-init c = going_none _ _ _
 
 pub returns-then-same_name : goal.returns-then-same_name
 returns-then-same_name c = last_so c.args.s.now c.args.questions.now c.args.q c.question_rows-n.ensures (going_off _ _ _ _ c.loop-j.invariant c.loop-j-test.true (named_so c.args.s.now c.args.questions.now c.args.q c.loop-j.j c.name_of.ensures c.name_of-name.ensures c.same_name.ensures c.if-same_name.true))

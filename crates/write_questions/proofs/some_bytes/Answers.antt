@@ -1,23 +1,14 @@
--- `write_questions::some_bytes`: all patterns up to p have a byte.
-use Rattle.laws.proofs.Every.{passing_none, passing_on, passing_off, passing_end}
+-- `write_questions::some_bytes`: what the library's `all` says of the range.
+use Rattle.laws.proofs.Ranged.{all_ranged}
 use Rattle.laws.specs.Every.{all}
+use Rattle.std.proofs.Common.{rules}
 use Rattle.write_questions.specs.Tests.{some_byte}
-use borrow.Author.Tests.{not-true, not-false}
-use mathlib.Core.Path.{sym, ap, ◌∙◌}
+use borrow.Author.Tests.{tests}
+use mathlib.Core.Path.{ap, ◌∙◌}
 use native.Mathlib.Omega.{arith}
 use Rattle.write_questions.proofs.some_bytes.Goals as goal
 
-pub loop-p-init : goal.loop-p-init
-loop-p-init c = passing_none _ _
-
-pub some_byte-requires : goal.some_byte-requires
-some_byte-requires c = omega (arith, c.pattern_rows-n.ensures)
-
-pub returns-then-not-some_byte : goal.returns-then-not-some_byte
-returns-then-not-some_byte c = passing_off _ _ _ c.loop-p.invariant c.loop-p-test.true (sym c.some_byte.ensures ∙ not-true _ c.if-not-some_byte.true-raw) ∙ ap (all (some_byte c.args.patterns.now) 0) c.pattern_rows-n.ensures
-
-pub loop-p-preserved : goal.loop-p-preserved
-loop-p-preserved c = passing_on _ _ _ c.loop-p.invariant c.loop-p-test.true (sym c.some_byte.ensures ∙ not-false _ c.if-not-some_byte.false-raw)
-
 pub returns : goal.returns
-returns c = passing_end _ _ _ c.loop-p.invariant c.loop-p-test.false ∙ ap (all (some_byte c.args.patterns.now) 0) c.pattern_rows-n.ensures
+returns c =
+    let a = c.args in
+    all_ranged (some_byte a.patterns.now) 0 c.pattern_rows-n.result c.pattern_rows-n.result (omega arith) _ _ _ c.all.ensures.ran (λ x y q k. search (rules, tests)) ∙ ap (all (some_byte a.patterns.now) 0) c.pattern_rows-n.ensures

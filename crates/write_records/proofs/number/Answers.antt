@@ -1,19 +1,8 @@
--- `write_records::number`: what the row says, or 0 where there is none.
-use Prim.Native.Nat.{◌+◌}
-use Rattle.table_rows.proofs.Stand.{told, below}
+-- `write_records::number`: what the row says.
+use mathlib.Core.Path.{sym, ◌∙◌}
 use Rattle.table_rows.specs.Rows.{record_pdf}
-use Rattle.write_records.proofs.Laws.{record_says, record_missing}
-use native.Mathlib.Omega.{arith}
+use Rattle.write_records.proofs.Laws.{row_says}
 use Rattle.write_records.proofs.number.Goals as goal
 
-pub overflow_add-first : goal.overflow_add-first
-overflow_add-first c = omega (arith, below (c.args.first + c.args.k) (told (c.args.first + c.args.k) c.row_there.ensures c.record_rows.ensures c.if-row_there.true))
-
-pub record_pdf-requires : goal.record_pdf-requires
-record_pdf-requires c = below (c.args.first + c.args.k) (told (c.args.first + c.args.k) c.row_there.ensures c.record_rows.ensures c.if-row_there.true)
-
-pub returns-then-row_there : goal.returns-then-row_there
-returns-then-row_there c = record_says record_pdf c.args.records.now c.args.first c.args.k (told (c.args.first + c.args.k) c.row_there.ensures c.record_rows.ensures c.if-row_there.true) c.record_pdf.ensures
-
-pub returns : goal.returns
-returns c = record_missing record_pdf c.args.records.now c.args.first c.args.k (told (c.args.first + c.args.k) c.row_there.ensures c.record_rows.ensures c.if-row_there.false)
+pub returns-in-Some : goal.returns-in-Some
+returns-in-Some c = row_says record_pdf _ _ _ c.record_pdf.ensures (sym c.row_of.ensures.row ∙ c.in-Some.is)

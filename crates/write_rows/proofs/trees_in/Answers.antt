@@ -1,23 +1,14 @@
--- `write_rows::trees_in`: all trees up to t stand inside.
-use Rattle.laws.proofs.Every.{passing_none, passing_on, passing_off, passing_end}
+-- `write_rows::trees_in`: what the library's `all` says of the range.
+use Rattle.laws.proofs.Ranged.{all_ranged}
 use Rattle.laws.specs.Every.{all}
+use Rattle.std.proofs.Common.{rules}
 use Rattle.write_rows.specs.Tests.{tree_in}
-use borrow.Author.Tests.{not-true, not-false}
-use mathlib.Core.Path.{sym, ap, ◌∙◌}
+use borrow.Author.Tests.{tests}
+use mathlib.Core.Path.{ap, ◌∙◌}
 use native.Mathlib.Omega.{arith}
 use Rattle.write_rows.proofs.trees_in.Goals as goal
 
-pub loop-t-init : goal.loop-t-init
-loop-t-init c = passing_none _ _
-
-pub tree_in-requires : goal.tree_in-requires
-tree_in-requires c = omega (arith, c.tree_rows-n.ensures)
-
-pub returns-then-not-tree_in : goal.returns-then-not-tree_in
-returns-then-not-tree_in c = passing_off _ _ _ c.loop-t.invariant c.loop-t-test.true (sym c.tree_in.ensures ∙ not-true _ c.if-not-tree_in.true-raw) ∙ ap (all (tree_in c.args.trees.now c.args.records.now) 0) c.tree_rows-n.ensures
-
-pub loop-t-preserved : goal.loop-t-preserved
-loop-t-preserved c = passing_on _ _ _ c.loop-t.invariant c.loop-t-test.true (sym c.tree_in.ensures ∙ not-false _ c.if-not-tree_in.false-raw)
-
 pub returns : goal.returns
-returns c = passing_end _ _ _ c.loop-t.invariant c.loop-t-test.false ∙ ap (all (tree_in c.args.trees.now c.args.records.now) 0) c.tree_rows-n.ensures
+returns c =
+    let a = c.args in
+    all_ranged (tree_in a.trees.now a.records.now) 0 c.tree_rows-n.result c.tree_rows-n.result (omega arith) _ _ _ c.all.ensures.ran (λ x y q k. search (rules, tests)) ∙ ap (all (tree_in a.trees.now a.records.now) 0) c.tree_rows-n.ensures

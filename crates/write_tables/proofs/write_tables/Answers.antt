@@ -1,20 +1,17 @@
 -- `write_tables::write_tables`: each way through.
-use Rattle.write_tables.proofs.Ways.{way_outside, way_odd, way_unread, way_room, way_done}
 use mathlib.Core.Path.{sym, ◌∙◌}
 use native.Mathlib.Omega.{arith}
+use Rattle.std.proofs.lemmas.Result.{err_from_is_err_and}
+use Rattle.write_tables.proofs.Ways.{way_refused, way_room, way_done}
 use Rattle.write_tables.proofs.write_tables.Goals as goal
 
+pub returns-in_err-judge : goal.returns-in_err-judge
+returns-in_err-judge c =
+    let p = err_from_is_err_and c.from_residual.result c.from_residual.ensures.1 in
+    rw (p.1, p.2) (way_refused c.args.s.now c.args.questions.now c.args.patterns.now c.args.trees.now c.args.records.now c.args.b.now (sym c.in_err-judge.was ∙ c.judge.ensures))
+
 pub returns-then-b-n : goal.returns-then-b-n
-returns-then-b-n c = way_room c.args.s.now c.args.questions.now c.args.patterns.now c.args.trees.now c.args.records.now c.args.b.now (sym c.in-Fits.is ∙ c.judge.ensures) c.text_len-n.ensures (omega (arith, c.well_formed)) c.if-b-n.true
+returns-then-b-n c = way_room c.args.s.now c.args.questions.now c.args.patterns.now c.args.trees.now c.args.records.now c.args.b.now (sym c.in_ok-judge.was ∙ c.judge.ensures) c.text_len-n.ensures (omega (arith, c.well_formed)) c.if-b-n.true
 
-pub returns-else-b-n : goal.returns-else-b-n
-returns-else-b-n c = way_done c.args.s.now c.args.questions.now c.args.patterns.now c.args.trees.now c.args.records.now c.args.b.now (sym c.in-Fits.is ∙ c.judge.ensures) c.text_len-n.ensures (omega (arith, c.well_formed)) c.if-b-n.false c.put_text-end.ensures
-
-pub returns-in-Outside : goal.returns-in-Outside
-returns-in-Outside c = way_outside c.args.s.now c.args.questions.now c.args.patterns.now c.args.trees.now c.args.records.now c.args.b.now (sym c.in-Outside.is ∙ c.judge.ensures)
-
-pub returns-in-OddByte : goal.returns-in-OddByte
-returns-in-OddByte c = way_odd c.args.s.now c.args.questions.now c.args.patterns.now c.args.trees.now c.args.records.now c.args.b.now (sym c.in-OddByte.is ∙ c.judge.ensures)
-
-pub returns-in-Unread : goal.returns-in-Unread
-returns-in-Unread c = way_unread c.args.s.now c.args.questions.now c.args.patterns.now c.args.trees.now c.args.records.now c.args.b.now (sym c.in-Unread.is ∙ c.judge.ensures)
+pub returns : goal.returns
+returns c = way_done c.args.s.now c.args.questions.now c.args.patterns.now c.args.trees.now c.args.records.now c.args.b.now (sym c.in_ok-judge.was ∙ c.judge.ensures) c.text_len-n.ensures (omega (arith, c.well_formed)) c.if-b-n.false c.put_text-end.ensures

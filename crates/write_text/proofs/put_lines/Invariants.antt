@@ -9,6 +9,3 @@ use Rattle.write_text.proofs.put_lines.Given as goal
 abbrev pub invariant-loop-k : goal.invariant-loop-k
 invariant-loop-k l =
     Leads l.initial.b l.at (flatten (map spelled_line (each (line_of l.s l.questions l.records l.first l.lines) 0 l.lines))) l.b l.i (flatten (map spelled_line (each (line_of l.s l.questions l.records l.first l.lines) l.k (l.lines - l.k))))
-
-abbrev pub decreases-loop-k : goal.decreases-loop-k
-decreases-loop-k l = l.lines - l.k

@@ -7,6 +7,3 @@ use Rattle.write_text.proofs.put_patterns.Given as goal
 
 abbrev pub invariant-loop-k : goal.invariant-loop-k
 invariant-loop-k l = Leads l.initial.b l.at (spelled_patterns (each (pattern_of l.s l.patterns l.first) 0 l.n)) l.b l.i (spelled_patterns (each (pattern_of l.s l.patterns l.first) l.k (l.n - l.k)))
-
-abbrev pub decreases-loop-k : goal.decreases-loop-k
-decreases-loop-k l = l.n - l.k

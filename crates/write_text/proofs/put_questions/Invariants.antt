@@ -10,6 +10,3 @@ use Rattle.write_text.proofs.put_questions.Given as goal
 abbrev pub invariant-loop-q : goal.invariant-loop-q
 invariant-loop-q l =
     Leads l.initial.b l.at (flatten (map spelled_question (each (question_of l.s l.questions l.patterns) 0 (question_rows l.questions)))) l.b l.i (flatten (map spelled_question (each (question_of l.s l.questions l.patterns) l.q (l.n - l.q))))
-
-abbrev pub decreases-loop-q : goal.decreases-loop-q
-decreases-loop-q l = l.n - l.q

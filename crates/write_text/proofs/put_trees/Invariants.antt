@@ -10,6 +10,3 @@ use Rattle.write_text.proofs.put_trees.Given as goal
 abbrev pub invariant-loop-t : goal.invariant-loop-t
 invariant-loop-t l =
     Leads l.initial.b l.at (flatten (map spelled_tree (each (tree_of l.s l.questions l.trees l.records) 0 (tree_rows l.trees)))) l.b l.i (flatten (map spelled_tree (each (tree_of l.s l.questions l.trees l.records) l.t (l.n - l.t))))
-
-abbrev pub decreases-loop-t : goal.decreases-loop-t
-decreases-loop-t l = l.n - l.t

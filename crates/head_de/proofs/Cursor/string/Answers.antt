@@ -9,8 +9,8 @@ use Rattle.head_de.proofs.Cursor.string.Goals as goal
 pub overflow_add-start : goal.overflow_add-start
 overflow_add-start c = omega (arith, read_in _ _ c.byte_at.ensures c.if-byte_at-eq34.true (omega arith))
 
-pub overflow_sub-result : goal.overflow_sub-result
-overflow_sub-result c = rw c.until-closing.ensures (stop_from _ _ _)
+pub overflow_sub-value : goal.overflow_sub-value
+overflow_sub-value c = rw c.until-closing.ensures (stop_from _ _ _)
 
 pub returns-then-end-s : goal.returns-then-end-s
 unfolding text_at
@@ -20,8 +20,8 @@ pub returns-then-byte_at-eq34 : goal.returns-then-byte_at-eq34
 unfolding text_at
 returns-then-byte_at-eq34 c = rw (sym c.byte_at.ensures ∙ c.if-byte_at-eq34.true) (simp (le-ltb _ _ (rw c.until-closing.ensures at c.if-end-s.false)))
 
-pub overflow_sub-result-2 : goal.overflow_sub-result-2
-overflow_sub-result-2 c = rw c.until-next.ensures (stop_from _ _ _)
+pub overflow_sub-value-2 : goal.overflow_sub-value-2
+overflow_sub-value-2 c = rw c.until-next.ensures (stop_from _ _ _)
 
 pub returns : goal.returns
 unfolding text_at
