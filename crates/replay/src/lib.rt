@@ -2,10 +2,11 @@
 //
 #![tactic(auto)]
 
-ghost use Rattle.std.specs.Prelude.{◌≤◌, ◌<◌, ◌++◌, length, take, IfOk, OnOk, OnErr};
+ghost use Rattle.std.specs.Prelude.{◌≤◌, ◌<◌, ◌++◌, length, take, IfOk, OnOk, OnErr, ◌≡◌, suc, cond, drop};
 ghost use Rattle.std.specs.Fmt.{decimal};
 ghost use Rattle.std.specs.Io.KnownBytes.{Appends, Consumes, IsAtEnd};
 ghost use Rattle.replay.specs.Counts.{IsPrefixLen, StandsInFront};
+ghost use Rattle.replay.specs.Lines.{lines};
 
 use std::io;
 use std::io::{Read, Write};
@@ -114,7 +115,8 @@ pub fn decode(s: &[u8], from: usize, text: &mut [u8; 4096]) -> Text
 // The place past the next newline, or the end.
 pub fn past_line(s: &[u8], from: usize) -> usize
     requires { from < length s.now }
-    ensures { (from < result) × (result ≤ length s.now) }
+    ensures within { (from < result) × (result ≤ length s.now) }
+    ensures one_line { lines (drop from s.now) ≡ suc (lines (drop result s.now)) }
 {
     for i in from..s.len() {
         if s[i] == 10 {
@@ -125,7 +127,7 @@ pub fn past_line(s: &[u8], from: usize) -> usize
 }
 
 pub fn wrong(same: bool) -> usize
-    ensures { result ≤ 1 }
+    ensures { result ≡ cond same 0 1 }
 {
     if same { 0 } else { 1 }
 }
@@ -150,11 +152,13 @@ pub struct Tally {
 // Every line of an input.
 pub fn replay<F: Fn(&[u8], usize, &[u8]) -> bool>(said: &F, s: &[u8]) -> Tally
     requires { F.IsAlwaysCallable said.now }
-    ensures { (result.differ ≤ result.cases) × (result.cases ≤ length s.now) }
+    ensures every { result.cases ≡ lines s.now }
+    ensures some { result.differ ≤ result.cases }
 {
     let mut at = 0;
     let mut cases = 0;
     let mut differ = 0;
+    // No `for`: where the next line stands is what the end of this one answers.
     while at < s.len() {
         differ += wrong(replay_line(said, s, at));
         cases += 1;
