@@ -12,38 +12,42 @@ use Rattle.head_de.specs.Values.{text_at, number_at, flag_at, pair_at}
 use Rattle.head_de.specs.Readings.{mapped, of_text, of_plain, of_pair}
 use Rattle.text_parts.specs.declared.Span.{Span}
 use Rattle.head_record.specs.declared.Range.{Range}
+use Rattle.head_de.specs.declared.Cursor.{Cursor}
 use Rattle.head_de.specs.declared.Read.{Read}
-use Rattle.head_deserializer.specs.Scalars.{as_scalar, scalar_at}
+use Rattle.head_deserializer.specs.Scalars.{with_text, with_number, with_flag, with_pair, scalar_at}
 use Rattle.head_deserializer.specs.declared.Asked.{Asked}
 use Rattle.head_deserializer.specs.declared.Asked.TheVariants as asked
 use Rattle.head_deserializer.specs.declared.Scalar.{Scalar}
-use Rattle.head_deserializer.specs.declared.Scalar.TheVariants as scalar
 use Rattle.head_de_values.specs.declared.Value.{Value}
 use Rattle.head_de_values.specs.Values.{kind_asked, read_at, made, value_of, of_scalar, value_in}
 
 -- ---- scalars
 
--- the value that the scalar makes
-abbrev pub scalar_value : Result (Read Scalar) Refusal → Result (Read Value) Refusal
-scalar_value (Ok x) = Ok (record { value = of_scalar x.value; next = x.next })
-scalar_value (Err r) = Err r
+-- the value, where it was read
+abbrev pub value_to : Value → Result Cursor Refusal → Result (Read Value) Refusal
+value_to v (Ok c) = Ok (record { value = v; next = c })
+value_to v (Err r) = Err r
 
-text_value : (x : Result (Read Span) Refusal) → scalar_value (as_scalar scalar.Text x) ≡ value_in (mapped text (of_text x))
+-- the value that the scalar makes
+abbrev pub scalar_value : Scalar → Result (Read Value) Refusal
+scalar_value x = value_to (of_scalar x) x.outcome
+
+text_value : (x : Result (Read Span) Refusal) → scalar_value (with_text x) ≡ value_in (mapped text (of_text x))
 unfolding value_of
 text_value (Ok x) = refl
 text_value (Err r) = refl
 
-number_value : (x : Result (Read ℕ) Refusal) → scalar_value (as_scalar scalar.Number x) ≡ value_in (mapped number (of_plain x))
+number_value : (x : Result (Read ℕ) Refusal) → scalar_value (with_number x) ≡ value_in (mapped number (of_plain x))
 unfolding value_of
 number_value (Ok x) = refl
 number_value (Err r) = refl
 
-flag_value : (x : Result (Read Bool) Refusal) → scalar_value (as_scalar scalar.Flag x) ≡ value_in (mapped flag (of_plain x))
+flag_value : (x : Result (Read Bool) Refusal) → scalar_value (with_flag x) ≡ value_in (mapped flag (of_plain x))
 unfolding value_of
 flag_value (Ok x) = refl
 flag_value (Err r) = refl
 
-pair_value : (x : Result (Read Range) Refusal) → scalar_value (as_scalar scalar.Pair x) ≡ value_in (mapped range (of_pair x))
+pair_value : (x : Result (Read Range) Refusal) → scalar_value (with_pair x) ≡ value_in (mapped range (of_pair x))
 unfolding value_of
 pair_value (Ok x) = refl
 pair_value (Err r) = refl
@@ -55,7 +59,7 @@ scalar_value_lem asked.Number D s i = number_value (number_at s i)
 scalar_value_lem asked.Flag D s i = flag_value (flag_at s i)
 scalar_value_lem asked.Pair D s i = pair_value (pair_at D s i)
 
-pub scalar_stands : {D D' : List ℕ} (a : Asked) (s : List ℕ) (i : ℕ) {x : Result (Read Scalar) Refusal} → D ≡ D' → x ≡ scalar_at a D s i → scalar_value x ≡ value_in (read_at D' s i (kind_asked a))
+pub scalar_stands : {D D' : List ℕ} (a : Asked) (s : List ℕ) (i : ℕ) {x : Scalar} → D ≡ D' → x ≡ scalar_at a D s i → scalar_value x ≡ value_in (read_at D' s i (kind_asked a))
 scalar_stands {D} {D'} a s i d e = ap scalar_value e ∙ (scalar_value_lem a D s i ∙ ap (λ (E : List ℕ). value_in (read_at E s i (kind_asked a))) d)
 
 -- ---- a pair that may be absent

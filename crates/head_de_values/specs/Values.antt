@@ -19,7 +19,6 @@ use Rattle.head_de_lists.specs.declared.Ranges.{Ranges}
 use Rattle.head_deserializer.specs.declared.Asked.{Asked}
 use Rattle.head_deserializer.specs.declared.Asked.TheVariants as asked
 use Rattle.head_deserializer.specs.declared.Scalar.{Scalar}
-use Rattle.head_deserializer.specs.declared.Scalar.TheVariants as scalar
 use Rattle.head_de_values.specs.declared.Kind.{Kind}
 use Rattle.head_de_values.specs.declared.Kind.TheVariants as kind
 use Rattle.head_de_values.specs.declared.Around.{Around}
@@ -85,10 +84,7 @@ value_of (perhaps (some r)) = made 0 true no_span (range_of r) (spans_of []) (ra
 value_of (unread x) = made 0 false (span_of x) no_range (spans_of []) (ranges_of [])
 
 abbrev pub of_scalar : Scalar → Value
-of_scalar (scalar.Text x) = made 0 false x no_range (spans_of []) (ranges_of [])
-of_scalar (scalar.Number n) = made n false no_span no_range (spans_of []) (ranges_of [])
-of_scalar (scalar.Flag b) = made 0 b no_span no_range (spans_of []) (ranges_of [])
-of_scalar (scalar.Pair r) = made 0 false no_span r (spans_of []) (ranges_of [])
+of_scalar x = made x.number x.flag x.span x.range (spans_of []) (ranges_of [])
 
 abbrev pub value_in : Reading says.Value → Result (Read Value) Refusal
 value_in (read v j) = got (value_of v) j

@@ -89,22 +89,13 @@ impl Value {
     fn of_scalar(x: Scalar) -> Value
         ensures { result ≡ of_scalar x }
     {
-        let mut v = Value::blank();
-        match x {
-            Scalar::Text(span) => {
-                v.span = span;
-            }
-            Scalar::Number(number) => {
-                v.number = number;
-            }
-            Scalar::Flag(flag) => {
-                v.flag = flag;
-            }
-            Scalar::Pair(range) => {
-                v.range = range;
-            }
+        Value {
+            number: x.number,
+            flag: x.flag,
+            span: x.span,
+            range: x.range,
+            ..Value::blank()
         }
-        v
     }
 }
 
@@ -112,10 +103,11 @@ impl Value {
 fn read_scalar(c: Cursor, s: &[u8], around: Around, asked: Asked) -> Result<Read<Value>, Refusal>
     ensures { result ≡ value_in (read_at (around_of around) s.now c.at (kind_asked asked)) }
 {
-    let x = scalar_in(s, c, around.outer(), asked)?;
+    let x = scalar_in(s, c, around.outer(), asked);
+    let next = x.outcome?;
     Ok(Read {
-        value: Value::of_scalar(x.value),
-        next: x.next,
+        value: Value::of_scalar(x),
+        next,
     })
 }
 

@@ -3,9 +3,10 @@
 // Whoever reads a section calls `scalar_in`, whose parameters are plain.
 #![tactic(auto)]
 
-ghost use Rattle.std.specs.Prelude.{◌≡◌};
+ghost use Rattle.std.specs.Prelude.{◌≡◌, false};
+ghost use Rattle.head_record.specs.Empty.{no_span, no_range};
 ghost use Rattle.head_de.specs.Values.{cursor, delimiters_of, text_at, number_at, flag_at, delimiter_at, pair_at};
-ghost use Rattle.head_deserializer.specs.Scalars.{holding, scalar_at};
+ghost use Rattle.head_deserializer.specs.Scalars.{holding, scalar_of, with_text, with_number, with_flag, with_pair, scalar_at};
 
 use error::Refusal;
 use head_de::{Cursor, Delimiter, Delimiters, Read};
@@ -28,13 +29,77 @@ pub enum Asked {
     Pair,
 }
 
-// A value that is no list.
+// A value that is no list; the parts that its kind does not have are zero, and so are all where it is refused. One struct, and no enum of kinds or of a value and a
+// refusal: so the value is filled where it stands.
 #[derive(Clone, Copy)]
-pub enum Scalar {
-    Text(Span),
-    Number(u64),
-    Flag(bool),
-    Pair(Range),
+pub struct Scalar {
+    pub outcome: Result<Cursor, Refusal>,
+    pub number: u64,
+    pub flag: bool,
+    pub span: Span,
+    pub range: Range,
+}
+
+impl Scalar {
+    fn none(outcome: Result<Cursor, Refusal>) -> Scalar
+        ensures { result ≡ scalar_of outcome 0 false no_span no_range }
+    {
+        Scalar {
+            outcome,
+            number: 0,
+            flag: false,
+            span: Span { start: 0, len: 0 },
+            range: Range { from: 0, to: 0 },
+        }
+    }
+
+    fn of_text(x: Result<Read<Span>, Refusal>) -> Scalar
+        ensures { result ≡ with_text x }
+    {
+        match x {
+            Ok(x) => Scalar {
+                span: x.value,
+                ..Scalar::none(Ok(x.next))
+            },
+            Err(refusal) => Scalar::none(Err(refusal)),
+        }
+    }
+
+    fn of_number(x: Result<Read<u64>, Refusal>) -> Scalar
+        ensures { result ≡ with_number x }
+    {
+        match x {
+            Ok(x) => Scalar {
+                number: x.value,
+                ..Scalar::none(Ok(x.next))
+            },
+            Err(refusal) => Scalar::none(Err(refusal)),
+        }
+    }
+
+    fn of_flag(x: Result<Read<bool>, Refusal>) -> Scalar
+        ensures { result ≡ with_flag x }
+    {
+        match x {
+            Ok(x) => Scalar {
+                flag: x.value,
+                ..Scalar::none(Ok(x.next))
+            },
+            Err(refusal) => Scalar::none(Err(refusal)),
+        }
+    }
+
+    fn of_pair(x: Result<Read<Range>, Refusal>) -> Scalar
+        ensures { result ≡ with_pair x }
+    {
+        match x {
+            Ok(x) => Scalar {
+                range: x.value,
+                ..Scalar::none(Ok(x.next))
+            },
+            Err(refusal) => Scalar::none(Err(refusal)),
+        }
+    }
 }
 
 impl<'de> Deserializer<'de> {
@@ -92,49 +157,20 @@ impl<'de> Deserializer<'de> {
     }
 
     // By the method for what is asked.
-    pub fn value(self, asked: Asked) -> Result<Read<Scalar>, Refusal>
+    pub fn value(self, asked: Asked) -> Scalar
         ensures { result ≡ scalar_at asked (delimiters_of self.entry.delimiters) self.entry.section.now self.entry.cursor.at }
     {
         match asked {
-            Asked::Text => {
-                let x = self.string()?;
-                Ok(Read {
-                    value: Scalar::Text(x.value),
-                    next: x.next,
-                })
-            }
-            Asked::Number => {
-                let x = self.number()?;
-                Ok(Read {
-                    value: Scalar::Number(x.value),
-                    next: x.next,
-                })
-            }
-            Asked::Flag => {
-                let x = self.flag()?;
-                Ok(Read {
-                    value: Scalar::Flag(x.value),
-                    next: x.next,
-                })
-            }
-            Asked::Pair => {
-                let x = self.pair()?;
-                Ok(Read {
-                    value: Scalar::Pair(x.value),
-                    next: x.next,
-                })
-            }
+            Asked::Text => Scalar::of_text(self.string()),
+            Asked::Number => Scalar::of_number(self.number()),
+            Asked::Flag => Scalar::of_flag(self.flag()),
+            Asked::Pair => Scalar::of_pair(self.pair()),
         }
     }
 }
 
 // The value of a kind that stands at a cursor of a section.
-pub fn scalar_in(
-    section: &[u8],
-    cursor: Cursor,
-    delimiters: Delimiters,
-    asked: Asked,
-) -> Result<Read<Scalar>, Refusal>
+pub fn scalar_in(section: &[u8], cursor: Cursor, delimiters: Delimiters, asked: Asked) -> Scalar
     ensures { result ≡ scalar_at asked (delimiters_of delimiters) section.now cursor.at }
 {
     Deserializer::from_section(section, delimiters)

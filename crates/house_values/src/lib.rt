@@ -33,11 +33,17 @@ fn good_value(variance: bool, v: u64) -> bool
 }
 
 // The means, or the variances, of the entry whose first one stands at `at`.
+#[tactic(auto, using(laws::proofs::Every::passing), unfolding(crate::specs::Values::pairs_good))]
 fn pairs_good(values: &[u64], at: usize, pairs: usize, variance: bool) -> bool
     requires { at + 2 * pairs ≤ length values.now + 1 }
     ensures { result ≡ pairs_good variance values.now at pairs }
 {
-    (0..pairs).all(|k| good_value(variance, values[at + 2 * k]))
+    for k in 0..pairs {
+        if !good_value(variance, values[at + 2 * k]) {
+            return false;
+        }
+    }
+    true
 }
 
 // The means, or the variances, of all entries of a width.

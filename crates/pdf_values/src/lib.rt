@@ -52,7 +52,8 @@ pub fn fill_values(s: &[u8], at: usize, width: usize, entries: u64, values: &mut
     let odd = width % 2 == 1;
     let mut i = at;
     let mut first = 0;
-    for _ in 0..entries {
+    // Counted down: it was measured quicker than counted up (docs/LOOK-BACK.md).
+    for _ in (0..entries).rev() {
         fill_entry(s, i, half, odd, values, first);
         i += 4 * width;
         first += width;
